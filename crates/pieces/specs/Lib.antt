@@ -1,0 +1,6 @@
+pub mod Class
+pub mod Reading
+pub mod Next
+pub mod Answer
+pub mod Commas
+pub mod Sets

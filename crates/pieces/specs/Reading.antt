@@ -1,0 +1,122 @@
+-- Reading back (document 01): a text read into pieces, byte by byte.
+-- An open piece takes the next byte in (`join`), or ends before it, and the byte begins anew (`begin`).
+-- Assumes nothing.
+use mathlib.Core.Bool.{Bool, true, false, cond, _&&_}
+use mathlib.Core.List.{List, [], _∷_}
+use mathlib.Core.Path.{_≡_}
+use Prim.Native.Nat.{ℕ, suc}
+use lib.Dec.{eqb}
+use lib.ListN.{length, drop}
+use Rattle.pieces.specs.declared.bytes.Class.{Class}
+use Rattle.pieces.specs.declared.bytes.Class.the-variants.{Gap, Single, Quote, Word, Operator, Unclassed}
+use Rattle.pieces.specs.Class.{class, digit, isWord, isOperator}
+
+-- What a text reads as: its pieces in order, each from its start to its end (not included), up to the
+-- text's end or to refusal 9 at its index.
+pub data Reading : Type 0 where
+  done : Reading
+  refused : ℕ → Reading
+  piece : ℕ → ℕ → Reading → Reading
+
+-- How an open piece goes on.
+--     closed      a single, or a quote that has been closed: it takes nothing more
+--     word        a run of word bytes
+--     number      a run of word bytes begun with a digit
+--     operator    a run of operator bytes
+--     quoted q    in a quote opened by the byte q
+--     escaped q   in it, behind a backslash
+pub data Kind : Type 0 where
+  closed word number operator : Kind
+  quoted escaped : ℕ → Kind
+
+-- between pieces, or inside one
+pub data Mode : Type 0 where
+  between : Mode
+  inside : Kind → Mode
+
+-- what a byte does to an open piece: the piece ends before it, or takes it and goes on as a kind
+pub data Joined : Type 0 where
+  ends : Joined
+  takes : Kind → Joined
+
+-- what a byte begins that no piece takes: nothing (it has no class), a gap, or a piece of a kind
+pub data Begun : Type 0 where
+  nothing blank : Begun
+  opens : Kind → Begun
+
+abbrev pub keep : Bool → Kind → Joined
+keep true k = takes k
+keep false k = ends
+
+-- A run begun with a digit, which goes on as k: word bytes, and a `.` that a digit follows.
+abbrev pub digits : Kind → Class → ℕ → ℕ → Joined
+digits k Gap b behind = ends
+digits k Single b behind = ends
+digits k Quote b behind = ends
+digits k Word b behind = takes k
+digits k Operator b behind = keep (eqb b 46 && digit behind) k
+digits k Unclassed b behind = ends
+
+-- A quote runs to the next equal quote; a backslash takes the byte behind it along.
+abbrev pub inQuote : ℕ → ℕ → Kind
+inQuote q b = cond (eqb b q) closed (cond (eqb b 92) (escaped q) (quoted q))
+
+-- The byte b, with the byte behind it (0 at the text's end), at an open piece.
+abbrev pub join : Mode → ℕ → ℕ → Joined
+join between b behind = ends
+join (inside closed) b behind = ends
+join (inside word) b behind = keep (isWord (class b)) word
+join (inside number) b behind = digits number (class b) b behind
+join (inside operator) b behind = keep (isOperator (class b)) operator
+join (inside (quoted q)) b behind = takes (inQuote q b)
+join (inside (escaped q)) b behind = takes (quoted q)
+
+-- The byte b, of the class given, where no piece takes it.
+abbrev pub begin : Class → ℕ → Begun
+begin Gap b = blank
+begin Single b = opens closed
+begin Quote b = opens (quoted b)
+begin Word b = opens (cond (digit b) number word)
+begin Operator b = opens operator
+begin Unclassed b = nothing
+
+-- What is open from s ends at i: a piece, or a quote that is never closed; r is read from i on.
+abbrev pub flush : Mode → ℕ → ℕ → Reading → Reading
+flush between s i r = r
+flush (inside closed) s i r = piece s i r
+flush (inside word) s i r = piece s i r
+flush (inside number) s i r = piece s i r
+flush (inside operator) s i r = piece s i r
+flush (inside (quoted q)) s i r = refused s
+flush (inside (escaped q)) s i r = refused s
+
+abbrev pub peek : List ℕ → ℕ
+peek [] = 0
+peek (b ∷ t) = b
+
+abbrev pub afterJoin : Joined → (Kind → Reading) → Reading → Reading
+afterJoin ends more over = over
+afterJoin (takes k) more over = more k
+
+abbrev pub afterBegin : Begun → ℕ → (Mode → Reading) → Reading
+afterBegin nothing i more = refused i
+afterBegin blank i more = more between
+afterBegin (opens k) i more = more (inside k)
+
+-- The text's bytes from index i on, in the mode m, where what is open began at s.
+unfoldable pub read : List ℕ → Mode → ℕ → ℕ → Reading
+read [] m s i = flush m s i done
+read (b ∷ t) m s i =
+    afterJoin (join m b (peek t)) (λ k. read t (inside k) s (suc i))
+    (flush m s i (afterBegin (begin (class b) b) i (λ n. read t n i (suc i))))
+
+abbrev pub reading : List ℕ → Reading
+reading text = read text between 0 0
+
+-- The reading from an index on, where a piece may begin.
+abbrev pub readFrom : List ℕ → ℕ → Reading
+readFrom text i = read (drop i text) between i i
+
+-- The lexeme w reads as one piece that is the whole of it.
+abbrev pub ReadsWhole : List ℕ → Type 0
+ReadsWhole w = reading w ≡ piece 0 (length w) done

@@ -1,0 +1,18 @@
+-- Sets of bytes, and runs of bytes in a set: what the code's loops count.
+-- Assumes nothing.
+use mathlib.Core.Bool.{Bool, true, false, cond}
+use mathlib.Core.List.{List, [], _∷_}
+use Prim.Native.Nat.{ℕ, zero, suc, _-_, _/_, _%_, _^_}
+use lib.Dec.{eqb, ltb}
+
+abbrev pub bit : ℕ → ℕ → Bool
+bit n k = eqb (n / 2 ^ k % 2) 1
+
+-- A set of bytes: the bits of low for 0–63, those of high for 64–127, and all or none of 128–255.
+abbrev pub member : ℕ → ℕ → Bool → ℕ → Bool
+member low high upper b = cond (ltb b 64) (bit low b) (cond (ltb b 128) (bit high (b - 64)) upper)
+
+-- how many bytes of the set stand first
+abbrev pub runLength : (ℕ → Bool) → List ℕ → ℕ
+runLength f [] = zero
+runLength f (b ∷ t) = cond (f b) (suc (runLength f t)) zero

@@ -1,0 +1,1 @@
+// Where an open piece ends.

@@ -1,0 +1,34 @@
+-- Document 01's table of refusals, and what a call answers in its terms.
+-- Assumes nothing.
+use mathlib.Core.Bool.{Bool}
+use mathlib.Core.List.{List}
+use Prim.Native.Nat.{ℕ}
+use lib.Dec.{eqb}
+use lib.ListN.{length, replicate}
+
+-- The refusals' numbers, under the table's names.
+abbrev pub unreadable : ℕ
+unreadable = 9
+
+abbrev pub piecesFull : ℕ
+piecesFull = 10
+
+-- The refusal, or 0, and the report's three numbers: on a refusal its place, 0 and 0.
+pub record Report : Type 0 where
+  pub refusal : ℕ
+  pub first : ℕ
+  pub second : ℕ
+  pub third : ℕ
+
+abbrev pub success : ℕ → ℕ → ℕ → Report
+success a b c = record { refusal = 0; first = a; second = b; third = c }
+
+abbrev pub refuse : ℕ → ℕ → Report
+refuse number place = record { refusal = number; first = place; second = 0; third = 0 }
+
+abbrev pub accepted : Report → Bool
+accepted r = eqb (r .refusal) 0
+
+-- A lent slice after a refusal that changes it: every place is 0.
+abbrev pub zeroed : List ℕ → List ℕ
+zeroed xs = replicate (length xs) 0
