@@ -4,7 +4,7 @@ use mathlib.Core.Bool.{Bool, true, false, cond, _&&_}
 use mathlib.Core.List.{List, [], _∷_, _++_}
 use Prim.Native.Nat.{ℕ, zero, suc, _+_, _*_}
 use lib.Dec.{leb}
-use lib.ListN.{length, drop}
+use lib.ListN.{length, drop, set}
 use lib.Seq.{slice}
 use Rattle.report.specs.Report.{Report, success, refuse, accepted, zeroed, unreadable, piecesFull}
 use Rattle.pieces.specs.declared.Answer.{Answer}
@@ -32,6 +32,10 @@ unfoldable pub numbers : Reading → List ℕ
 numbers done = []
 numbers (refused i) = []
 numbers (piece s e r) = s ∷ e ∷ numbers r
+
+-- the piece from s to e behind n others
+abbrev pub put : List ℕ → ℕ → ℕ → ℕ → List ℕ
+put xs n s e = set (set xs (2 * n) s) (2 * n + 1) e
 
 -- xs with the numbers ns put first
 abbrev pub putFirst : List ℕ → List ℕ → List ℕ

@@ -4,3 +4,4 @@ pub mod Next
 pub mod Answer
 pub mod Commas
 pub mod Sets
+pub mod Ends

@@ -44,9 +44,13 @@ pub fn is_digit(b: u8) -> bool
 
 // A set of bytes is three values: the bits of 0–63, those of 64–127, and whether it has 128–255.
 pub const GAP_LOW: u64 = 0x1_0000_0400;
+
 pub const WORD_LOW: u64 = 0x03ff_0000_0000_0000;
+
 pub const WORD_HIGH: u64 = 0x07ff_fffe_87ff_fffe;
+
 pub const OPERATOR_LOW: u64 = 0x7400_ec7a_0000_0000;
+
 pub const OPERATOR_HIGH: u64 = 0x5000_0001_5000_0001;
 
 pub fn member(low: u64, high: u64, upper: bool, b: u8) -> bool

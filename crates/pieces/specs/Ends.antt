@@ -1,0 +1,26 @@
+-- Where an open piece ends: what the scanning functions promise to `next_piece`.
+-- Assumes nothing.
+use mathlib.Core.Bool.{Bool, true, false}
+use mathlib.Core.Path.{_≡_}
+use mathlib.Core.List.{List}
+use Prim.Native.Nat.{ℕ, _+_}
+use lib.ListN.{drop, getD}
+use Rattle.pieces.specs.declared.runs.QuoteEnd.{QuoteEnd}
+use Rattle.pieces.specs.declared.runs.QuoteEnd.the-variants.{At, Never}
+use Rattle.pieces.specs.Reading.{Kind, quoted, inside, Joined, ends, takes, join, piece, refused, read, readFrom}
+
+-- A piece of the kind k that is open at an index ends at e, wherever it began.
+pub record EndsAt (text : List ℕ) (k : Kind) (from e : ℕ) : Type 0 where
+  pub reads : (s : ℕ) → read (drop from text) (inside k) s from ≡ piece s e (readFrom text e)
+
+abbrev pub QuoteEnds : List ℕ → ℕ → ℕ → QuoteEnd → Type 0
+QuoteEnds text q from (At e) = EndsAt text (quoted q) from e
+QuoteEnds text q from Never = (s : ℕ) → read (drop from text) (inside (quoted q)) s from ≡ refused s
+
+abbrev pub taken : Joined → Bool
+taken ends = false
+taken (takes k) = true
+
+-- what the byte at an index does to an open piece
+abbrev pub joinAt : List ℕ → Kind → ℕ → Joined
+joinAt text k i = join (inside k) (getD text i 0) (getD text (i + 1) 0)
