@@ -5,4 +5,8 @@ pub mod Number
 pub mod Quote
 pub mod Resume
 pub mod Scan
+pub mod Segments
 pub mod Sets
+pub mod Striking
+pub mod Whole
+pub mod Written

@@ -54,6 +54,10 @@ rest-between (b ∷ t) s i {s′} {e} {r} h = go (begin (class b) b) refl (λ q.
     go blank q more = let m = more (rw q at h) in (omega (arith, m .0), m .1, further (m .2))
     go (opens k) q more = let m = rest-inside t k i (suc i) (rw q at h) in (omega (arith, m .0), omega (arith, m .0, m .1 .index), further (m .1))
 
+-- a piece that is open began at s; one that is yet to begin begins no sooner than i
+pub starts-after : (t : List ℕ) (s i : ℕ) {s′ e : ℕ} {r : Reading} → read t between s i ≡ piece s′ e r → i ≤ s′
+starts-after t s i h = rest-between t s i h .0
+
 -- the first piece of the text from an index on, and the reading behind it
 pub record First (text : List ℕ) (at s e : ℕ) : Type 0 where
   pub reads : readFrom text at ≡ piece s e (readFrom text e)
