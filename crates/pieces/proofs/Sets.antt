@@ -1,5 +1,5 @@
 -- The sets of bytes in the code are document 01's classes: each by one test, computed at every byte. Assumes nothing.
-use mathlib.Core.Bool.{true, false}
+use mathlib.Core.Bool.{Bool, true, false}
 use mathlib.Core.Path.{_≡_, refl}
 use Prim.Native.Nat.{ℕ, _<_}
 use Rattle.report.proofs.Below.{agree-below}
@@ -8,26 +8,42 @@ use Rattle.pieces.specs.declared.bytes.Class.the-variants.{Gap, Single, 
 use Rattle.pieces.specs.Class.{class, isGap, isSingle, isQuote, isWord, isOperator}
 use Rattle.pieces.specs.Sets.{member}
 
+-- the sets, as the code has them
+abbrev pub gapSet : ℕ → Bool
+gapSet = member 0x1_0000_0400 0 false
+
+abbrev pub singleSet : ℕ → Bool
+singleSet = member 0x8800_1300_0000_0000 0x2800_0000_2800_0000 false
+
+abbrev pub quoteSet : ℕ → Bool
+quoteSet = member 0x84_0000_0000 0 false
+
+abbrev pub wordSet : ℕ → Bool
+wordSet = member 0x03ff_0000_0000_0000 0x07ff_fffe_87ff_fffe true
+
+abbrev pub operatorSet : ℕ → Bool
+operatorSet = member 0x7400_ec7a_0000_0000 0x5000_0001_5000_0001 false
+
 module _ (b : ℕ) (byte : b < 256) where
-  pub gaps : member 0x1_0000_0400 0 false b ≡ isGap (class b)
+  pub gaps : gapSet b ≡ isGap (class b)
   unfolding class
-  gaps = agree-below 256 (λ b. member 0x1_0000_0400 0 false b) (λ b. isGap (class b)) refl b byte
+  gaps = agree-below 256 gapSet (λ b. isGap (class b)) refl b byte
 
-  pub singles : member 0x8800_1300_0000_0000 0x2800_0000_2800_0000 false b ≡ isSingle (class b)
+  pub singles : singleSet b ≡ isSingle (class b)
   unfolding class
-  singles = agree-below 256 (λ b. member 0x8800_1300_0000_0000 0x2800_0000_2800_0000 false b) (λ b. isSingle (class b)) refl b byte
+  singles = agree-below 256 singleSet (λ b. isSingle (class b)) refl b byte
 
-  pub quotes : member 0x84_0000_0000 0 false b ≡ isQuote (class b)
+  pub quotes : quoteSet b ≡ isQuote (class b)
   unfolding class
-  quotes = agree-below 256 (λ b. member 0x84_0000_0000 0 false b) (λ b. isQuote (class b)) refl b byte
+  quotes = agree-below 256 quoteSet (λ b. isQuote (class b)) refl b byte
 
-  pub words : member 0x03ff_0000_0000_0000 0x07ff_fffe_87ff_fffe true b ≡ isWord (class b)
+  pub words : wordSet b ≡ isWord (class b)
   unfolding class
-  words = agree-below 256 (λ b. member 0x03ff_0000_0000_0000 0x07ff_fffe_87ff_fffe true b) (λ b. isWord (class b)) refl b byte
+  words = agree-below 256 wordSet (λ b. isWord (class b)) refl b byte
 
-  pub operators : member 0x7400_ec7a_0000_0000 0x5000_0001_5000_0001 false b ≡ isOperator (class b)
+  pub operators : operatorSet b ≡ isOperator (class b)
   unfolding class
-  operators = agree-below 256 (λ b. member 0x7400_ec7a_0000_0000 0x5000_0001_5000_0001 false b) (λ b. isOperator (class b)) refl b byte
+  operators = agree-below 256 operatorSet (λ b. isOperator (class b)) refl b byte
 
 -- ---- a class by its test
 

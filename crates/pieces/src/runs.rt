@@ -87,7 +87,7 @@ fn number_takes(text: &[u8], i: usize) -> bool
     if behind < text.len() {
         return bytes::is_digit(text[behind]);
     }
-    false
+    false // the text ends behind the dot
 }
 
 // Behind the run of bytes of a set that starts at `from`.

@@ -8,7 +8,7 @@ pub fn clear_bytes(a: &mut [u8])
     ensures { λ r. ⌜ now (a .exit) ≡ zeroed (now (a .entry)) ⌝ }
 {
     for i in 0..a.len() {
-        a[i] = 0;
+        a[i] = 0; // a byte
     }
 }
 
@@ -17,6 +17,6 @@ pub fn clear_numbers(a: &mut [u32])
     ensures { λ r. ⌜ now (a .exit) ≡ zeroed (now (a .entry)) ⌝ }
 {
     for i in 0..a.len() {
-        a[i] = 0;
+        a[i] = 0; // a number
     }
 }

@@ -1,25 +1,18 @@
-use Rattle.pieces.proofs.Begin.{begins-behind, next-behind, next-end}
+-- `pieces::next_piece` meets its contract. Assumes nothing.
 use borrow.Author.Needs.{needs}
+use Rattle.pieces.proofs.Begin.{begins-behind, next-behind, next-end}
 use Rattle.pieces.proofs.next_piece.Statement.{statement}
 use Rattle.pieces.proofs.next_piece.Tie as tie
-use Rattle.pieces.proofs.next_piece.Reads as reads
-use Rattle.pieces.proofs.next_piece.Lts as lts
-use Rattle.pieces.proofs.piece_at.Reads as piece-at-reads
-use Rattle.pieces.proofs.runs.gap_end.Reads as gap-end-reads
 
--- src/lib.rt:63:9
 gap-end-requires : tie.Need-gap-end-requires
 gap-end-requires c κs = search needs
 
--- src/lib.rt:65:9
 piece-at-requires : tie.Need-piece-at-requires
 piece-at-requires c κs = begins-behind (c .before .before .before .args .text .now) (c .before .before .before .args .at) (c .before .gap-end .ensures) (search needs)
 
--- src/lib.rt:65:9
 returns : tie.Need-returns
 returns c = next-behind (c .before .before .before .before .args .text .now) (c .before .before .before .before .args .at) (c .before .before .gap-end .ensures) (c .piece-at .ensures)
 
--- src/lib.rt:60:1
 returns-2 : tie.Need-returns-2
 returns-2 c = next-end (c .before .before .before .args .text .now) (c .before .before .before .args .at) (c .before .gap-end .ensures) (search needs)
 

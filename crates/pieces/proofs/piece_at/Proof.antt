@@ -1,89 +1,64 @@
-use Rattle.pieces.proofs.Begin.{begin-gap, begin-single, begin-run, begin-quote, begin-none}
+-- `pieces::piece_at` meets its contract. Assumes nothing.
 use mathlib.Core.Path.{sym, _∙_}
 use borrow.Author.Needs.{needs}
+use Rattle.pieces.proofs.Begin.{begin-gap, begin-single, begin-run, begin-quote, begin-none}
 use Rattle.pieces.proofs.piece_at.Statement.{statement}
 use Rattle.pieces.proofs.piece_at.Tie as tie
-use Rattle.pieces.proofs.piece_at.Reads as reads
-use Rattle.pieces.proofs.piece_at.Lts as lts
-use Rattle.pieces.proofs.bytes.class_of.Reads as class-of-reads
-use Rattle.pieces.proofs.quoted.Reads as quoted-reads
-use Rattle.pieces.proofs.runs.operator_end.Reads as operator-end-reads
-use Rattle.pieces.proofs.runs.quote_end.Reads as quote-end-reads
-use Rattle.pieces.proofs.runs.word_end.Reads as word-end-reads
 
--- src/lib.rt:75:13
 shared-slice-read-b : tie.Need-shared-slice-read-b
 shared-slice-read-b c = search needs
 
--- src/lib.rt:76:18
 add-behind : tie.Need-add-behind
 add-behind c = search needs
 
--- src/lib.rt:77:9
 class-of-requires : tie.Need-class-of-requires
 class-of-requires c κs = search needs
 
--- src/lib.rt:79:30
 enum-told : tie.Need-enum-told
 enum-told c = search needs
 
--- src/lib.rt:80:33
 enum-told-2 : tie.Need-enum-told-2
 enum-told-2 c = search needs
 
--- src/lib.rt:81:46
 enum-told-3 : tie.Need-enum-told-3
 enum-told-3 c = search needs
 
--- src/lib.rt:81:46
 quote-end-requires : tie.Need-quote-end-requires
 quote-end-requires c κs = search needs
 
--- src/lib.rt:81:32
 quoted-requires : tie.Need-quoted-requires
 quoted-requires c κs = search needs
 
--- src/lib.rt:82:50
 enum-told-4 : tie.Need-enum-told-4
 enum-told-4 c = search needs
 
--- src/lib.rt:82:50
 word-end-requires : tie.Need-word-end-requires
 word-end-requires c κs = search needs
 
--- src/lib.rt:83:54
 enum-told-5 : tie.Need-enum-told-5
 enum-told-5 c = search needs
 
--- src/lib.rt:83:54
 operator-end-requires : tie.Need-operator-end-requires
 operator-end-requires c κs = search needs
 
--- src/lib.rt:84:36
 enum-told-6 : tie.Need-enum-told-6
 enum-told-6 c = search needs
 
--- src/lib.rt:71:1
 returns : tie.Need-returns
 returns c = begin-gap (c .before .before .before .before .before .args .text .now) (c .before .before .before .before .before .args .start) (c .before .before .before .before .before .pre) (sym (c .before .before .class-of .ensures) ∙ c .enum-told .given .1)
 
--- src/lib.rt:71:1
 returns-2 : tie.Need-returns-2
 returns-2 c = begin-single (c .before .before .before .before .before .args .text .now) (c .before .before .before .before .before .args .start) (c .before .before .before .before .before .pre) (sym (c .before .before .class-of .ensures) ∙ c .enum-told2 .given .1)
 
--- src/lib.rt:71:1
 returns-3 : tie.Need-returns-3
 returns-3 c = c .quoted .ensures ∙ begin-quote (c .before .before .before .before .before .before .before .args .text .now) (c .before .before .before .before .before .before .before .args .start) (c .before .before .before .before .before .before .before .pre) (c .before .quote-end .result) (sym (c .before .before .before .before .class-of .ensures) ∙ c .before .before .enum-told3 .given .1) (c .before .quote-end .ensures)
 
--- src/lib.rt:71:1
 returns-4 : tie.Need-returns-4
 returns-4 c = begin-run (c .before .before .before .before .before .before .args .text .now) (c .before .before .before .before .before .before .args .start) (c .before .before .before .before .before .before .pre) (rw (sym (c .before .before .before .class-of .ensures) ∙ c .before .enum-told4 .given .1)) (c .word-end .ensures)
 
--- src/lib.rt:71:1
 returns-5 : tie.Need-returns-5
 returns-5 c = begin-run (c .before .before .before .before .before .before .args .text .now) (c .before .before .before .before .before .before .args .start) (c .before .before .before .before .before .before .pre) (rw (sym (c .before .before .before .class-of .ensures) ∙ c .before .enum-told5 .given .1)) (c .operator-end .ensures)
 
--- src/lib.rt:71:1
 returns-6 : tie.Need-returns-6
 returns-6 c = begin-none (c .before .before .before .before .before .args .text .now) (c .before .before .before .before .before .args .start) (c .before .before .before .before .before .pre) (sym (c .before .before .class-of .ensures) ∙ c .enum-told6 .given .1)
 

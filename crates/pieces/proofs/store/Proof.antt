@@ -1,65 +1,50 @@
-use borrow.Author.Tests.{lt-leb, le-leb}
-use lib.ListN.{length}
-use Prim.Native.Nat.{_*_, _+_}
+-- `pieces::store` meets its contract. Assumes nothing.
 use mathlib.Core.Bool.{and-false}
-use mathlib.Core.Path.{refl, sym, _∙_}
-use lib.ListN.{length-set}
+use mathlib.Core.Path.{refl}
+use Prim.Native.Nat.{_*_, _+_}
 use native.Mathlib.Omega.{arith}
+use lib.ListN.{length, length-set}
 use borrow.Author.Needs.{needs}
+use borrow.Author.Tests.{lt-leb, le-leb}
 use Rattle.pieces.proofs.store.Statement.{statement}
 use Rattle.pieces.proofs.store.Tie as tie
-use Rattle.pieces.proofs.store.Reads as reads
-use Rattle.pieces.proofs.store.Lts as lts
 
--- src/lib.rt:104:9
 returns : tie.Need-returns
 returns c = (rw (lt-leb (c .before .args .end) 4294967295 (c .if1 .taken)) (simp and-false), refl)
 
--- src/lib.rt:106:14
 mul-at : tie.Need-mul-at
 mul-at c = search needs
 
--- src/lib.rt:107:8
 sub-if2 : tie.Need-sub-if2
 sub-if2 c = search needs
 
--- src/lib.rt:108:9
 returns-2 : tie.Need-returns-2
 returns-2 c = (rw (lt-leb (2 * c .before .before .args .n + 2) (length (c .before .before .args .pieces .now)) (omega arith)), refl)
 
--- src/lib.rt:110:18
 cast-pieces : tie.Need-cast-pieces
 cast-pieces c = search needs
 
--- src/lib.rt:110:5
 mul-pieces : tie.Need-mul-pieces
 mul-pieces c = search needs
 
--- src/lib.rt:110:5
 slice-write-pieces : tie.Need-slice-write-pieces
 slice-write-pieces c = search needs
 
--- src/lib.rt:111:22
 cast-pieces-2 : tie.Need-cast-pieces-2
 cast-pieces-2 c = search needs
 
--- src/lib.rt:111:12
 add-pieces : tie.Need-add-pieces
 add-pieces c = search needs
 
--- src/lib.rt:111:5
 mul-pieces-2 : tie.Need-mul-pieces-2
 mul-pieces-2 c = search needs
 
--- src/lib.rt:111:5
 slice-write-pieces-2 : tie.Need-slice-write-pieces-2
 slice-write-pieces-2 c = simp length-set (omega arith)
 
--- src/lib.rt:98:1
 same-length : tie.Need-same-length
 same-length c = search needs
 
--- src/lib.rt:98:1
 returns-3 : tie.Need-returns-3
 returns-3 c = (rw (le-leb (2 * c .before .before .args .n + 2) (length (c .before .before .args .pieces .now)) (omega arith), le-leb (c .before .before .args .end) 4294967295 (omega arith)), refl)
 

@@ -1,6 +1,6 @@
 -- `report::clear_bytes` meets its contract. Assumes nothing.
-use Prim.Native.Nat.{_-_}
 use mathlib.Core.Path.{_≡_}
+use Prim.Native.Nat.{_-_}
 use lib.ListN.{length}
 use borrow.Author.Needs.{needs}
 use Rattle.report.proofs.Clear.{Cleared, cleared-none, cleared-more, cleared-all}

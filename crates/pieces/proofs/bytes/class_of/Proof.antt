@@ -1,57 +1,40 @@
+-- `pieces::bytes::class_of` meets its contract. Assumes nothing.
 use mathlib.Core.Path.{sym, _∙_}
-use Rattle.pieces.proofs.Sets.{gap-of, single-of, quote-of, word-of, operator-of, unclassed-of}
 use borrow.Author.Needs.{needs}
+use Rattle.pieces.proofs.Sets.{gap-of, single-of, quote-of, word-of, operator-of, unclassed-of}
 use Rattle.pieces.proofs.bytes.class_of.Statement.{statement}
 use Rattle.pieces.proofs.bytes.class_of.Tie as tie
-use Rattle.pieces.proofs.bytes.class_of.Reads as reads
-use Rattle.pieces.proofs.bytes.class_of.Lts as lts
-use Rattle.pieces.proofs.bytes.is_gap.Reads as is-gap-reads
-use Rattle.pieces.proofs.bytes.is_operator.Reads as is-operator-reads
-use Rattle.pieces.proofs.bytes.is_quote.Reads as is-quote-reads
-use Rattle.pieces.proofs.bytes.is_single.Reads as is-single-reads
-use Rattle.pieces.proofs.bytes.is_word.Reads as is-word-reads
 
--- src/bytes.rt:18:8
 is-word-requires : tie.Need-is-word-requires
 is-word-requires c κs = search needs
 
--- src/bytes.rt:19:9
 returns : tie.Need-returns
 returns c = sym (word-of _ (sym (c .before .is-word .ensures) ∙ c .if1 .taken))
 
--- src/bytes.rt:21:8
 is-operator-requires : tie.Need-is-operator-requires
 is-operator-requires c κs = search needs
 
--- src/bytes.rt:22:9
 returns-2 : tie.Need-returns-2
 returns-2 c = sym (operator-of _ (sym (c .before .is-operator .ensures) ∙ c .if2 .taken))
 
--- src/bytes.rt:24:8
 is-single-requires : tie.Need-is-single-requires
 is-single-requires c κs = search needs
 
--- src/bytes.rt:25:9
 returns-3 : tie.Need-returns-3
 returns-3 c = sym (single-of _ (sym (c .before .is-single .ensures) ∙ c .if3 .taken))
 
--- src/bytes.rt:27:8
 is-gap-requires : tie.Need-is-gap-requires
 is-gap-requires c κs = search needs
 
--- src/bytes.rt:28:9
 returns-4 : tie.Need-returns-4
 returns-4 c = sym (gap-of _ (sym (c .before .is-gap .ensures) ∙ c .if4 .taken))
 
--- src/bytes.rt:30:8
 is-quote-requires : tie.Need-is-quote-requires
 is-quote-requires c κs = search needs
 
--- src/bytes.rt:31:9
 returns-5 : tie.Need-returns-5
 returns-5 c = sym (quote-of _ (sym (c .before .is-quote .ensures) ∙ c .if5 .taken))
 
--- src/bytes.rt:15:1
 returns-6 : tie.Need-returns-6
 returns-6 c =
     let w = c .before .before .before .before .before .before .before .before in

@@ -1,3 +1,4 @@
+-- `pieces::bytes::is_digit` meets its contract. Assumes nothing.
 use borrow.Author.Tests.{le-leb, lt-leb}
 use Rattle.pieces.proofs.bytes.is_digit.Statement.{statement}
 use Rattle.pieces.proofs.bytes.is_digit.Tie as tie

@@ -1,3 +1,4 @@
+-- `pieces::bytes::is_gap` meets its contract. Assumes nothing.
 use mathlib.Core.Path.{_∙_}
 use borrow.Author.Needs.{needs}
 use Rattle.pieces.proofs.Sets.{gaps}

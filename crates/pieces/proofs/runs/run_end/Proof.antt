@@ -1,15 +1,13 @@
-use borrow.Author.Tests.{not-true, not-false}
+-- `pieces::runs::run_end` meets its contract. Assumes nothing.
 use mathlib.Core.Path.{_≡_, refl, sym, _∙_}
 use Prim.Native.Nat.{_+_, _-_}
 use lib.ListN.{length, drop}
+use borrow.Author.Needs.{needs}
+use borrow.Author.Tests.{not-true, not-false}
 use Rattle.pieces.specs.Sets.{member, runLength}
 use Rattle.pieces.proofs.Scan.{run-more, run-stop, run-out}
-use borrow.Author.Needs.{needs}
 use Rattle.pieces.proofs.runs.run_end.Statement.{statement}
 use Rattle.pieces.proofs.runs.run_end.Tie as tie
-use Rattle.pieces.proofs.runs.run_end.Reads as reads
-use Rattle.pieces.proofs.runs.run_end.Lts as lts
-use Rattle.pieces.proofs.bytes.member.Reads as member-reads
 
 abbrev Inv-loop : tie.InvT-loop
 Inv-loop text from low high upper i₀ i = from + runLength (member low high upper) (drop from text) ≡ i + runLength (member low high upper) (drop i text)
@@ -17,35 +15,27 @@ Inv-loop text from low high upper i₀ i = from + runLength (member low high upp
 abbrev μ-loop : tie.MeasureT-loop
 μ-loop text from low high upper i₀ i = length text - i
 
--- src/runs.rt:99:5
 loop-holds : tie.Need-loop-holds Inv-loop μ-loop
 loop-holds c = refl
 
--- src/runs.rt:100:45
 shared-slice-read-member : tie.Need-shared-slice-read-member Inv-loop μ-loop
 shared-slice-read-member c = search needs
 
--- src/runs.rt:100:13
 member-requires : tie.Need-member-requires Inv-loop μ-loop
 member-requires c κs = search needs
 
--- src/runs.rt:101:13
 returns : tie.Need-returns Inv-loop μ-loop
 returns c = run-stop _ _ _ (search needs) (sym (c .before .member .ensures) ∙ not-true _ (c .if1 .taken)) ∙ sym (c .before .before .before .before .loop .inv)
 
--- src/runs.rt:103:9
 add-i : tie.Need-add-i Inv-loop μ-loop
 add-i c = search needs
 
--- src/runs.rt:99:5
 loop-less : tie.Need-loop-less Inv-loop μ-loop
 loop-less c = search needs
 
--- src/runs.rt:99:5
 loop-again : tie.Need-loop-again Inv-loop μ-loop
 loop-again c = c .before .before .before .before .loop .inv ∙ sym (run-more _ _ _ (search needs) (sym (c .before .member .ensures) ∙ not-false _ (c .if1 .left)))
 
--- src/runs.rt:95:1
 returns-2 : tie.Need-returns-2 Inv-loop μ-loop
 returns-2 c = run-out _ _ _ (search needs) ∙ sym (c .before .loop .inv)
 
