@@ -1,0 +1,5 @@
+pub mod Kinds
+pub mod Row
+pub mod Options
+pub mod Token
+pub mod Checks
