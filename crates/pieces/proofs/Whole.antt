@@ -6,12 +6,13 @@ use Prim.Native.Nat.{ℕ, suc, _+_, _≤_, _<_}
 use native.Mathlib.Omega.{arith}
 use lib.Dec.{eqb}
 use lib.ListN.{length}
-use Rattle.report.proofs.Logic.{impossible, impossible′}
+use Rattle.report.proofs.Logic.{split}
 use Rattle.pieces.specs.declared.bytes.Class.{Class}
 use Rattle.pieces.specs.declared.bytes.Class.the-variants.{Gap, Single, Quote, Word, Operator, Unclassed}
 use Rattle.pieces.specs.Class.{class, digit, isWord, isOperator}
 use Rattle.pieces.specs.Reading.{Reading, done, refused, piece, Kind, closed, word, number, operator, quoted, escaped, Mode, between, inside, Joined, ends, takes, Begun, nothing, blank, opens}
 use Rattle.pieces.specs.Reading.{keep, digits, inQuote, join, begin, flush, peek, read, reading, ReadsWhole}
+use Rattle.pieces.proofs.Sets.{operator-of}
 use Rattle.pieces.proofs.Resume.{flushed, starts-after}
 
 -- ---- what a text leaves open at its end
@@ -258,3 +259,23 @@ reads-before w r e a s i = let λ′ = lexeme w e in λ′ .reads r s i ∙ go r
     go : (r : List ℕ) {k : Kind} → Apart (leftBy w) r → Rests (inside k) (leftBy w) → (s i : ℕ) → read r (inside k) s i ≡ piece s i (read r between i i)
     go [] a ρ s i = solid-of ρ s i done
     go (b ∷ r) {k} a ρ s i = parts (inside k) b r s i (rw append-nil at (rests-apart ρ b r [] a)) ∙ solid-of ρ s i _
+
+-- ---- a piece begun with an operator byte has no other bytes
+
+abbrev pub Operators : List ℕ → Type 0
+Operators [] = Unit {0}
+Operators (b ∷ t) = (isOperator (class b) ≡ true) × Operators t
+
+operator-run : (t : List ℕ) (s i : ℕ) → read t (inside operator) s i ≡ piece s (past i t) done → Operators t
+unfolding read
+operator-run [] s i e = tt
+operator-run (b ∷ t) s i e =
+    split (isOperator (class b)) (λ q. (q, operator-run t s (suc i) (rw q at e)))
+    (λ q. absurd (omega (arith, past-length t (suc i), flushed operator (rw q at e) .1)))
+
+pub whole-operators : (w : List ℕ) → ReadsWhole w → isOperator (class (peek w)) ≡ true → Operators w
+unfolding read
+whole-operators [] e h = tt
+whole-operators (b ∷ t) e h =
+    let p : past 1 t ≡ suc (length t) = omega (arith, past-length t 1) in
+    (h, operator-run t 0 1 (rw p (rw (operator-of (class b) h) at e)))

@@ -7,11 +7,38 @@ use lib.Dec.{eqb}
 use lib.ListN.{length, replicate}
 
 -- The refusals' numbers, under the table's names.
+abbrev pub option : ℕ
+option = 1
+
+abbrev pub ragged : ℕ
+ragged = 2
+
+abbrev pub badRow : ℕ
+badRow = 3
+
+abbrev pub deep : ℕ
+deep = 4
+
+abbrev pub full : ℕ
+full = 5
+
+abbrev pub noNames : ℕ
+noNames = 6
+
+abbrev pub badLine : ℕ
+badLine = 7
+
+abbrev pub sheetFull : ℕ
+sheetFull = 8
+
 abbrev pub unreadable : ℕ
 unreadable = 9
 
 abbrev pub piecesFull : ℕ
 piecesFull = 10
+
+abbrev pub report : ℕ
+report = 11
 
 -- The refusal, or 0, and the report's three numbers: on a refusal its place, 0 and 0.
 pub record Report : Type 0 where

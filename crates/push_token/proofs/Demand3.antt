@@ -1,0 +1,65 @@
+-- Demand 3, both halves, over every layout call. Assumes nothing.
+use mathlib.Core.Bool.{Bool, true, false, cond}
+use mathlib.Core.List.{List, [], _∷_, _++_}
+use mathlib.Core.Option.{Option, none, some}
+use mathlib.Core.Path.{_≡_, refl, sym, ap, _∙_}
+use Prim.Native.Nat.{ℕ, suc, _+_, _*_, _≤_}
+use native.Mathlib.Omega.{arith}
+use lib.ListN.{length, take, drop}
+use lib.Seq.{take-at}
+use Rattle.report.specs.Report.{Report, option, ragged, badRow, deep, full}
+use Rattle.rows.specs.Options.{Options, optionsOf, badOption, orElse}
+use Rattle.rows.specs.Row.{rowsOf}
+use Rattle.rows.specs.Checks
+use Rattle.rows.specs.Token.{Token, tokensOf}
+use Rattle.pieces.specs.Commas.{struck}
+use Rattle.pieces.proofs.Whole.{Left}
+use Rattle.pieces.proofs.Written.{Written, written-answer, written-pieces, written-same}
+use Rattle.push_token.specs.Act.{State}
+use Rattle.push_token.specs.Plain.{plain}
+use Rattle.push_token.specs.Layout.{Ended, finished, stopped, lay, Layout, bit, laidOut, unless, layout}
+use Rattle.push_token.specs.Demand3.{lexemesOf, lexemes, commasOf, IsPlain, textOf, ReadsBack, FirstHalf, SecondHalf}
+use Rattle.push_token.proofs.Walk.{Holds, lay-holds}
+
+-- the text of a layout holds the lexemes xs with the answer's commas
+record Shows (l : Layout) (xs : List (List ℕ)) : Type 0 where
+  left : Left
+  written : Written (textOf l) left xs (commasOf l)
+
+one : (b : Bool) → bit b ≡ 1 → b ≡ true
+one true e = refl
+one false e = absurd (omega arith)
+
+laid-shows : (o : Options) (ts : List Token) (size : ℕ) (out : List ℕ) (e : Ended) → lay o size ts ≡ e → IsPlain (laidOut e (plain ts) out) → Shows (laidOut e (plain ts) out) (lexemesOf ts)
+laid-shows o ts size out (finished s) q p =
+    let h = lay-holds o size ts s (one (plain ts) (p .1)) q in
+    record { left = h .left; written = rw (take-at (s .out) (drop (length (s .out)) out) (length (s .out)) refl) (h .written) }
+laid-shows o ts size out (stopped n i) q p = absurd (omega (arith, p .1))
+
+-- a refusal bears no mark
+unless-shows : (n : ℕ) (d : Option ℕ) (out : List ℕ) (l : Layout) (xs : List (List ℕ)) → (IsPlain l → Shows l xs) → IsPlain (unless n d out l) → Shows (unless n d out l) xs
+unless-shows n none out l xs f p = f p
+unless-shows n (some i) out l xs f p = absurd (omega (arith, p .1))
+
+module _ (style indent signature list : ℕ) (rows text out : List ℕ) where
+  layout-shows : IsPlain (layout style indent signature list rows text out) → Shows (layout style indent signature list rows text out) (lexemes rows text)
+  unfolding layout
+  layout-shows =
+      unless-shows option (badOption style indent signature list) out _ (lexemes rows text)
+      (unless-shows ragged (orElse (Checks.ragged rows) 0 none) out _ (lexemes rows text)
+      (unless-shows badRow (Checks.badFrom (length text) Checks.atStart 0 (rowsOf rows)) out _ (lexemes rows text)
+      (laid-shows (optionsOf style indent signature list) (tokensOf rows text) (length out) out _ refl)))
+
+pub first-half : FirstHalf
+first-half style indent signature list rows text out space p small room =
+    let σ = layout-shows style indent signature list rows text out p in
+    record { answer = written-answer (σ .written) space room small; pieces = written-pieces (σ .written) space room small }
+
+same-text : {l l′ : Layout} {xs ys : List (List ℕ)} → Shows l xs → Shows l′ ys → textOf l ≡ textOf l′ → struck xs ≡ struck ys
+same-text {l} {l′} {xs} {ys} σ τ e =
+    let w : Written (textOf l) (τ .left) ys (commasOf l′) = rw e (τ .written) in
+    written-same (σ .written) w
+
+pub second-half : SecondHalf
+second-half style indent signature list rows text out style′ indent′ signature′ list′ rows′ text′ out′ p p′ e =
+    same-text (layout-shows style indent signature list rows text out p) (layout-shows style′ indent′ signature′ list′ rows′ text′ out′ p′) e

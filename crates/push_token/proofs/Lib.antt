@@ -1,0 +1,9 @@
+pub mod PlainScan
+pub mod After
+pub mod Beside
+pub mod Inv
+pub mod Arms
+pub mod Braces
+pub mod Turn
+pub mod Walk
+pub mod Demand3

@@ -1,0 +1,66 @@
+-- The layout call: from options, rows, text and output to the answer and the output after it (document 01's table, refusals 1 to 5).
+-- Assumes nothing.
+use mathlib.Core.Bool.{Bool, true, false, cond}
+use mathlib.Core.List.{List, [], _∷_, _++_}
+use mathlib.Core.Option.{Option, none, some}
+use Prim.Native.Nat.{ℕ, _+_}
+use lib.Dec.{ltb}
+use lib.ListN.{length, drop}
+use Rattle.report.specs.Report.{Report, success, refuse, zeroed, option, ragged, badRow, deep, full}
+use Rattle.rows.specs.Row.{rowsOf}
+use Rattle.rows.specs.Options.{Options, optionsOf, badOption, orElse}
+use Rattle.rows.specs.Checks
+use Rattle.rows.specs.Token.{Token, tokensOf}
+use Rattle.push_token.specs.Act.{State, run}
+use Rattle.push_token.specs.Emit.{isSome}
+use Rattle.push_token.specs.PushToken.{turn, begun}
+use Rattle.push_token.specs.Plain.{plain}
+
+-- ---- the walk over an output of so many bytes
+
+-- all tokens are laid out, or a refusal with its number and place
+pub data Ended : Type 0 where
+  finished : State → Ended
+  stopped : ℕ → ℕ → Ended
+
+-- Behind token i: 5 where its bytes don't fit, else 4 where its list is too deep. (Bytes written before that refusal came first.)
+abbrev pub checked : ℕ → ℕ → State → Ended
+checked size i s = cond (ltb size (length (s .out))) (stopped full i) (cond (isSome (s .formatter .tooDeep)) (stopped deep i) (finished s))
+
+abbrev pub andThen : Ended → (State → Ended) → Ended
+andThen (finished s) next = next s
+andThen (stopped n i) next = stopped n i
+
+unfoldable pub layFrom : Options → ℕ → Ended → ℕ → List Token → Ended
+layFrom o size e i [] = e
+layFrom o size e i (t ∷ ts) = layFrom o size (andThen e (λ s. checked size i (run (turn o i t ts) s))) (i + 1) ts
+
+abbrev pub lay : Options → ℕ → List Token → Ended
+lay o size ts = layFrom o size (finished begun) 0 ts
+
+-- ---- the call
+
+-- The answer, and the output after the call.
+pub record Layout : Type 0 where
+  pub report : Report
+  pub out : List ℕ
+
+abbrev pub bit : Bool → ℕ
+bit b = cond b 1 0
+
+-- length, commas and plain, and the text put first; or a refusal, and the output zeroed
+abbrev pub laidOut : Ended → Bool → List ℕ → Layout
+laidOut (finished s) mark out = record { report = success (length (s .out)) (s .commas) (bit mark); out = s .out ++ drop (length (s .out)) out }
+laidOut (stopped n i) mark out = record { report = refuse n i; out = zeroed out }
+
+-- a refusal that leaves the output unchanged, or what comes after
+abbrev pub unless : ℕ → Option ℕ → List ℕ → Layout → Layout
+unless n none out next = next
+unless n (some place) out next = record { report = refuse n place; out = out }
+
+unfoldable pub layout : ℕ → ℕ → ℕ → ℕ → List ℕ → List ℕ → List ℕ → Layout
+layout style indent signature list rows text out =
+    unless option (badOption style indent signature list) out
+    (unless ragged (orElse (Checks.ragged rows) 0 none) out
+    (unless badRow (Checks.badFrom (length text) Checks.atStart 0 (rowsOf rows)) out
+    (laidOut (lay (optionsOf style indent signature list) (length out) (tokensOf rows text)) (plain (tokensOf rows text)) out)))

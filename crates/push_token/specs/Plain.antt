@@ -1,0 +1,162 @@
+-- The plain mark: document 01's seven clauses, in their order, over the tokens.
+-- "Directly" is the next token; "neighbours" are next once Newline and Eof are passed over.
+-- Assumes nothing.
+use mathlib.Core.Bool.{Bool, true, false, cond, not, _&&_, _||_}
+use mathlib.Core.List.{List, [], _∷_}
+use mathlib.Core.Option.{Option, none, some}
+use Prim.Native.Nat.{ℕ}
+use lib.Dec.{eqb}
+use lib.ListN.{length}
+use Rattle.rows.specs.Kinds.{Eof, Newline, LeftBrace, RightBrace, LeftParen, RightParen, LeftBracket, RightBracket, Comma, Colon, Semicolon, Question, Dot, DotDot, ColonColon, Hash, Bang, BangHash, Minus, Else, Record, oneOf}
+use Rattle.rows.specs.Token.{Token}
+use Rattle.lookahead.specs.Measure.{bare}
+use Rattle.pieces.specs.Class.{class, digit, isOperator}
+use Rattle.pieces.specs.Reading.{Reading, done, refused, piece, reading}
+use Rattle.push_token.specs.Arms.{nextIs}
+
+-- Newline and Eof: all other tokens are written
+abbrev pub isMute : Token → Bool
+isMute t = oneOf (Eof ∷ Newline ∷ []) (t .kind)
+
+-- ---- 1. no trivia rows
+
+unfoldable pub noTrivia : List Token → Bool
+noTrivia [] = true
+noTrivia (t ∷ ts) = bare t && noTrivia ts
+
+-- ---- 2. kinds 2–16, 18, 19 have their lexemes, and BangHash only operator bytes
+
+abbrev pub sameBytes : List ℕ → List ℕ → Bool
+sameBytes [] [] = true
+sameBytes [] (b ∷ v) = false
+sameBytes (a ∷ u) [] = false
+sameBytes (a ∷ u) (b ∷ v) = eqb a b && sameBytes u v
+
+abbrev pub operatorByte : ℕ → Bool
+operatorByte b = isOperator (class b)
+
+abbrev pub onlyOperators : List ℕ → Bool
+onlyOperators [] = true
+onlyOperators (b ∷ w) = operatorByte b && onlyOperators w
+
+unfoldable pub hasItsLexeme : ℕ → List ℕ → Bool
+hasItsLexeme k w =
+    cond (eqb k LeftBrace) (sameBytes w (123 ∷ []))
+    (cond (eqb k RightBrace) (sameBytes w (125 ∷ []))
+    (cond (eqb k LeftParen) (sameBytes w (40 ∷ []))
+    (cond (eqb k RightParen) (sameBytes w (41 ∷ []))
+    (cond (eqb k LeftBracket) (sameBytes w (91 ∷ []))
+    (cond (eqb k RightBracket) (sameBytes w (93 ∷ []))
+    (cond (eqb k Comma) (sameBytes w (44 ∷ []))
+    (cond (eqb k Colon) (sameBytes w (58 ∷ []))
+    (cond (eqb k Semicolon) (sameBytes w (59 ∷ []))
+    (cond (eqb k Question) (sameBytes w (63 ∷ []))
+    (cond (eqb k Dot) (sameBytes w (46 ∷ []))
+    (cond (eqb k DotDot) (sameBytes w (46 ∷ 46 ∷ []))
+    (cond (eqb k ColonColon) (sameBytes w (58 ∷ 58 ∷ []))
+    (cond (eqb k Hash) (sameBytes w (35 ∷ []))
+    (cond (eqb k Bang) (sameBytes w (33 ∷ []))
+    (cond (eqb k Minus) (sameBytes w (45 ∷ []))
+    (cond (eqb k Else) (sameBytes w (101 ∷ 108 ∷ 115 ∷ 101 ∷ []))
+    (cond (eqb k BangHash) (onlyOperators w)
+    true)))))))))))))))))
+
+unfoldable pub fixedLexemes : List Token → Bool
+fixedLexemes [] = true
+fixedLexemes (t ∷ ts) = hasItsLexeme (t .kind) (t .lexeme) && fixedLexemes ts
+
+-- ---- 3. each lexeme but those of Newline and Eof reads as one piece that is the whole lexeme
+
+abbrev pub isOnePiece : ℕ → Reading → Bool
+isOnePiece n done = false
+isOnePiece n (refused i) = false
+isOnePiece n (piece s e done) = eqb s 0 && eqb e n
+isOnePiece n (piece s e (refused i)) = false
+isOnePiece n (piece s e (piece s′ e′ r)) = false
+
+unfoldable pub readsWhole : List ℕ → Bool
+readsWhole w = isOnePiece (length w) (reading w)
+
+unfoldable pub onePieces : List Token → Bool
+onePieces [] = true
+onePieces (t ∷ ts) = (isMute t || readsWhole (t .lexeme)) && onePieces ts
+
+-- ---- 4. where a neighbour ends and the next begins with an operator byte, the first isn't one of seven kinds and the second isn't one of four
+
+abbrev pub endsOperator : List ℕ → Bool
+endsOperator [] = false
+endsOperator (b ∷ []) = operatorByte b
+endsOperator (b ∷ c ∷ w) = endsOperator (c ∷ w)
+
+abbrev pub beginsOperator : List ℕ → Bool
+beginsOperator [] = false
+beginsOperator (b ∷ w) = operatorByte b
+
+-- Dot, DotDot, ColonColon, Hash, Bang, BangHash, Minus
+abbrev pub tightBefore : ℕ → Bool
+tightBefore k = oneOf (Dot ∷ DotDot ∷ ColonColon ∷ Hash ∷ Bang ∷ BangHash ∷ Minus ∷ []) k
+
+-- Dot, DotDot, ColonColon, Colon
+abbrev pub tightBehind : ℕ → Bool
+tightBehind k = oneOf (Dot ∷ DotDot ∷ ColonColon ∷ Colon ∷ []) k
+
+abbrev pub operatorsMeet : Token → Token → Bool
+operatorsMeet t u = endsOperator (t .lexeme) && beginsOperator (u .lexeme)
+
+abbrev pub mayMeet : Option Token → Token → Bool
+mayMeet none u = true
+mayMeet (some t) u = not (operatorsMeet t u) || not (tightBefore (t .kind) || tightBehind (u .kind))
+
+-- the neighbour before what comes behind t
+abbrev pub neighbour : Option Token → Token → Option Token
+neighbour last t = cond (isMute t) last (some t)
+
+unfoldable pub operatorsApart : Option Token → List Token → Bool
+operatorsApart last [] = true
+operatorsApart last (t ∷ ts) = (isMute t || mayMeet last t) && operatorsApart (neighbour last t) ts
+
+-- ---- 5. no lexeme begun with a digit has Dot for its next neighbour
+
+abbrev pub beginsDigit : List ℕ → Bool
+beginsDigit [] = false
+beginsDigit (b ∷ w) = digit b
+
+abbrev pub noDotBehind : Option Token → Token → Bool
+noDotBehind none u = true
+noDotBehind (some t) u = not (beginsDigit (t .lexeme) && eqb (u .kind) Dot)
+
+unfoldable pub digitsUndotted : Option Token → List Token → Bool
+digitsUndotted last [] = true
+digitsUndotted last (t ∷ ts) = (isMute t || noDotBehind last t) && digitsUndotted (neighbour last t) ts
+
+-- ---- 6. no `{` directly after `,`, nor after it with only Eof between
+
+-- the last token but Eof is a Comma
+abbrev pub commaLast : Bool → Token → Bool
+commaLast comma t = cond (eqb (t .kind) Eof) comma (eqb (t .kind) Comma)
+
+unfoldable pub noBraceAfterComma : Bool → List Token → Bool
+noBraceAfterComma comma [] = true
+noBraceAfterComma comma (t ∷ ts) = not (eqb (t .kind) LeftBrace && comma) && noBraceAfterComma (commaLast comma t) ts
+
+-- ---- 7. the first `{` after a Record is not directly followed by `}`
+
+-- a Record, and no `{` since
+abbrev pub recordOpen : Bool → Token → Bool
+recordOpen armed t = cond (eqb (t .kind) Record) true (not (eqb (t .kind) LeftBrace) && armed)
+
+unfoldable pub noEmptyRecord : Bool → List Token → Bool
+noEmptyRecord armed [] = true
+noEmptyRecord armed (t ∷ ts) = not (eqb (t .kind) LeftBrace && (armed && nextIs RightBrace ts)) && noEmptyRecord (recordOpen armed t) ts
+
+-- ---- the mark
+
+unfoldable pub plain : List Token → Bool
+plain ts =
+    noTrivia ts
+    && (fixedLexemes ts
+    && (onePieces ts
+    && (operatorsApart none ts
+    && (digitsUndotted none ts
+    && (noBraceAfterComma false ts
+    && noEmptyRecord false ts)))))

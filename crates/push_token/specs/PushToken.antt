@@ -1,0 +1,62 @@
+-- `push_token`, and the walk over all tokens.
+-- Assumes nothing.
+use mathlib.Core.Bool.{Bool, true, false, cond, not, _&&_, _||_}
+use mathlib.Core.List.{List, [], _∷_}
+use mathlib.Core.Option.{none, some}
+use Prim.Native.Nat.{ℕ, _+_}
+use lib.Dec.{eqb, leb}
+use lib.ListN.{length}
+use Rattle.rows.specs.Kinds.{Eof, Newline, LeftBrace, RightBrace, LeftParen, RightParen, LeftBracket, RightBracket, Comma, Else}
+use Rattle.rows.specs.Options.{Options}
+use Rattle.rows.specs.Token.{Token}
+use Rattle.lookahead.specs.Measure.{isEmpty}
+use Rattle.push_token.specs.Formatter.{Formatter, new, setJustClosedInline, setInlineClose, setSkipNext, setTooDeep}
+use Rattle.push_token.specs.Act.{State, state, Act, run, update, _⨾_, nothing, if}
+use Rattle.push_token.specs.Emit.{isSome, trackFnState, leadingTrivia}
+use Rattle.push_token.specs.Arms.{trailing, newlineArm, rightBraceArm, leftBraceArm, breaksList, atSignature, leftParenArm, leftBracketArm, rightParenArm, rightBracketArm, commaArm, elseArm, otherArm}
+
+-- the arm of the token's kind, with its trailing trivia
+abbrev pub arm : Options → ℕ → Token → List Token → Act
+arm o i t ts =
+    if (λ f. eqb (t .kind) Eof) (trailing t)
+    (if (λ f. eqb (t .kind) Newline) (newlineArm i ts ⨾ trailing t)
+    (if (λ f. eqb (t .kind) RightBrace) (rightBraceArm o ⨾ trailing t)
+    (if (λ f. eqb (t .kind) LeftBrace) (leftBraceArm o i t ts)
+    (if (λ f. eqb (t .kind) LeftParen) (leftParenArm o i t ts ⨾ trailing t)
+    (if (λ f. eqb (t .kind) LeftBracket) (leftBracketArm o i t ts ⨾ trailing t)
+    (if (λ f. eqb (t .kind) RightParen) (rightParenArm o t)
+    (if (λ f. eqb (t .kind) RightBracket) (rightBracketArm o t)
+    (if (λ f. eqb (t .kind) Comma) (commaArm o i t ⨾ trailing t)
+    (if (λ f. eqb (t .kind) Else) (elseArm o t ⨾ trailing t)
+    (otherArm o t ⨾ trailing t))))))))))
+
+-- `let inline_close = !saw_trivia && std::mem::take(..)`: where trivia was seen the mark stays
+abbrev pub takeInlineClose : Bool → Formatter → Formatter
+takeInlineClose bare f = setInlineClose (bare && f .justClosedInline) (setJustClosedInline (not bare && f .justClosedInline) f)
+
+-- Refusal 4: the broken-group stack is full, and the token would open one more broken list.
+abbrev pub overflows : Options → Token → List Token → Formatter → Bool
+overflows o t ts f =
+    leb 64 (length (f .breakStack))
+    && ((eqb (t .kind) LeftParen && (not (atSignature f) && breaksList o t ts f)) || (eqb (t .kind) LeftBracket && breaksList o t ts f))
+
+-- `push_token` at index i, where the tokens ts come behind t. Refusal 4 is looked at after the leading trivia.
+abbrev pub pushToken : Options → ℕ → Token → List Token → Act
+pushToken o i t ts =
+    leadingTrivia o (t .leading) ⨾ update (takeInlineClose (isEmpty (t .leading)))
+    ⨾ if (overflows o t ts) (update (setTooDeep (some i))) (arm o i t ts ⨾ update (trackFnState (t .kind)))
+
+-- a token of the walk: nothing after a refusal, and nothing for one that was taken along
+abbrev pub turn : Options → ℕ → Token → List Token → Act
+turn o i t ts = if (λ f. isSome (f .tooDeep)) nothing (if (λ f. f .skipNext) (update (setSkipNext false)) (pushToken o i t ts))
+
+-- `format`, in an output without end
+unfoldable pub walkFrom : Options → State → ℕ → List Token → State
+walkFrom o s i [] = s
+walkFrom o s i (t ∷ ts) = walkFrom o (run (turn o i t ts) s) (i + 1) ts
+
+abbrev pub begun : State
+begun = state new [] 0
+
+abbrev pub walk : Options → List Token → State
+walk o ts = walkFrom o begun 0 ts
