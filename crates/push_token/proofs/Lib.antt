@@ -7,3 +7,4 @@ pub mod Braces
 pub mod Turn
 pub mod Walk
 pub mod Demand3
+pub mod Cases

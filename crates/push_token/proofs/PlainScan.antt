@@ -1,14 +1,10 @@
 -- The plain mark is taken in one pass. Assumes nothing.
-use mathlib.Core.Bool.{Bool, true, false, not, _&&_, _||_}
+use mathlib.Core.Bool.{Bool, true, false, _&&_}
 use mathlib.Core.List.{List, [], _∷_}
 use mathlib.Core.Option.{Option, none}
 use mathlib.Core.Path.{_≡_, refl, sym, ap, _∙_}
-use lib.Dec.{eqb}
-use Rattle.rows.specs.Kinds.{LeftBrace, RightBrace}
 use Rattle.rows.specs.Token.{Token}
-use Rattle.lookahead.specs.Measure.{bare}
-use Rattle.push_token.specs.Arms.{nextIs}
-use Rattle.push_token.specs.Plain.{isMute, hasItsLexeme, readsWhole, mayMeet, noDotBehind, noTrivia, fixedLexemes, onePieces, operatorsApart, digitsUndotted, noBraceAfterComma, noEmptyRecord, neighbour, commaLast, recordOpen, plain}
+use Rattle.push_token.specs.Plain.{clause₁, clause₂, clause₃, clause₄, clause₅, clause₆, clause₇, noTrivia, fixedLexemes, onePieces, operatorsApart, digitsUndotted, noBraceAfterComma, noEmptyRecord, neighbour, commaLast, recordOpen, plain}
 use Rattle.push_token.specs.PlainScan.{Seen, unseen, see, fits, plainFrom}
 
 -- two conjunctions, taken together
@@ -30,9 +26,8 @@ clauses : (q : Seen) (ts : List Token)
 unfolding noTrivia fixedLexemes onePieces operatorsApart digitsUndotted noBraceAfterComma noEmptyRecord plainFrom
 clauses q [] = refl
 clauses q (t ∷ ts) =
-    zip₇ (bare t) (noTrivia ts) (hasItsLexeme (t .kind) (t .lexeme)) (fixedLexemes ts) (isMute t || readsWhole (t .lexeme)) (onePieces ts)
-    (isMute t || mayMeet (q .last) t) (operatorsApart (see q t .last) ts) (isMute t || noDotBehind (q .last) t) (digitsUndotted (see q t .last) ts)
-    (not (eqb (t .kind) LeftBrace && q .comma)) (noBraceAfterComma (see q t .comma) ts) (not (eqb (t .kind) LeftBrace && (q .armed && nextIs RightBrace ts))) (noEmptyRecord (see q t .armed) ts)
+    zip₇ (clause₁ t) (noTrivia ts) (clause₂ t) (fixedLexemes ts) (clause₃ t) (onePieces ts) (clause₄ (q .last) t) (operatorsApart (see q t .last) ts)
+    (clause₅ (q .last) t) (digitsUndotted (see q t .last) ts) (clause₆ (q .comma) t) (noBraceAfterComma (see q t .comma) ts) (clause₇ (q .armed) t ts) (noEmptyRecord (see q t .armed) ts)
     ∙ ap (λ r. fits q t ts && r) (clauses (see q t) ts)
 
 pub plain-scan : (ts : List Token) → plain ts ≡ plainFrom unseen ts

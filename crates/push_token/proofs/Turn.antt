@@ -19,7 +19,7 @@ use Rattle.push_token.specs.Act.{State, state, Act, run, _⨾_}
 use Rattle.push_token.specs.Emit.{isSome, lineFeed, leadingTrivia}
 use Rattle.push_token.specs.Arms.{trailing, nextIs, newlineArm}
 use Rattle.push_token.specs.PushToken.{takeInlineClose, arm, pushToken, turn}
-use Rattle.push_token.specs.Plain.{isMute, hasItsLexeme, readsWhole, mayMeet, noDotBehind}
+use Rattle.push_token.specs.Plain.{isMute, readsWhole, mayMeet, noDotBehind, clause₁, clause₂, clause₃, clause₄, clause₅, clause₆, clause₇}
 use Rattle.push_token.specs.PlainScan.{Seen, see, fits}
 use Rattle.push_token.proofs.After.{After, chosen, inTurn, first, last, implied}
 use Rattle.push_token.proofs.Beside.{Sound}
@@ -53,15 +53,21 @@ all-seven true true false d e f g h = impossible′ h
 all-seven true false c d e f g h = impossible′ h
 all-seven false b c d e f g h = impossible′ h
 
+-- what a clause says where its token is written, and where it is a `{`
+written : (m x : Bool) → m || x ≡ true → m ≡ false → x ≡ true
+written m x e f = rw f at e
+
+at-brace : (b x : Bool) → not (b && x) ≡ true → b ≡ true → x ≡ false
+at-brace b x e f = not-true x (rw f at e)
+
 module _ (q : Seen) (t : Token) (ts : List Token) (e : fits q t ts ≡ true) where
   -- the clauses at t, in document 01's order
   abbrev Clauses : Type 0
   Clauses =
-      Seven (bare t) (hasItsLexeme (t .kind) (t .lexeme)) (isMute t || readsWhole (t .lexeme)) (isMute t || mayMeet (q .last) t) (isMute t || noDotBehind (q .last) t)
-      (not (eqb (t .kind) LeftBrace && q .comma)) (not (eqb (t .kind) LeftBrace && (q .armed && nextIs RightBrace ts)))
+      Seven (clause₁ t) (clause₂ t) (clause₃ t) (clause₄ (q .last) t) (clause₅ (q .last) t) (clause₆ (q .comma) t) (clause₇ (q .armed) t ts)
 
   clauses : Clauses
-  clauses = all-seven _ _ _ _ _ _ _ e
+  clauses = all-seven (clause₁ t) (clause₂ t) (clause₃ t) (clause₄ (q .last) t) (clause₅ (q .last) t) (clause₆ (q .comma) t) (clause₇ (q .armed) t ts) e
 
   no-leading : t .leading ≡ []
   no-leading = empty (t .leading) (and-left (isEmpty (t .leading)) _ (clauses .one))
@@ -70,19 +76,19 @@ module _ (q : Seen) (t : Token) (ts : List Token) (e : fits q t ts ≡ true) whe
   no-trailing = empty (t .trailing) (and-right (isEmpty (t .leading)) _ (clauses .one))
 
   sound : isMute t ≡ false → Sound t
-  sound m = record { fixed = clauses .two; reads = rw m at (clauses .three) }
+  sound m = record { fixed = clauses .two; reads = written (isMute t) (readsWhole (t .lexeme)) (clauses .three) m }
 
   meets : isMute t ≡ false → mayMeet (q .last) t ≡ true
-  meets m = rw m at (clauses .four)
+  meets m = written (isMute t) (mayMeet (q .last) t) (clauses .four) m
 
   undotted : isMute t ≡ false → noDotBehind (q .last) t ≡ true
-  undotted m = rw m at (clauses .five)
+  undotted m = written (isMute t) (noDotBehind (q .last) t) (clauses .five) m
 
   no-comma : t .kind ≡ LeftBrace → q .comma ≡ false
-  no-comma k = not-true (q .comma) (rw k at (clauses .six))
+  no-comma k = at-brace (eqb (t .kind) LeftBrace) (q .comma) (clauses .six) (rw k)
 
   no-empty : t .kind ≡ LeftBrace → q .armed ≡ true → nextIs RightBrace ts ≡ false
-  no-empty k a = not-true (nextIs RightBrace ts) (rw (k, a) at (clauses .seven))
+  no-empty k a = rw a at (at-brace (eqb (t .kind) LeftBrace) (q .armed && nextIs RightBrace ts) (clauses .seven) (rw k))
 
 -- ---- tokens that write nothing
 

@@ -20,9 +20,12 @@ isMute t = oneOf (Eof ∷ Newline ∷ []) (t .kind)
 
 -- ---- 1. no trivia rows
 
+abbrev pub clause₁ : Token → Bool
+clause₁ t = bare t
+
 unfoldable pub noTrivia : List Token → Bool
 noTrivia [] = true
-noTrivia (t ∷ ts) = bare t && noTrivia ts
+noTrivia (t ∷ ts) = clause₁ t && noTrivia ts
 
 -- ---- 2. kinds 2–16, 18, 19 have their lexemes, and BangHash only operator bytes
 
@@ -61,9 +64,12 @@ hasItsLexeme k w =
     (cond (eqb k BangHash) (onlyOperators w)
     true)))))))))))))))))
 
+abbrev pub clause₂ : Token → Bool
+clause₂ t = hasItsLexeme (t .kind) (t .lexeme)
+
 unfoldable pub fixedLexemes : List Token → Bool
 fixedLexemes [] = true
-fixedLexemes (t ∷ ts) = hasItsLexeme (t .kind) (t .lexeme) && fixedLexemes ts
+fixedLexemes (t ∷ ts) = clause₂ t && fixedLexemes ts
 
 -- ---- 3. each lexeme but those of Newline and Eof reads as one piece that is the whole lexeme
 
@@ -77,9 +83,12 @@ isOnePiece n (piece s e (piece s′ e′ r)) = false
 unfoldable pub readsWhole : List ℕ → Bool
 readsWhole w = isOnePiece (length w) (reading w)
 
+abbrev pub clause₃ : Token → Bool
+clause₃ t = isMute t || readsWhole (t .lexeme)
+
 unfoldable pub onePieces : List Token → Bool
 onePieces [] = true
-onePieces (t ∷ ts) = (isMute t || readsWhole (t .lexeme)) && onePieces ts
+onePieces (t ∷ ts) = clause₃ t && onePieces ts
 
 -- ---- 4. where a neighbour ends and the next begins with an operator byte, the first isn't one of seven kinds and the second isn't one of four
 
@@ -111,9 +120,12 @@ mayMeet (some t) u = not (operatorsMeet t u) || not (tightBefore (t .kind) || ti
 abbrev pub neighbour : Option Token → Token → Option Token
 neighbour last t = cond (isMute t) last (some t)
 
+abbrev pub clause₄ : Option Token → Token → Bool
+clause₄ last t = isMute t || mayMeet last t
+
 unfoldable pub operatorsApart : Option Token → List Token → Bool
 operatorsApart last [] = true
-operatorsApart last (t ∷ ts) = (isMute t || mayMeet last t) && operatorsApart (neighbour last t) ts
+operatorsApart last (t ∷ ts) = clause₄ last t && operatorsApart (neighbour last t) ts
 
 -- ---- 5. no lexeme begun with a digit has Dot for its next neighbour
 
@@ -125,9 +137,12 @@ abbrev pub noDotBehind : Option Token → Token → Bool
 noDotBehind none u = true
 noDotBehind (some t) u = not (beginsDigit (t .lexeme) && eqb (u .kind) Dot)
 
+abbrev pub clause₅ : Option Token → Token → Bool
+clause₅ last t = isMute t || noDotBehind last t
+
 unfoldable pub digitsUndotted : Option Token → List Token → Bool
 digitsUndotted last [] = true
-digitsUndotted last (t ∷ ts) = (isMute t || noDotBehind last t) && digitsUndotted (neighbour last t) ts
+digitsUndotted last (t ∷ ts) = clause₅ last t && digitsUndotted (neighbour last t) ts
 
 -- ---- 6. no `{` directly after `,`, nor after it with only Eof between
 
@@ -135,9 +150,12 @@ digitsUndotted last (t ∷ ts) = (isMute t || noDotBehind last t) && digitsUndot
 abbrev pub commaLast : Bool → Token → Bool
 commaLast comma t = cond (eqb (t .kind) Eof) comma (eqb (t .kind) Comma)
 
+abbrev pub clause₆ : Bool → Token → Bool
+clause₆ comma t = not (eqb (t .kind) LeftBrace && comma)
+
 unfoldable pub noBraceAfterComma : Bool → List Token → Bool
 noBraceAfterComma comma [] = true
-noBraceAfterComma comma (t ∷ ts) = not (eqb (t .kind) LeftBrace && comma) && noBraceAfterComma (commaLast comma t) ts
+noBraceAfterComma comma (t ∷ ts) = clause₆ comma t && noBraceAfterComma (commaLast comma t) ts
 
 -- ---- 7. the first `{` after a Record is not directly followed by `}`
 
@@ -145,9 +163,12 @@ noBraceAfterComma comma (t ∷ ts) = not (eqb (t .kind) LeftBrace && comma) && n
 abbrev pub recordOpen : Bool → Token → Bool
 recordOpen armed t = cond (eqb (t .kind) Record) true (not (eqb (t .kind) LeftBrace) && armed)
 
+abbrev pub clause₇ : Bool → Token → List Token → Bool
+clause₇ armed t ts = not (eqb (t .kind) LeftBrace && (armed && nextIs RightBrace ts))
+
 unfoldable pub noEmptyRecord : Bool → List Token → Bool
 noEmptyRecord armed [] = true
-noEmptyRecord armed (t ∷ ts) = not (eqb (t .kind) LeftBrace && (armed && nextIs RightBrace ts)) && noEmptyRecord (recordOpen armed t) ts
+noEmptyRecord armed (t ∷ ts) = clause₇ armed t ts && noEmptyRecord (recordOpen armed t) ts
 
 -- ---- the mark
 

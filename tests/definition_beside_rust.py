@@ -1,0 +1,161 @@
+#!/usr/bin/env python3
+"""Holds the definition of the walk (crates/push_token/specs) against the Rust, by computation.
+
+    python3 tests/definition_beside_rust.py [LISTS [SEED]]
+
+Builds format.rs (harness/, FORMAT_RS names the file if it is elsewhere), lays out LISTS token lists with it (1000 unless
+given), and has the checker compute the definition on the same lists: texts, and the plain mark by the model below, which
+is written from document 01. It writes a scratch crate under target/ and proves nothing of the repository.
+"""
+import os
+import random
+import re
+import shutil
+import subprocess
+import sys
+
+HERE = os.path.dirname(os.path.abspath(__file__))
+ROOT = os.path.dirname(HERE)
+LISTS = int(sys.argv[1]) if len(sys.argv) > 1 else 1000
+SEED = int(sys.argv[2]) if len(sys.argv) > 2 else 1
+BATCH = 125
+
+LEXEMES = {0: [b""], 1: [b"", b"\n"], 2: [b"{"], 3: [b"}"], 4: [b"("], 5: [b")"], 6: [b"["], 7: [b"]"], 8: [b","], 9: [b":"], 10: [b";"],
+           11: [b"?"], 12: [b"."], 13: [b".."], 14: [b"::"], 15: [b"#"], 16: [b"!"], 17: [b"!#"], 18: [b"-"], 19: [b"else"],
+           20: [b"fn"], 21: [b"record"], 22: [b"a", b"name", b"x1"], 23: [b"1", b"1.5"], 24: [b"b1"], 25: [b'"s, ]"'], 26: [b"'c'"],
+           27: [b"2.5"], 28: [b"true"], 29: [b"null"], 30: [b"arr"], 31: [b"map"], 32: [b"set"], 33: [b"result"], 34: [b"=", b"+", b"if", b"\xc3\xa9"]}
+ALPHABETS = [
+    [4, 5, 6, 7, 8, 22], [2, 3, 21, 20, 1, 19, 22, 8], [2, 3, 4, 5, 8, 22], [20, 22, 4, 5, 8, 1], [18, 23, 12, 13, 14, 9, 34, 22],
+    [0, 1, 2, 3, 8, 22, 21], [21, 22, 2, 3, 8, 9, 1], list(range(35)), list(range(35)), [6, 7, 8, 1, 22], [2, 3, 19, 0, 22, 1],
+]
+HOSTILE = [b"", b"{", b",", b"a b", b"// x", b"1.", b"'", b"\n"]
+
+
+def make(rng):
+    alphabet = rng.choice(ALPHABETS)
+    options = (rng.randrange(2), rng.choice([0, 1, 2, 4]), rng.choice([0, 1, 2, 8, 40]), rng.choice([0, 1, 4, 8, 40]))
+    tokens = []
+    trivia = rng.random() < 0.3
+    for _ in range(rng.randrange(1, 14)):
+        kind = rng.choice(alphabet)
+        lexeme = rng.choice(HOSTILE) if rng.random() < 0.02 else rng.choice(LEXEMES[kind])
+        side = lambda: [(rng.randrange(4), rng.choice([b"c", b"", b"two words"])) for _ in range(rng.randrange(1, 3))] if trivia and rng.random() < 0.15 else []
+        tokens.append((kind, lexeme, side(), side()))
+    return options, tokens
+
+
+# ---- the plain mark, from document 01
+
+PIECE = re.compile(rb"[()\[\]{},;?]|\"(?:[^\"\\]|\\.)*\"|'(?:[^'\\]|\\.)*'|[0-9](?:[A-Za-z0-9_\x80-\xff]|\.(?=[0-9]))*|[A-Za-z0-9_\x80-\xff]+|[!#$%&*+\-./:<=>@\\^`|~]+", re.DOTALL)
+OPERATOR = b"!#$%&*+-./:<=>@\\^`|~"
+FIXED = {2: b"{", 3: b"}", 4: b"(", 5: b")", 6: b"[", 7: b"]", 8: b",", 9: b":", 10: b";", 11: b"?", 12: b".", 13: b"..", 14: b"::", 15: b"#", 16: b"!", 18: b"-", 19: b"else"}
+
+
+def whole(w):
+    found = PIECE.match(w)
+    return bool(found) and found.end() == len(w)
+
+
+def plain(tokens):
+    written = [(k, w) for k, w, _, _ in tokens if k > 1]
+    pairs = list(zip(written, written[1:]))
+    kinds = [k for k, _, _, _ in tokens]
+    def brace_after_comma(i):
+        j = i - 1
+        while j >= 0 and kinds[j] == 0:
+            j -= 1
+        return kinds[i] == 2 and j >= 0 and kinds[j] == 8
+    def empty_record(i):
+        after = [j for j in range(i + 1, len(kinds)) if kinds[j] == 2]
+        return kinds[i] == 21 and bool(after) and after[0] + 1 < len(kinds) and kinds[after[0] + 1] == 3
+    return (all(not lead and not trail for _, _, lead, trail in tokens)
+            and all(k not in FIXED or w == FIXED[k] for k, w in written) and all(all(c in OPERATOR for c in w) for k, w in written if k == 17)
+            and all(whole(w) for _, w in written)
+            and not any(v[-1:] and v[-1] in OPERATOR and w[:1] and w[0] in OPERATOR and (k in (12, 13, 14, 15, 16, 17, 18) or j in (12, 13, 14, 9)) for (k, v), (j, w) in pairs)
+            and not any(v[:1].isdigit() and j == 12 for (_, v), (j, _) in pairs)
+            and not any(brace_after_comma(i) for i in range(len(kinds)))
+            and not any(empty_record(i) for i in range(len(kinds))))
+
+
+# ---- both sides
+
+def rust(lists):
+    subprocess.run(["cargo", "build", "--release", "--offline", "--quiet"], cwd=os.path.join(ROOT, "harness"), check=True)
+    lines = []
+    for options, tokens in lists:
+        words = [str(n) for n in options]
+        for kind, lexeme, lead, trail in tokens:
+            words += ["L%d:%s" % (k, c.hex()) for k, c in lead] + ["%d:%s" % (kind, lexeme.hex())] + ["R%d:%s" % (k, c.hex()) for k, c in trail]
+        lines.append(" ".join(words))
+    out = subprocess.run([os.path.join(ROOT, "harness", "target", "release", "lay")], input="\n".join(lines) + "\n", text=True, capture_output=True, check=True).stdout
+    return [bytes.fromhex(line) for line in out.split("\n")[:-1]]
+
+
+def antt_bytes(w):
+    return "(" + "".join("%d ∷ " % b for b in w) + "[])"
+
+
+def antt_trivia(ts):
+    names = ["lineComment", "docComment", "blockComment"]
+    return "(" + "".join(("blankLine" if k == 3 else "%s %s" % (names[k], antt_bytes(c))) + " ∷ " for k, c in ts) + "[])"
+
+
+def module(lists, texts):
+    head = open(os.path.join(ROOT, "crates", "push_token", "proofs", "Cases.antt")).read()
+    unfolding = next(line for line in head.split("\n") if line.startswith("unfolding "))
+    uses = "\n".join(line for line in head.split("\n") if line.startswith("use ")).replace("Rattle.push_token.specs", "Rattle.push_token.specs")
+    uses = uses.replace("Options.{Options, Allman}", "Options.{Options, SameLine, Allman}").replace("Token.{Token}", "Token.{Token, lineComment, docComment, blockComment, blankLine}")
+    theorems = []
+    for n, ((options, tokens), text) in enumerate(zip(lists, texts)):
+        token = "".join("token %d %s %s %s ∷ " % (k, antt_bytes(w), antt_trivia(lead), antt_trivia(trail)) for k, w, lead, trail in tokens)
+        style = "Allman" if options[0] else "SameLine"
+        case = "lay (record { braceStyle = %s; indentWidth = %d; fnSigWidth = %d; listWidth = %d }) (%s[])" % ((style,) + options[1:] + (token,))
+        theorems.append("same%d : %s ≡ laid %s %s\n%s\nsame%d = refl\n\n" % (n, case, antt_bytes(text), "true" if plain(tokens) else "false", unfolding, n))
+    return uses + """
+use Rattle.rows.specs.Token.{Trivia}
+
+record Laid : Type 0 where
+  text : List ℕ
+  mark : Bool
+
+abbrev laid : List ℕ → Bool → Laid
+laid w p = record { text = w; mark = p }
+
+abbrev lay : Options → List Token → Laid
+lay o ts = laid (walk o ts .out) (plain ts)
+
+abbrev token : ℕ → List ℕ → List Trivia → List Trivia → Token
+token k w l r = record { kind = k; lexeme = w; leading = l; trailing = r }
+
+""" + "".join(theorems)
+
+
+def main():
+    rng = random.Random(SEED)
+    lists = [make(rng) for _ in range(LISTS)]
+    texts = rust(lists)
+    scratch = os.path.join(ROOT, "target", "definition")
+    names = ["report", "rows", "lookahead", "pieces", "push_token"]
+    for name in names:
+        shutil.copytree(os.path.join(ROOT, "crates", name), os.path.join(scratch, "crates", name), dirs_exist_ok=True)
+    listed = [line for line in open(os.path.join(ROOT, "crates.txt")) if line.split(":")[0] in names]
+    open(os.path.join(scratch, "crates.txt"), "w").write("".join(listed) + "run: " + " ".join(names) + "\n")
+    folder = os.path.join(scratch, "crates", "run")
+    os.makedirs(os.path.join(folder, "src"), exist_ok=True)
+    os.makedirs(os.path.join(folder, "specs"), exist_ok=True)
+    open(os.path.join(folder, "src", "lib.rt"), "w").write("// scratch\n")
+    compared = marks = 0
+    for at in range(0, LISTS, BATCH):
+        some, answers = lists[at:at + BATCH], texts[at:at + BATCH]
+        open(os.path.join(folder, "specs", "Lib.antt"), "w").write("pub mod Run\n")
+        open(os.path.join(folder, "specs", "Run.antt"), "w").write(module(some, answers))
+        run = subprocess.run(["rt", "check", "run"], cwd=scratch, text=True, capture_output=True)
+        if run.returncode:
+            print(run.stdout[-3000:], run.stderr[-3000:])
+            sys.exit("lists %d to %d: the definition and the Rust differ, or the check could not be made" % (at, at + len(some)))
+        compared += len(some)
+        marks += sum(plain(tokens) for _, tokens in some)
+        print("%d lists: the Rust's texts, by the definition; %d bear the plain mark" % (compared, marks), flush=True)
+
+
+main()
