@@ -103,8 +103,8 @@ def antt_trivia(ts):
 def module(lists, texts):
     head = open(os.path.join(ROOT, "crates", "push_token", "proofs", "Cases.antt")).read()
     unfolding = next(line for line in head.split("\n") if line.startswith("unfolding "))
-    uses = "\n".join(line for line in head.split("\n") if line.startswith("use ")).replace("Rattle.push_token.specs", "Rattle.push_token.specs")
-    uses = uses.replace("Options.{Options, Allman}", "Options.{Options, SameLine, Allman}").replace("Token.{Token}", "Token.{Token, lineComment, docComment, blockComment, blankLine}")
+    uses = "\n".join(line for line in head.split("\n") if line.startswith("use ") and "rows.specs.Token" not in line and "rows.specs.Options" not in line)
+    uses = uses.replace("Rattle.push_token.specs", "Rattle.push_token.specs") + "\nuse Rattle.rows.specs.Options.{Options, SameLine, Allman}"
     theorems = []
     for n, ((options, tokens), text) in enumerate(zip(lists, texts)):
         token = "".join("token %d %s %s %s ∷ " % (k, antt_bytes(w), antt_trivia(lead), antt_trivia(trail)) for k, w, lead, trail in tokens)
@@ -112,7 +112,7 @@ def module(lists, texts):
         case = "lay (record { braceStyle = %s; indentWidth = %d; fnSigWidth = %d; listWidth = %d }) (%s[])" % ((style,) + options[1:] + (token,))
         theorems.append("same%d : %s ≡ laid %s %s\n%s\nsame%d = refl\n\n" % (n, case, antt_bytes(text), "true" if plain(tokens) else "false", unfolding, n))
     return uses + """
-use Rattle.rows.specs.Token.{Trivia}
+use Rattle.rows.specs.Token.{Trivia, lineComment, docComment, blockComment, blankLine, Token}
 
 record Laid : Type 0 where
   text : List ℕ

@@ -17,8 +17,8 @@ use Rattle.pieces.proofs.Written.{Written, written-gap}
 use Rattle.report.proofs.Logic.{impossible′, and-left}
 use Rattle.push_token.specs.Formatter.{Formatter, setFnState, setSigBreakDepth}
 use Rattle.push_token.specs.Act.{State, state, run}
-use Rattle.push_token.specs.Emit.{lineFeed, indentStr, onNewLine, indented, dedented, trailingTrivia, tokenGap}
-use Rattle.push_token.specs.Arms.{popped, trailing, openList, deeper, leftParenArm, leftBracketArm, shallower, rightParenArm, rightBracketArm, commaArm, elseArm, trackRecord, otherArm}
+use Rattle.push_token.specs.Emit.{lineFeed, indentStr, onNewLine, indented, dedented, tokenGap}
+use Rattle.push_token.specs.Arms.{popped, openList, deeper, leftParenArm, leftBracketArm, shallower, rightParenArm, rightBracketArm, commaArm, elseArm, trackRecord, otherArm}
 use Rattle.push_token.specs.Plain.{sameBytes, hasItsLexeme, mayMeet, noDotBehind}
 use Rattle.push_token.proofs.After.{After, chosen, inTurn, first, last}
 use Rattle.push_token.proofs.Beside.{Sound, lexeme-is}
@@ -42,11 +42,6 @@ or-second false b e = e
 
 or-first : (a b : Bool) → a ≡ true → a || b ≡ true
 or-first a b e = rw e
-
--- no trailing trivia are written
-pub trail : (P : State → Type 0) (t : Token) → t .trailing ≡ [] → (s : State) → P s → P (run (trailing t) s)
-unfolding trailingTrivia run
-trail P t e s p = rw e p
 
 still-pending : (a b p : Bool) → a || (b && p) ≡ true → a || p ≡ true
 still-pending true b p e = refl
@@ -142,28 +137,27 @@ module _ (o : Options) (t : Token) (xs : List (List ℕ)) (l : Option Token) (s 
         (λ b. open-list i (and-left _ _ b))
         (λ b. record { holds = going t xs (pushing (setSigBreakDepth (deeper (s .formatter .sigBreakDepth)) (s .formatter)) refl refl) }))
 
-    module _ (z : t .trailing ≡ []) where
-      -- the formatter behind the first update of the arm
-      abbrev inner : Formatter
-      inner = setSigBreakDepth (shallower (s .formatter .sigBreakDepth)) (s .formatter)
+    -- the formatter behind the first update of the arm
+    abbrev inner : Formatter
+    inner = setSigBreakDepth (shallower (s .formatter .sigBreakDepth)) (s .formatter)
 
-      pub right-paren-arm : t .kind ≡ RightParen → After (Arm xs t (s .formatter)) (rightParenArm o t) s
-      unfolding run rightParenArm hasItsLexeme class
-      right-paren-arm k =
-          first s (chosen
-          (λ b. record { holds = going t xs (closing 41 (t-is RightParen (41 ∷ []) k refl) refl RightParen k (onNewLine o (setSigBreakDepth none inner)) (line-gaps o (setSigBreakDepth none inner))) })
-          (λ b. chosen
-          (λ b. record { holds = going t xs (closing 41 (t-is RightParen (41 ∷ []) k refl) refl RightParen k (onNewLine o (dedented (popped inner))) (line-gaps o (dedented (popped inner)))) })
-          (λ b. record { holds = trail (Arm xs t (s .formatter)) t z _ (going t xs (pushing inner refl refl)) })))
+    pub right-paren-arm : t .kind ≡ RightParen → After (Arm xs t (s .formatter)) (rightParenArm o t) s
+    unfolding run rightParenArm hasItsLexeme class
+    right-paren-arm k =
+        first s (chosen
+        (λ b. record { holds = going t xs (closing 41 (t-is RightParen (41 ∷ []) k refl) refl RightParen k (onNewLine o (setSigBreakDepth none inner)) (line-gaps o (setSigBreakDepth none inner))) })
+        (λ b. chosen
+        (λ b. record { holds = going t xs (closing 41 (t-is RightParen (41 ∷ []) k refl) refl RightParen k (onNewLine o (dedented (popped inner))) (line-gaps o (dedented (popped inner)))) })
+        (λ b. record { holds = going t xs (pushing inner refl refl) })))
 
-      abbrev closed : Formatter
-      closed = dedented (popped (s .formatter))
+    abbrev closed : Formatter
+    closed = dedented (popped (s .formatter))
 
-      pub right-bracket-arm : t .kind ≡ RightBracket → After (Arm xs t (s .formatter)) (rightBracketArm o t) s
-      unfolding run rightBracketArm hasItsLexeme class
-      right-bracket-arm k =
-          chosen
-          (λ b. first s (inTurn (last (state closed (s .out) (s .commas)) (chosen
-          (λ b. record { holds = going t xs (closing 93 (t-is RightBracket (93 ∷ []) k refl) refl RightBracket k (onNewLine o closed) (line-gaps o closed)) })
-          (λ b. record { holds = going t xs (inserting 93 (t-is RightBracket (93 ∷ []) k refl) tt RightBracket k (onNewLine o closed) (line-gaps o closed)) })))))
-          (λ b. record { holds = trail (Arm xs t (s .formatter)) t z _ (going t xs (pushing (s .formatter) refl refl)) })
+    pub right-bracket-arm : t .kind ≡ RightBracket → After (Arm xs t (s .formatter)) (rightBracketArm o t) s
+    unfolding run rightBracketArm hasItsLexeme class
+    right-bracket-arm k =
+        chosen
+        (λ b. first s (inTurn (last (state closed (s .out) (s .commas)) (chosen
+        (λ b. record { holds = going t xs (closing 93 (t-is RightBracket (93 ∷ []) k refl) refl RightBracket k (onNewLine o closed) (line-gaps o closed)) })
+        (λ b. record { holds = going t xs (inserting 93 (t-is RightBracket (93 ∷ []) k refl) tt RightBracket k (onNewLine o closed) (line-gaps o closed)) })))))
+        (λ b. record { holds = going t xs (pushing (s .formatter) refl refl) })

@@ -24,7 +24,7 @@ use Rattle.push_token.specs.PlainScan.{Seen}
 use Rattle.push_token.proofs.After.{After, chosen, inTurn, first, last}
 use Rattle.push_token.proofs.Beside.{Sound, lexeme-is}
 use Rattle.push_token.proofs.Inv.{free, WroteBy, Wrote, Keeps, Kept, put-byte, close-gaps, line-gaps, space-gaps, feed, blank}
-use Rattle.push_token.proofs.Arms.{trail, closing, inserting}
+use Rattle.push_token.proofs.Arms.{closing, inserting}
 
 -- ---- the scan
 
@@ -130,14 +130,14 @@ module _ (o : Options) (t : Token) (k : t .kind ≡ LeftBrace) (xs : List (List 
   brace = lexeme-is (t .kind) LeftBrace (t .lexeme) (123 ∷ []) (τ .fixed) k refl
 
   -- `open_block_multiline` writes the brace, in a record or where no one-line block is open
-  open-block : (i : ℕ) (ts : List Token) (s : State) → Wrote xs l s → t .trailing ≡ [] → (0 < s .formatter .inlineDepth → (d : ℕ) × (s .formatter .inlineDepth ≤ d) × (singleLineFrom d ts ≡ true))
-      → (0 < s .formatter .inlineDepth → s .formatter .inRecord ≡ false → ⊥) → s .formatter .recordPending ≡ false → After (Opened xs t ts (s .formatter .skipNext)) (openBlock o i t) s
+  open-block : (i : ℕ) (ts : List Token) (s : State) → Wrote xs l s → (0 < s .formatter .inlineDepth → (d : ℕ) × (s .formatter .inlineDepth ≤ d) × (singleLineFrom d ts ≡ true))
+      → (0 < s .formatter .inlineDepth → s .formatter .inRecord ≡ false → ⊥) → s .formatter .recordPending ≡ false → After (Opened xs t ts (s .formatter .skipNext)) (openBlock o i) s
   unfolding run openBlockMultiline class
-  open-block i ts s ω z f g h =
+  open-block i ts s ω f g h =
       inTurn (chosen
       (λ b. record {
         holds = record {
-          holds = trail (Opened xs t ts (s .formatter .skipNext)) t z _ (record {
+          holds = record {
             wrote = record {
               left = clear;
               written = written-gap (put-byte (written-gap (ω .written) (onNewLine o (s .formatter)) (line-gaps o (s .formatter))) t τ 123 brace refl .written) lineFeed feed;
@@ -147,57 +147,57 @@ module _ (o : Options) (t : Token) (k : t .kind ≡ LeftBrace) (xs : List (List 
             start = λ n a. g n;
             pending = h;
             skip = refl;
-          });
+          };
         };
       })
       (λ b. record {
         holds = record {
-          holds = trail (Opened xs t ts (s .formatter .skipNext)) t z _ (record {
+          holds = record {
             wrote = closing o t xs l s ω τ 123 brace refl LeftBrace k space blank;
             block = f;
             start = λ n a. impossible′ a;
             pending = h;
             skip = refl;
-          });
+          };
         };
       }))
 
-  pub left-brace-arm : (i : ℕ) (ts : List Token) (q : Seen) (s : State) → Wrote xs l s → Kept q (t ∷ ts) (s .formatter) → t .trailing ≡ [] → q .comma ≡ false → (q .armed ≡ true → nextIs RightBrace ts ≡ false)
+  pub left-brace-arm : (i : ℕ) (ts : List Token) (q : Seen) (s : State) → Wrote xs l s → Kept q (t ∷ ts) (s .formatter) → q .comma ≡ false → (q .armed ≡ true → nextIs RightBrace ts ≡ false)
       → After (Opened xs t ts (s .formatter .skipNext)) (leftBraceArm o i t ts) s
   unfolding run leftBraceArm class
-  left-brace-arm i ts q s ω κ z unc unr =
+  left-brace-arm i ts q s ω κ unc unr =
       let deeper : 0 < s .formatter .inlineDepth → (d : ℕ) × (s .formatter .inlineDepth ≤ d) × (singleLineFrom d ts ≡ true) =
       λ n. let r = κ .block n in (r .0 + 1, omega (arith, r .1), scan-open (r .0) t ts (r .2) k) in
       chosen
       (λ p. chosen
       (λ b. not-both (nextIs RightBrace ts) b (unr (κ .armed p)))
-      (λ b. first s (open-block i ts (state (setRecordDepth 1 (setInRecord true (setRecordPending false (s .formatter)))) (s .out) (s .commas)) ω z deeper (λ n f. impossible f) refl)))
+      (λ b. first s (open-block i ts (state (setRecordDepth 1 (setInRecord true (setRecordPending false (s .formatter)))) (s .out) (s .commas)) ω deeper (λ n f. impossible f) refl)))
       (λ p. chosen
-      (λ b. first s (open-block i ts (state (setRecordDepth (s .formatter .recordDepth + 1) (s .formatter)) (s .out) (s .commas)) ω z deeper (λ n f. not-both (s .formatter .inRecord) b f) p))
+      (λ b. first s (open-block i ts (state (setRecordDepth (s .formatter .recordDepth + 1) (s .formatter)) (s .out) (s .commas)) ω deeper (λ n f. not-both (s .formatter .inRecord) b f) p))
       (λ b. chosen
       (λ n. let pos : 0 < s .formatter .inlineDepth = ltb-true 0 (s .formatter .inlineDepth) n in
       inTurn (chosen
       (λ a. not-both (q .comma) (κ .start pos a b) unc)
       (λ a. record {
         holds = record {
-          holds = trail (Opened xs t ts (s .formatter .skipNext)) t z _ (record {
+          holds = record {
             wrote = closing o t xs l s ω τ 123 brace refl LeftBrace k space blank;
             block = λ m. let r = κ .block pos in (r .0 + 1, omega (arith, r .1), scan-open (r .0) t ts (r .2) k);
             start = λ m f g. impossible′ f;
             pending = p;
             skip = refl;
-          });
+          };
         };
       })))
       (λ n. let nil : s .formatter .inlineDepth ≤ 0 = ltb-false 0 (s .formatter .inlineDepth) n in
       chosen
       (λ e. record {
-        holds = trail (Opened xs t ts (s .formatter .skipNext)) t z _ (record {
+        holds = record {
           wrote = closing o t xs l s ω τ 123 brace refl LeftBrace k (indentOrSpace o (s .formatter)) (space-gaps o (s .formatter));
           block = λ m. (1, omega arith, scan-open 0 t ts e k);
           start = λ m f g. impossible′ f;
           pending = p;
           skip = refl;
-        });
+        };
       })
-      (λ e. open-block i ts s ω z (λ m. absurd (omega arith)) (λ m f. omega arith) p))))
+      (λ e. open-block i ts s ω (λ m. absurd (omega arith)) (λ m f. omega arith) p))))

@@ -15,16 +15,16 @@ use Rattle.pieces.proofs.Whole.{clear}
 use Rattle.pieces.proofs.Written.{written-gap}
 use Rattle.report.proofs.Logic.{impossible, impossible′, and-left, and-right, or-cases, split}
 use Rattle.push_token.specs.Formatter.{Formatter}
-use Rattle.push_token.specs.Act.{State, state, Act, run, _⨾_}
-use Rattle.push_token.specs.Emit.{isSome, lineFeed, leadingTrivia}
-use Rattle.push_token.specs.Arms.{trailing, nextIs, newlineArm}
+use Rattle.push_token.specs.Act.{State, state, Act, run, update, _⨾_, nothing, if}
+use Rattle.push_token.specs.Emit.{isSome, lineFeed, trackFnState, leadingTrivia, trailingTrivia}
+use Rattle.push_token.specs.Arms.{nextIs, newlineArm}
 use Rattle.push_token.specs.PushToken.{takeInlineClose, arm, pushToken, turn}
 use Rattle.push_token.specs.Plain.{isMute, readsWhole, mayMeet, noDotBehind, clause₁, clause₂, clause₃, clause₄, clause₅, clause₆, clause₇}
 use Rattle.push_token.specs.PlainScan.{Seen, see, fits}
 use Rattle.push_token.proofs.After.{After, chosen, inTurn, first, last, implied}
 use Rattle.push_token.proofs.Beside.{Sound}
 use Rattle.push_token.proofs.Inv.{free, WroteBy, Wrote, Keeps, Kept, Inv, feed}
-use Rattle.push_token.proofs.Arms.{Arm, trail, other-arm, else-arm, comma-arm, left-bracket-arm, left-paren-arm, right-paren-arm, right-bracket-arm}
+use Rattle.push_token.proofs.Arms.{Arm, other-arm, else-arm, comma-arm, left-bracket-arm, left-paren-arm, right-paren-arm, right-bracket-arm}
 use Rattle.push_token.proofs.Braces.{Closed, Opened, right-brace-arm, left-brace-arm, scan-mute, scan-other, scan-close}
 
 -- ---- what the plain mark says of a token
@@ -187,18 +187,16 @@ at-eof t e = let k : t .kind ≡ Eof = eqb-true (t .kind) Eof e in (rw k, rw k)
 at-newline : (t : Token) → eqb (t .kind) Newline ≡ true → (isMute t ≡ true) × (eqb (t .kind) LeftBrace ≡ false)
 at-newline t e = let k : t .kind ≡ Newline = eqb-true (t .kind) Newline e in (rw k, rw k)
 
-trailed : {P : State → Type 0} {a : Act} {s : State} (t : Token) → t .trailing ≡ [] → After P a s → After P (a ⨾ trailing t) s
-unfolding run
-trailed {P} {a} {s} t z p = record { holds = trail P t z (run a s) (p .holds) }
+-- no trailing trivia are written
+trailed : {P : State → Type 0} {s : State} (t : Token) → t .trailing ≡ [] → P s → After P (trailingTrivia (t .trailing)) s
+unfolding run trailingTrivia
+trailed t z p = record { holds = rw z p }
 
 led : {P : State → Type 0} {a : Act} {s : State} (o : Options) (t : Token) → t .leading ≡ [] → After P a s → After P (leadingTrivia o (t .leading) ⨾ a) s
 unfolding run leadingTrivia
 led o t z p = record { holds = rw z (p .holds) }
 
 module _ (o : Options) (i : ℕ) (q : Seen) (t : Token) (ts : List Token) (φ : fits q t ts ≡ true) (xs : List (List ℕ)) (s : State) (ω : Wrote xs (q .last) s) (κ : Kept q (t ∷ ts) (s .formatter)) where
-  z : t .trailing ≡ []
-  z = no-trailing q t ts φ
-
   mute-next : isMute t ≡ true → eqb (t .kind) LeftBrace ≡ false → (s′ : State) → Muted xs (q .last) (s .formatter) s′ → Next q t ts xs s′
   mute-next m two s′ μ d = (still q t xs m (μ .wrote), kept-mute q t ts (s .formatter) κ m two (μ .inline) (μ .pending) (μ .skip))
 
@@ -228,18 +226,19 @@ module _ (o : Options) (i : ℕ) (q : Seen) (t : Token) (ts : List Token) (φ : 
   l = q .last
 
   arms : After (Next q t ts xs) (arm o i t ts) s
+  unfolding run
   arms =
-      chosen (λ e. record { holds = trail (Next q t ts xs) t z s (mute-next (at-eof t e .0) (at-eof t e .1) s (passed xs l s ω ω)) })
-      (λ n₀. chosen (λ e. trailed t z (implied (mute-next (at-newline t e .0) (at-newline t e .1)) (newline-arm xs l s ω i ts)))
-      (λ n₁. chosen (λ e. let k = eqb-true (t .kind) RightBrace e in trailed t z (implied (closed-next n₀ n₁ k) (right-brace-arm o t xs l s ω (τ n₀ n₁) k)))
-      (λ n₃. chosen (λ e. let k = eqb-true (t .kind) LeftBrace e in implied (opened-next n₀ n₁) (left-brace-arm o t k xs l (τ n₀ n₁) i ts q s ω κ z (no-comma q t ts φ k) (no-empty q t ts φ k)))
-      (λ n₂. chosen (λ e. trailed t z (implied (arm-next n₀ n₁ n₂ n₃) (left-paren-arm o t xs l s ω (τ n₀ n₁) (μ n₀ n₁) (δ n₀ n₁) i ts (eqb-true (t .kind) LeftParen e))))
-      (λ n₄. chosen (λ e. trailed t z (implied (arm-next n₀ n₁ n₂ n₃) (left-bracket-arm o t xs l s ω (τ n₀ n₁) (μ n₀ n₁) (δ n₀ n₁) i ts)))
-      (λ n₆. chosen (λ e. implied (arm-next n₀ n₁ n₂ n₃) (right-paren-arm o t xs l s ω (τ n₀ n₁) (μ n₀ n₁) (δ n₀ n₁) z (eqb-true (t .kind) RightParen e)))
-      (λ n₅. chosen (λ e. implied (arm-next n₀ n₁ n₂ n₃) (right-bracket-arm o t xs l s ω (τ n₀ n₁) (μ n₀ n₁) (δ n₀ n₁) z (eqb-true (t .kind) RightBracket e)))
-      (λ n₇. chosen (λ e. trailed t z (implied (arm-next n₀ n₁ n₂ n₃) (comma-arm o t xs l s ω (τ n₀ n₁) (μ n₀ n₁) (δ n₀ n₁) i (eqb-true (t .kind) Comma e))))
-      (λ n₈. chosen (λ e. trailed t z (implied (arm-next n₀ n₁ n₂ n₃) (else-arm o t xs l s ω (τ n₀ n₁) (μ n₀ n₁) (δ n₀ n₁) (eqb-true (t .kind) Else e))))
-      (λ n₉. trailed t z (implied (arm-next n₀ n₁ n₂ n₃) (other-arm o t xs l s ω (τ n₀ n₁) (μ n₀ n₁) (δ n₀ n₁)))))))))))))
+      chosen (λ e. record { holds = mute-next (at-eof t e .0) (at-eof t e .1) s (passed xs l s ω ω) })
+      (λ n₀. chosen (λ e. implied (mute-next (at-newline t e .0) (at-newline t e .1)) (newline-arm xs l s ω i ts))
+      (λ n₁. chosen (λ e. let k = eqb-true (t .kind) RightBrace e in implied (closed-next n₀ n₁ k) (right-brace-arm o t xs l s ω (τ n₀ n₁) k))
+      (λ n₃. chosen (λ e. let k = eqb-true (t .kind) LeftBrace e in implied (opened-next n₀ n₁) (left-brace-arm o t k xs l (τ n₀ n₁) i ts q s ω κ (no-comma q t ts φ k) (no-empty q t ts φ k)))
+      (λ n₂. chosen (λ e. implied (arm-next n₀ n₁ n₂ n₃) (left-paren-arm o t xs l s ω (τ n₀ n₁) (μ n₀ n₁) (δ n₀ n₁) i ts (eqb-true (t .kind) LeftParen e)))
+      (λ n₄. chosen (λ e. implied (arm-next n₀ n₁ n₂ n₃) (left-bracket-arm o t xs l s ω (τ n₀ n₁) (μ n₀ n₁) (δ n₀ n₁) i ts))
+      (λ n₆. chosen (λ e. implied (arm-next n₀ n₁ n₂ n₃) (right-paren-arm o t xs l s ω (τ n₀ n₁) (μ n₀ n₁) (δ n₀ n₁) (eqb-true (t .kind) RightParen e)))
+      (λ n₅. chosen (λ e. implied (arm-next n₀ n₁ n₂ n₃) (right-bracket-arm o t xs l s ω (τ n₀ n₁) (μ n₀ n₁) (δ n₀ n₁) (eqb-true (t .kind) RightBracket e)))
+      (λ n₇. chosen (λ e. implied (arm-next n₀ n₁ n₂ n₃) (comma-arm o t xs l s ω (τ n₀ n₁) (μ n₀ n₁) (δ n₀ n₁) i (eqb-true (t .kind) Comma e)))
+      (λ n₈. chosen (λ e. implied (arm-next n₀ n₁ n₂ n₃) (else-arm o t xs l s ω (τ n₀ n₁) (μ n₀ n₁) (δ n₀ n₁) (eqb-true (t .kind) Else e)))
+      (λ n₉. implied (arm-next n₀ n₁ n₂ n₃) (other-arm o t xs l s ω (τ n₀ n₁) (μ n₀ n₁) (δ n₀ n₁))))))))))))
 
 refusing : {C : Type 0} {i : ℕ} → some i ≡ none → C
 refusing e = let y : _≡_ {A = ℕ} 0 1 = cc in absurd (omega arith)
@@ -251,12 +250,17 @@ module _ (o : Options) (i : ℕ) (q : Seen) (t : Token) (ts : List Token) (φ : 
   abbrev taken : State
   taken = state (takeInlineClose (isEmpty (t .leading)) (s .formatter)) (s .out) (s .commas)
 
+  -- behind the arm: the trailing trivia, if the arm did not return, and the state of `fn`
+  tracked : (s′ : State) → Next q t ts xs s′ → After (Next q t ts xs) (if (λ f. f .returned) nothing (trailingTrivia (t .trailing)) ⨾ update (trackFnState (t .kind))) s′
+  unfolding run
+  tracked s′ n = inTurn (last s′ (chosen (λ b. record { holds = n }) (λ b. trailed t (no-trailing q t ts φ) n)))
+
   push-token-keeps : After (Next q t ts xs) (pushToken o i t ts) s
   unfolding run
   push-token-keeps =
       led o t (no-leading q t ts φ) (first s (chosen
       (λ b. record { holds = λ e. refusing e })
-      (λ b. inTurn (last taken (arms o i q t ts φ xs taken ω κ)))))
+      (λ b. inTurn (implied tracked (arms o i q t ts φ xs taken ω κ)))))
 
   pub turn-keeps : After (Next q t ts xs) (turn o i t ts) s
   unfolding run

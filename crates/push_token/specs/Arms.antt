@@ -1,5 +1,5 @@
 -- The arms of `push_token`, each an act, in the order of format.rs.
--- An arm that returns early has no trailing trivia; each other arm is followed by `trailingTrivia` in PushToken.antt, or has it inside where only a part of it returns early.
+-- Where the Rust returns from an arm, `returned` is set, and no trailing trivia are written.
 -- Assumes nothing.
 use mathlib.Core.Bool.{Bool, true, false, cond, not, _&&_, _||_}
 use mathlib.Core.List.{List, [], _∷_, _++_}
@@ -10,9 +10,9 @@ use Rattle.rows.specs.Kinds.{Newline, LeftBrace, RightBrace, LeftParen, RightPa
 use Rattle.rows.specs.Options.{Options}
 use Rattle.rows.specs.Token.{Token}
 use Rattle.lookahead.specs.Measure.{nextHasComment, blockIsSingleLine, shouldBreakSig, shouldBreakList}
-use Rattle.push_token.specs.Formatter.{Formatter, setAtLineStart, setPrev, setInlineDepth, setFnState, setSigBreakDepth, setRecordPending, setInRecord, setRecordDepth, setJustClosedInline, setSuppressNewlineAt, setGroupDepth, setBreakStack, setSkipNext}
+use Rattle.push_token.specs.Formatter.{Formatter, setAtLineStart, setPrev, setInlineDepth, setFnState, setSigBreakDepth, setRecordPending, setInRecord, setRecordDepth, setJustClosedInline, setSuppressNewlineAt, setGroupDepth, setBreakStack, setReturned, setSkipNext}
 use Rattle.push_token.specs.Act.{Act, update, gap, lexeme, insert, _⨾_, choose, nothing, if}
-use Rattle.push_token.specs.Emit.{isAt, prevIs, lineFeed, space, indentStr, indentOrSpace, onNewLine, endedBy, lineBegun, indented, dedented, trailingTrivia, openBlockMultiline, pushLexeme, emitTokenText}
+use Rattle.push_token.specs.Emit.{isAt, prevIs, lineFeed, space, indentStr, indentOrSpace, onNewLine, endedBy, lineBegun, indented, dedented, openBlockMultiline, pushLexeme, emitTokenText}
 
 -- ---- tests that several arms make
 
@@ -48,9 +48,6 @@ popped f = setBreakStack (rest (f .breakStack)) f
 
 abbrev pub pushed : Formatter → Formatter
 pushed f = setBreakStack (f .groupDepth ∷ f .breakStack) f
-
-abbrev pub trailing : Token → Act
-trailing t = trailingTrivia (t .trailing)
 
 -- ---- Newline
 
@@ -104,24 +101,24 @@ abbrev pub nextIs : ℕ → List Token → Bool
 nextIs k [] = false
 nextIs k (t ∷ ts) = eqb (t .kind) k
 
--- `record E {}`: the lexeme and `{}`, and the `}` behind it is taken along. Returns early
+-- `record E {}`: the lexeme and `{}`, and the `}` behind it is taken along
 unfoldable pub emptyRecord : Options → Token → Act
-emptyRecord o t = pushLexeme o t ⨾ lexeme (123 ∷ 125 ∷ []) ⨾ update (λ f. setSkipNext true (setRecordPending false (setPrev (some RightBrace) f)))
+emptyRecord o t = pushLexeme o t ⨾ lexeme (123 ∷ 125 ∷ []) ⨾ update (λ f. setSkipNext true (setReturned true (setRecordPending false (setPrev (some RightBrace) f))))
 
 -- a block over several lines, in a record or not
-abbrev pub openBlock : Options → ℕ → Token → Act
-openBlock o i t = openBlockMultiline o i ⨾ update (setPrev (some LeftBrace)) ⨾ trailing t
+abbrev pub openBlock : Options → ℕ → Act
+openBlock o i = openBlockMultiline o i ⨾ update (setPrev (some LeftBrace))
 
 unfoldable pub leftBraceArm : Options → ℕ → Token → List Token → Act
 leftBraceArm o i t ts =
     if (λ f. f .recordPending)
     (if (λ f. nextIs RightBrace ts) (emptyRecord o t)
-    (update (λ f. setRecordDepth 1 (setInRecord true (setRecordPending false f))) ⨾ openBlock o i t))
-    (if (λ f. f .inRecord) (update (λ f. setRecordDepth (f .recordDepth + 1) f) ⨾ openBlock o i t)
+    (update (λ f. setRecordDepth 1 (setInRecord true (setRecordPending false f))) ⨾ openBlock o i))
+    (if (λ f. f .inRecord) (update (λ f. setRecordDepth (f .recordDepth + 1) f) ⨾ openBlock o i)
     (if inOneLineBlock
-    (if (λ f. f .atLineStart) (gap (indentStr o)) (gap (λ f. space) ⨾ lexeme (123 ∷ [])) ⨾ update (λ f. endedBy LeftBrace (setInlineDepth (f .inlineDepth + 1) f)) ⨾ trailing t)
-    (if (λ f. blockIsSingleLine (t ∷ ts)) (gap (indentOrSpace o) ⨾ lexeme (123 ∷ []) ⨾ update (λ f. endedBy LeftBrace (setInlineDepth 1 f)) ⨾ trailing t)
-    (openBlock o i t))))
+    (if (λ f. f .atLineStart) (gap (indentStr o)) (gap (λ f. space) ⨾ lexeme (123 ∷ [])) ⨾ update (λ f. endedBy LeftBrace (setInlineDepth (f .inlineDepth + 1) f)))
+    (if (λ f. blockIsSingleLine (t ∷ ts)) (gap (indentOrSpace o) ⨾ lexeme (123 ∷ []) ⨾ update (λ f. endedBy LeftBrace (setInlineDepth 1 f)))
+    (openBlock o i))))
 
 -- ---- LeftParen and LeftBracket
 
@@ -160,33 +157,33 @@ abbrev pub shallower : Option ℕ → Option ℕ
 shallower none = none
 shallower (some d) = some (d - 1)
 
--- the signature's `)`: the indent goes after it. Returns early
+-- the signature's `)`: the indent goes after it
 abbrev pub closeSignature : Options → Act
 closeSignature o =
-    update (setSigBreakDepth none) ⨾ gap (onNewLine o) ⨾ lexeme (41 ∷ []) ⨾ update (λ f. endedBy RightParen (groupClosed (dedented f)))
+    update (setSigBreakDepth none) ⨾ gap (onNewLine o) ⨾ lexeme (41 ∷ []) ⨾ update (λ f. setReturned true (endedBy RightParen (groupClosed (dedented f))))
 
--- a broken list's `)`: no comma. Returns early
+-- a broken list's `)`: no comma
 abbrev pub closeCall : Options → Act
-closeCall o = update (λ f. dedented (popped f)) ⨾ gap (onNewLine o) ⨾ lexeme (41 ∷ []) ⨾ update (λ f. endedBy RightParen (groupClosed f))
+closeCall o = update (λ f. dedented (popped f)) ⨾ gap (onNewLine o) ⨾ lexeme (41 ∷ []) ⨾ update (λ f. setReturned true (endedBy RightParen (groupClosed f)))
 
 unfoldable pub rightParenArm : Options → Token → Act
 rightParenArm o t =
     update (λ f. setSigBreakDepth (shallower (f .sigBreakDepth)) f)
     ⨾ if (λ f. isAt (f .sigBreakDepth) 0) (closeSignature o)
     (if inBrokenList (closeCall o)
-    (pushLexeme o t ⨾ update groupClosed ⨾ trailing t))
+    (pushLexeme o t ⨾ update groupClosed))
 
 -- ---- RightBracket
 
--- a broken list's `]`: a comma, unless the last kind is Comma. Returns early
+-- a broken list's `]`: a comma, unless the last kind is Comma
 abbrev pub closeArray : Options → Act
 closeArray o =
     update (λ f. dedented (popped f))
     ⨾ if (prevIs Comma) (gap (onNewLine o) ⨾ lexeme (93 ∷ [])) (insert (onNewLine o) (93 ∷ []))
-    ⨾ update (λ f. endedBy RightBracket (groupClosed f))
+    ⨾ update (λ f. setReturned true (endedBy RightBracket (groupClosed f)))
 
 unfoldable pub rightBracketArm : Options → Token → Act
-rightBracketArm o t = if inBrokenList (closeArray o) (pushLexeme o t ⨾ update groupClosed ⨾ trailing t)
+rightBracketArm o t = if inBrokenList (closeArray o) (pushLexeme o t ⨾ update groupClosed)
 
 -- ---- Comma
 

@@ -10,29 +10,29 @@ use Rattle.rows.specs.Kinds.{Eof, Newline, LeftBrace, RightBrace, LeftParen, Ri
 use Rattle.rows.specs.Options.{Options}
 use Rattle.rows.specs.Token.{Token}
 use Rattle.lookahead.specs.Measure.{isEmpty}
-use Rattle.push_token.specs.Formatter.{Formatter, new, setJustClosedInline, setInlineClose, setSkipNext, setTooDeep}
+use Rattle.push_token.specs.Formatter.{Formatter, new, setJustClosedInline, setInlineClose, setReturned, setSkipNext, setTooDeep}
 use Rattle.push_token.specs.Act.{State, state, Act, run, update, _⨾_, nothing, if}
-use Rattle.push_token.specs.Emit.{isSome, trackFnState, leadingTrivia}
-use Rattle.push_token.specs.Arms.{trailing, newlineArm, rightBraceArm, leftBraceArm, breaksList, atSignature, leftParenArm, leftBracketArm, rightParenArm, rightBracketArm, commaArm, elseArm, otherArm}
+use Rattle.push_token.specs.Emit.{isSome, trackFnState, leadingTrivia, trailingTrivia}
+use Rattle.push_token.specs.Arms.{newlineArm, rightBraceArm, leftBraceArm, breaksList, atSignature, leftParenArm, leftBracketArm, rightParenArm, rightBracketArm, commaArm, elseArm, otherArm}
 
--- the arm of the token's kind, with its trailing trivia
+-- the arm of the token's kind
 abbrev pub arm : Options → ℕ → Token → List Token → Act
 arm o i t ts =
-    if (λ f. eqb (t .kind) Eof) (trailing t)
-    (if (λ f. eqb (t .kind) Newline) (newlineArm i ts ⨾ trailing t)
-    (if (λ f. eqb (t .kind) RightBrace) (rightBraceArm o ⨾ trailing t)
+    if (λ f. eqb (t .kind) Eof) nothing
+    (if (λ f. eqb (t .kind) Newline) (newlineArm i ts)
+    (if (λ f. eqb (t .kind) RightBrace) (rightBraceArm o)
     (if (λ f. eqb (t .kind) LeftBrace) (leftBraceArm o i t ts)
-    (if (λ f. eqb (t .kind) LeftParen) (leftParenArm o i t ts ⨾ trailing t)
-    (if (λ f. eqb (t .kind) LeftBracket) (leftBracketArm o i t ts ⨾ trailing t)
+    (if (λ f. eqb (t .kind) LeftParen) (leftParenArm o i t ts)
+    (if (λ f. eqb (t .kind) LeftBracket) (leftBracketArm o i t ts)
     (if (λ f. eqb (t .kind) RightParen) (rightParenArm o t)
     (if (λ f. eqb (t .kind) RightBracket) (rightBracketArm o t)
-    (if (λ f. eqb (t .kind) Comma) (commaArm o i t ⨾ trailing t)
-    (if (λ f. eqb (t .kind) Else) (elseArm o t ⨾ trailing t)
-    (otherArm o t ⨾ trailing t))))))))))
+    (if (λ f. eqb (t .kind) Comma) (commaArm o i t)
+    (if (λ f. eqb (t .kind) Else) (elseArm o t)
+    (otherArm o t))))))))))
 
--- `let inline_close = !saw_trivia && std::mem::take(..)`: where trivia was seen the mark stays
+-- before the arm: `let inline_close = !saw_trivia && std::mem::take(..)`; where trivia was seen the mark stays
 abbrev pub takeInlineClose : Bool → Formatter → Formatter
-takeInlineClose bare f = setInlineClose (bare && f .justClosedInline) (setJustClosedInline (not bare && f .justClosedInline) f)
+takeInlineClose bare f = setReturned false (setInlineClose (bare && f .justClosedInline) (setJustClosedInline (not bare && f .justClosedInline) f))
 
 -- Refusal 4: the broken-group stack is full, and the token would open one more broken list.
 abbrev pub overflows : Options → Token → List Token → Formatter → Bool
@@ -44,7 +44,8 @@ overflows o t ts f =
 abbrev pub pushToken : Options → ℕ → Token → List Token → Act
 pushToken o i t ts =
     leadingTrivia o (t .leading) ⨾ update (takeInlineClose (isEmpty (t .leading)))
-    ⨾ if (overflows o t ts) (update (setTooDeep (some i))) (arm o i t ts ⨾ update (trackFnState (t .kind)))
+    ⨾ if (overflows o t ts) (update (setTooDeep (some i)))
+    (arm o i t ts ⨾ if (λ f. f .returned) nothing (trailingTrivia (t .trailing)) ⨾ update (trackFnState (t .kind)))
 
 -- a token of the walk: nothing after a refusal, and nothing for one that was taken along
 abbrev pub turn : Options → ℕ → Token → List Token → Act
