@@ -7,6 +7,15 @@ use lib.Dec.{eqb}
 use lib.ListN.{length, replicate}
 
 -- The refusals' numbers, under the table's names.
+abbrev pub option : ℕ
+option = 1
+
+abbrev pub raggedRows : ℕ
+raggedRows = 2
+
+abbrev pub badRow : ℕ
+badRow = 3
+
 abbrev pub unreadable : ℕ
 unreadable = 9
 
