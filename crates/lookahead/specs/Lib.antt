@@ -1,2 +1,4 @@
 pub mod Space
 pub mod Measure
+pub mod Answer
+pub mod Sets
