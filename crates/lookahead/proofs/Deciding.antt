@@ -1,5 +1,5 @@
 -- The loop of `decide`: commas and width only grow, so it may stop once they are enough. Assumes nothing.
-use mathlib.Core.Bool.{Bool, true, false, _&&_, _||_}
+use mathlib.Core.Bool.{Bool, true, false, _&&_, or-true}
 use mathlib.Core.List.{List, [], _∷_}
 use mathlib.Core.Path.{_≡_, refl, sym, ap, _∙_}
 use Prim.Native.Nat.{ℕ, _+_, _-_, _≤_, _<_}
@@ -37,10 +37,6 @@ grows span m (r ∷ rs) =
 
 above : (n a b : ℕ) → ltb n a ≡ true → a ≤ b → ltb n b ≡ true
 above n a b e h = lt-ltb n b (let l = ltb-true n a e in omega arith)
-
-or-true : (a : Bool) → a || true ≡ true
-or-true true = refl
-or-true false = refl
 
 breaks-more : (span : Span) (limit c w c′ w′ : ℕ) → breaks span limit c w ≡ true → c ≤ c′ → w ≤ w′ → breaks span limit c′ w′ ≡ true
 breaks-more Signature limit c w c′ w′ e hc hw = or-cases (ltb 2 c) (ltb limit w) e (λ f. rw (above 2 c c′ f hc)) (λ f. rw (above limit w w′ f hw) (or-true (ltb 2 c′)))

@@ -1,5 +1,5 @@
 -- The loops that look for one row: `opens_paren`, `next_has_comment` and `block_is_single_line`. Assumes nothing.
-use mathlib.Core.Bool.{Bool, true, false, _||_}
+use mathlib.Core.Bool.{Bool, true, false, or-true, or-false}
 use mathlib.Core.List.{List, [], _∷_}
 use mathlib.Core.Path.{_≡_, refl, sym, ap, _∙_}
 use Prim.Native.Nat.{ℕ, _+_, _-_, _≤_, _<_}
@@ -52,14 +52,6 @@ module _ {rows : List ℕ} {answer : Bool} {at : ℕ} (α : Ahead rows answer op
   opens-none h = no-row opensParenRows α refl h
 
 -- ---- `next_has_comment`
-
-or-true : (x : Bool) → x || true ≡ true
-or-true true = refl
-or-true false = refl
-
-or-false : (x : Bool) → x || false ≡ x
-or-false true = refl
-or-false false = refl
 
 pub comment-start : (rows : List ℕ) → Ahead rows (commentAhead false (rowsOf rows)) (commentAhead false) 0
 comment-start rows = record { within = omega arith; left = refl }

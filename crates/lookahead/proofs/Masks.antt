@@ -1,5 +1,5 @@
 -- The masks in the code are the sets of kinds of format.rs: each by one test, computed at every kind below 64. Assumes nothing.
-use mathlib.Core.Bool.{Bool, true, false, not, _&&_, _||_, Bool·beq}
+use mathlib.Core.Bool.{Bool, true, false, not, _&&_, Bool·beq, or-true, or-false}
 use mathlib.Core.List.{List, [], _∷_}
 use mathlib.Core.Path.{_≡_, refl, sym, _∙_}
 use Prim.Native.Nat.{ℕ, _≤_}
@@ -53,18 +53,6 @@ value-mask = mask-is 0x3fc0_00a0 (Identifier ∷ NumberLiteral ∷ ByteLiteral �
 
 -- ---- `space_between`, by the tests that its code makes
 
-or-true : (x y z w : Bool) → false ≡ not (x || true || y || z || w)
-or-true true y z w = refl
-or-true false y z w = refl
-
-or-false : (x : Bool) → not x ≡ not (x || false)
-or-false true = refl
-or-false false = refl
-
-or-false-false : (x : Bool) → not x ≡ not (x || false || false)
-or-false-false true = refl
-or-false-false false = refl
-
 module _ {r : Bool} (p k : ℕ) (e : r ≡ member 0x3_f050 p) where
   tight : {b : Bool} → r ≡ b → noSpaceAfter p ≡ b
   tight h = sym (after-mask p) ∙ sym e ∙ h
@@ -73,14 +61,14 @@ module _ {r : Bool} (p k : ℕ) (e : r ≡ member 0x3_f050 p) where
   none-after h = rw (tight h)
 
   pub none-before : {s : Bool} → s ≡ member 0x7fa0 k → s ≡ true → false ≡ needsSpace p k
-  none-before f h = rw (sym (before-mask k) ∙ sym f ∙ h) (or-true (noSpaceAfter p) _ _ _)
+  none-before f h = rw (sym (before-mask k) ∙ sym f ∙ h) (simp or-true)
 
   module _ (h : r ≡ false) where
     pub before-brace : k ≡ RightBrace → not (eqb p LeftBrace) ≡ needsSpace p k
-    before-brace g = rw (g, tight h) (or-false-false (eqb p LeftBrace))
+    before-brace g = rw (g, tight h) (simp or-false)
 
     pub before-paren : {s : Bool} → k ≡ LeftParen → s ≡ member 0x40_00a0 p → not s ≡ needsSpace p k
-    before-paren g f = rw (f, called-mask p, g, tight h) (or-false (oneOf called p))
+    before-paren g f = rw (f, called-mask p, g, tight h) (simp or-false)
 
     pub before-bracket : {s : Bool} → k ≡ LeftBracket → s ≡ member 0x3_c040_00a0 p → not s ≡ needsSpace p k
     before-bracket g f = rw (f, indexed-mask p, g, tight h)

@@ -1,5 +1,5 @@
 -- What the measures and decisions over rows say of the tokens that the rows name. Assumes nothing.
-use mathlib.Core.Bool.{Bool, true, false, _&&_, _||_}
+use mathlib.Core.Bool.{Bool, true, false, _&&_, _||_, and-true}
 use mathlib.Core.List.{List, [], _∷_}
 use mathlib.Core.Path.{_≡_, refl, sym, ap, _∙_}
 use Prim.Native.Nat.{ℕ, _+_, _-_}
@@ -34,14 +34,6 @@ seen-rows span m (r ∷ rs) σ =
     (λ f. rw f (seen-rows span (counts span m (r .kind) (r .end - r .start)) rs
     (record { saw = sym (lt-ltb 0 (m .width + (r .end - r .start + 1)) (omega arith)); none = λ z. absurd (omega arith) })))))
     (λ e. rw e (seen-rows span m rs σ))
-
-and-true : (x : Bool) → x && true ≡ x
-and-true true = refl
-and-true false = refl
-
-and-false : (x : Bool) → x && false ≡ false
-and-false true = refl
-and-false false = refl
 
 -- more than 3 params are more than 2 commas
 one-more : (n c : ℕ) → ltb (n + 1) (c + 1) ≡ ltb n c

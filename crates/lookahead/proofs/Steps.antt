@@ -1,6 +1,6 @@
 -- The tests and the step that the measures share. Assumes nothing.
-use mathlib.Core.Bool.{Bool, true, false, _||_}
-use mathlib.Core.Path.{_≡_, refl, sym, _∙_}
+use mathlib.Core.Bool.{Bool, true, false, or-false}
+use mathlib.Core.Path.{_≡_, sym, _∙_}
 use Prim.Native.Nat.{ℕ, _+_, _-_, _≤_, _<_}
 use native.Mathlib.Omega.{arith}
 use lib.Dec.{eqb, leb, ltb}
@@ -19,10 +19,6 @@ last d =
     (λ e. let h = leb-true d 1 e in e ∙ sym (eq-eqb (d - 1) 0 (omega arith)))
     (λ e. let h = leb-false d 1 e in e ∙ sym (ne-eqb (d - 1) 0 (λ q. omega arith)))
 
-or-false : (x : Bool) → x ≡ x || false
-or-false true = refl
-or-false false = refl
-
 module _ (p b k : ℕ) where
   pub stops-eof : (s : Span) → k ≡ Eof → true ≡ stopsAt s p b k
   stops-eof Signature e = rw e
@@ -40,19 +36,19 @@ module _ (p b k : ℕ) where
     bracket-other m = rw (ne-eqb k RightBracket m, ne-eqb k Eof n)
 
   pub sig-closer : k ≡ RightParen → leb p 1 ≡ stopsAt Signature p b k
-  sig-closer e = rw (e, last p) (or-false (eqb (p - 1) 0))
+  sig-closer e = rw (e, last p) (sym (or-false (eqb (p - 1) 0)))
 
   pub paren-nested : k ≡ RightParen → 1 < p → false ≡ stopsAt Paren p b k
   paren-nested e h = rw (e, ← last p, lt-leb p 1 h)
 
   pub paren-closer : k ≡ RightParen → p ≤ 1 → eqb b 0 ≡ stopsAt Paren p b k
-  paren-closer e h = rw (e, ← last p, le-leb p 1 h) (or-false (eqb b 0))
+  paren-closer e h = rw (e, ← last p, le-leb p 1 h) (sym (or-false (eqb b 0)))
 
   pub bracket-nested : k ≡ RightBracket → 0 < p → false ≡ stopsAt Bracket p b k
   bracket-nested e h = rw (e, ne-eqb p 0 (λ q. omega arith))
 
   pub bracket-closer : k ≡ RightBracket → p ≤ 0 → leb b 1 ≡ stopsAt Bracket p b k
-  bracket-closer e h = let z : p ≡ 0 = omega arith in rw (e, z, last b) (or-false (eqb (b - 1) 0))
+  bracket-closer e h = let z : p ≡ 0 = omega arith in rw (e, z, last b) (sym (or-false (eqb (b - 1) 0)))
 
 -- ---- bounds of a step
 

@@ -1,12 +1,12 @@
 -- The lookaheads over rows say the same as those over the tokens that the rows name. Assumes nothing.
-use mathlib.Core.Bool.{Bool, true, false, cond, not, _&&_, _||_, Bool·beq}
+use mathlib.Core.Bool.{Bool, true, false, cond, not, _&&_, _||_, Bool·beq, or-false, and-false}
 use mathlib.Core.List.{List, [], _∷_, _++_}
 use mathlib.Core.Path.{_≡_, refl, _∙_}
-use Prim.Native.Nat.{ℕ, _+_, _-_, _≤_}
+use Prim.Native.Nat.{ℕ, _+_, _-_}
 use native.Mathlib.Omega.{arith}
 use lib.Dec.{eqb, ltb}
 use lib.ListN.{length}
-use borrow.Author.Tests.{eqb-true, eqb-false, eq-eqb, ne-eqb, le-ltb, ltb-true, ltb-false}
+use borrow.Author.Tests.{eqb-true, eqb-false, eq-eqb, ne-eqb, le-ltb}
 use Rattle.report.proofs.Logic.{split}
 use Rattle.rows.specs.Kinds.{Leading, TokenRow, Trailing, LineComment, DocComment, BlockComment, BlankLine, Eof, Newline, LeftBrace, RightBrace, LeftParen, RightParen, LeftBracket, RightBracket, Comma}
 use Rattle.rows.specs.Row.{Row}
@@ -17,10 +17,6 @@ use Rattle.lookahead.specs.declared.measure.Span.{Span}
 use Rattle.lookahead.specs.declared.measure.Span.the-variants.{Signature, Paren, Bracket}
 use Rattle.lookahead.specs.Measure.{anyComment, nextHasComment, isEmpty, singleLineFrom, Measure, counted, more, sigStops, sigCounts, sigMeasureFrom, groupStops, groupCounts, groupMeasureFrom, opensParen}
 use Rattle.lookahead.specs.Scan.{commentAhead, depthAfter, trails, endsLine, closesBlock, singleLineRows, groupOf, opensParenRows, stopsAt, topIn, counts, measureRows}
-
-or-false : (x : Bool) → x || false ≡ x
-or-false true = refl
-or-false false = refl
 
 -- ---- `next_has_comment`
 
@@ -39,10 +35,7 @@ comment-kind text r =
     (λ e. split (eqb (r .kind) DocComment) (λ f. rw (eqb-true (r .kind) DocComment f))
     (λ f. split (eqb (r .kind) BlockComment) (λ g. rw (eqb-true (r .kind) BlockComment g))
     (λ g. let a = eqb-false (r .kind) LineComment e in let b = eqb-false (r .kind) DocComment f in let c = eqb-false (r .kind) BlockComment g in
-    rw (e, f, g, le-ltb (r .kind) BlankLine (high (r .kind) a b c)))))
-  where
-    high : (k : ℕ) → (k ≡ LineComment → ⊥) → (k ≡ DocComment → ⊥) → (k ≡ BlockComment → ⊥) → BlankLine ≤ k
-    high k a b c = split (ltb k BlankLine) (λ e. let h = ltb-true k BlankLine e in absurd (omega arith)) (λ e. ltb-false k BlankLine e)
+    rw (e, f, g, le-ltb (r .kind) BlankLine (omega arith)))))
 
 pub comment-rows : (text : List ℕ) (l : List Trivia) (rs : List Row) → nextHasComment (tokensFrom text l rs) ≡ commentAhead (anyComment l) rs
 unfolding tokensFrom commentAhead
@@ -116,29 +109,18 @@ top-paren p b =
     split (eqb p 1)
     (λ e. let q = eqb-true p 1 e in split (eqb b 0)
     (λ f. let z = eqb-true b 0 f in rw (e, f, eq-eqb (p + b) 1 (omega arith)))
-    (λ f. let n = eqb-false b 0 f in rw (e, f, ne-eqb (p + b) 1 (λ s. n (omega arith)))))
+    (λ f. let n = eqb-false b 0 f in rw (e, f, ne-eqb (p + b) 1 (λ s. omega arith))))
     (λ e. rw e (and-false (eqb (p + b) 1)))
-  where
-    and-false : (x : Bool) → x && false ≡ false
-    and-false true = refl
-    and-false false = refl
 
 top-bracket : (p b : ℕ) → eqb (p + b) 1 && Bool·beq false (eqb p 1) ≡ eqb p 0 && eqb b 1
 top-bracket p b =
     split (eqb p 0)
     (λ e. let q = eqb-true p 0 e in split (eqb b 1)
     (λ f. let z = eqb-true b 1 f in rw (e, f, eq-eqb (p + b) 1 (omega arith), ne-eqb p 1 (λ s. omega arith)))
-    (λ f. let n = eqb-false b 1 f in rw (e, f, ne-eqb (p + b) 1 (λ s. n (omega arith)))))
+    (λ f. let n = eqb-false b 1 f in rw (e, f, ne-eqb (p + b) 1 (λ s. omega arith))))
     (λ e. let n = eqb-false p 0 e in split (eqb p 1)
     (λ f. rw (e, f) (and-false (eqb (p + b) 1)))
-    (λ f. let m = eqb-false p 1 f in rw (e, ne-eqb (p + b) 1 (λ s. big p b n m s))))
-  where
-    and-false : (x : Bool) → x && false ≡ false
-    and-false true = refl
-    and-false false = refl
-
-    big : (p b : ℕ) → (p ≡ 0 → ⊥) → (p ≡ 1 → ⊥) → p + b ≡ 1 → ⊥
-    big p b n m s = split (ltb p 2) (λ e. let h = ltb-true p 2 e in split (eqb p 0) (λ f. n (eqb-true p 0 f)) (λ f. m (let x = eqb-false p 0 f in omega arith))) (λ e. let h = ltb-false p 2 e in omega arith)
+    (λ f. let m = eqb-false p 1 f in rw (e, ne-eqb (p + b) 1 (λ s. omega arith))))
 
 sig-counts : (m : Measure) (t : Token) → sigCounts m t ≡ counts Signature m (t .kind) (length (t .lexeme))
 sig-counts m t = count-arms Signature m t _ refl
