@@ -1,16 +1,16 @@
 -- The tests and the step that the measures share. Assumes nothing.
-use mathlib.Core.Bool.{Bool, true, false, or-false}
+use mathlib.Core.Bool.{Bool, true, false, or-false, and-true, and-false}
 use mathlib.Core.Path.{_≡_, sym, _∙_}
 use Prim.Native.Nat.{ℕ, _+_, _-_, _≤_, _<_}
 use native.Mathlib.Omega.{arith}
 use lib.Dec.{eqb, leb, ltb}
-use borrow.Author.Tests.{eq-eqb, ne-eqb, le-leb, lt-leb, leb-true, leb-false, ltb-false}
+use borrow.Author.Tests.{eq-eqb, ne-eqb, leb-true, leb-false, ltb-false}
 use Rattle.report.proofs.Logic.{split}
 use Rattle.rows.specs.Kinds.{Eof, RightParen, RightBracket}
 use Rattle.lookahead.specs.declared.measure.Span.{Span}
 use Rattle.lookahead.specs.declared.measure.Span.the-variants.{Signature, Paren, Bracket}
 use Rattle.lookahead.specs.Measure.{more}
-use Rattle.lookahead.specs.Scan.{depthAfter, stopsAt}
+use Rattle.lookahead.specs.Scan.{depthAfter, isLast, stopsAt}
 
 -- a last closer: none is open, or one
 pub last : (d : ℕ) → leb d 1 ≡ eqb (d - 1) 0
@@ -38,17 +38,11 @@ module _ (p b k : ℕ) where
   pub sig-closer : k ≡ RightParen → leb p 1 ≡ stopsAt Signature p b k
   sig-closer e = rw (e, last p) (sym (or-false (eqb (p - 1) 0)))
 
-  pub paren-nested : k ≡ RightParen → 1 < p → false ≡ stopsAt Paren p b k
-  paren-nested e h = rw (e, ← last p, lt-leb p 1 h)
+  pub paren-closer : k ≡ RightParen → isLast p b ≡ stopsAt Paren p b k
+  paren-closer e = rw e (sym (or-false (isLast p b)))
 
-  pub paren-closer : k ≡ RightParen → p ≤ 1 → eqb b 0 ≡ stopsAt Paren p b k
-  paren-closer e h = rw (e, ← last p, le-leb p 1 h) (sym (or-false (eqb b 0)))
-
-  pub bracket-nested : k ≡ RightBracket → 0 < p → false ≡ stopsAt Bracket p b k
-  bracket-nested e h = rw (e, ne-eqb p 0 (λ q. omega arith))
-
-  pub bracket-closer : k ≡ RightBracket → p ≤ 0 → leb b 1 ≡ stopsAt Bracket p b k
-  bracket-closer e h = let z : p ≡ 0 = omega arith in rw (e, z, last b) (sym (or-false (eqb (b - 1) 0)))
+  pub bracket-closer : k ≡ RightBracket → isLast b p ≡ stopsAt Bracket p b k
+  bracket-closer e = rw e (sym (or-false (isLast b p)))
 
 -- ---- bounds of a step
 
@@ -65,3 +59,9 @@ more-most false n = omega arith
 pub more-least : (b : Bool) (n : ℕ) → n ≤ more b n
 more-least true n = omega arith
 more-least false n = omega arith
+
+pub last-other : (own other : ℕ) → 0 < other → false ≡ isLast own other
+last-other own other h = rw (ne-eqb other 0 (λ q. omega arith), and-false)
+
+pub last-own : (own other : ℕ) → other ≤ 0 → leb own 1 ≡ isLast own other
+last-own own other h = rw (eq-eqb other 0 (omega arith), and-true, last own)

@@ -1,5 +1,5 @@
 -- The lookaheads over rows say the same as those over the tokens that the rows name. Assumes nothing.
-use mathlib.Core.Bool.{Bool, true, false, cond, not, _&&_, _||_, Bool·beq, or-false, and-false}
+use mathlib.Core.Bool.{Bool, true, false, cond, not, _&&_, _||_, Bool·beq, or-false, and-false, and-comm}
 use mathlib.Core.List.{List, [], _∷_, _++_}
 use mathlib.Core.Path.{_≡_, refl, _∙_}
 use Prim.Native.Nat.{ℕ, _+_, _-_}
@@ -112,13 +112,13 @@ top-paren p b =
     (λ f. let n = eqb-false b 0 f in rw (e, f, ne-eqb (p + b) 1 (λ s. omega arith))))
     (λ e. rw e (and-false (eqb (p + b) 1)))
 
-top-bracket : (p b : ℕ) → eqb (p + b) 1 && Bool·beq false (eqb p 1) ≡ eqb p 0 && eqb b 1
+top-bracket : (p b : ℕ) → eqb (p + b) 1 && Bool·beq false (eqb p 1) ≡ eqb b 1 && eqb p 0
 top-bracket p b =
-    split (eqb p 0)
-    (λ e. let q = eqb-true p 0 e in split (eqb b 1)
-    (λ f. let z = eqb-true b 1 f in rw (e, f, eq-eqb (p + b) 1 (omega arith), ne-eqb p 1 (λ s. omega arith)))
-    (λ f. let n = eqb-false b 1 f in rw (e, f, ne-eqb (p + b) 1 (λ s. omega arith))))
-    (λ e. let n = eqb-false p 0 e in split (eqb p 1)
+    split (eqb b 1)
+    (λ e. let q = eqb-true b 1 e in split (eqb p 0)
+    (λ f. let z = eqb-true p 0 f in rw (e, f, eq-eqb (p + b) 1 (omega arith), ne-eqb p 1 (λ s. omega arith)))
+    (λ f. let n = eqb-false p 0 f in rw (e, f, ne-eqb (p + b) 1 (λ s. omega arith))))
+    (λ e. let n = eqb-false b 1 e in split (eqb p 1)
     (λ f. rw (e, f) (and-false (eqb (p + b) 1)))
     (λ f. let m = eqb-false p 1 f in rw (e, ne-eqb (p + b) 1 (λ s. omega arith))))
 
@@ -131,7 +131,7 @@ group-counts false m t = count-arms Bracket m t _ (top-bracket (m .parenDepth) (
 
 group-stops : (isParen : Bool) (m : Measure) (t : Token) → groupStops isParen m t ≡ stopsAt (groupOf isParen) (m .parenDepth) (m .bracketDepth) (t .kind)
 group-stops true m t = rw (or-false (eqb (t .kind) RightParen && (eqb (m .parenDepth - 1) 0 && eqb (m .bracketDepth) 0)))
-group-stops false m t = refl
+group-stops false m t = rw (and-comm (eqb (m .parenDepth) 0) (eqb (m .bracketDepth - 1) 0))
 
 -- a measure over tokens whose steps are the span's
 module _ (span : Span) (stops : Measure → Token → Bool) (step : Measure → Token → Measure) (from : Measure → List Token → Measure)

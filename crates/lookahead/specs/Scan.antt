@@ -60,17 +60,25 @@ unfoldable pub opensParenRows : List Row → Bool
 opensParenRows [] = false
 opensParenRows (r ∷ rs) = cond (eqb (r .what) TokenRow) (eqb (r .kind) LeftParen) (opensParenRows rs)
 
+-- no more than one of the opening kind is open, and none of the other
+abbrev pub isLast : ℕ → ℕ → Bool
+isLast own other = eqb (own - 1) 0 && eqb other 0
+
+-- one of the opening kind is open, and none of the other
+abbrev pub isTop : ℕ → ℕ → Bool
+isTop own other = eqb own 1 && eqb other 0
+
 -- the measure stops before a token of the kind k, at these depths
 abbrev pub stopsAt : Span → ℕ → ℕ → ℕ → Bool
 stopsAt Signature parens brackets k = (eqb k RightParen && eqb (parens - 1) 0) || eqb k Eof
-stopsAt Paren parens brackets k = (eqb k RightParen && (eqb (parens - 1) 0 && eqb brackets 0)) || eqb k Eof
-stopsAt Bracket parens brackets k = (eqb k RightBracket && (eqb parens 0 && eqb (brackets - 1) 0)) || eqb k Eof
+stopsAt Paren parens brackets k = (eqb k RightParen && isLast parens brackets) || eqb k Eof
+stopsAt Bracket parens brackets k = (eqb k RightBracket && isLast brackets parens) || eqb k Eof
 
 -- directly inside what is measured
 abbrev pub topIn : Span → ℕ → ℕ → Bool
-topIn Signature parens brackets = eqb parens 1 && eqb brackets 0
-topIn Paren parens brackets = eqb parens 1 && eqb brackets 0
-topIn Bracket parens brackets = eqb parens 0 && eqb brackets 1
+topIn Signature parens brackets = isTop parens brackets
+topIn Paren parens brackets = isTop parens brackets
+topIn Bracket parens brackets = isTop brackets parens
 
 -- a token of the kind k and of n bytes is counted
 abbrev pub counts : Span → Measure → ℕ → ℕ → Measure
@@ -96,10 +104,16 @@ measureOf m = record { parenDepth = m .parens; bracketDepth = m .brackets; comma
 -- ---- the two decisions
 
 -- so many commas and such a width are enough to break
+abbrev pub breaksSignature : ℕ → ℕ → ℕ → Bool
+breaksSignature limit commas width = ltb 2 commas || ltb limit width
+
+abbrev pub breaksList : ℕ → ℕ → ℕ → Bool
+breaksList limit commas width = ltb 0 commas && ltb limit width
+
 abbrev pub breaks : Span → ℕ → ℕ → ℕ → Bool
-breaks Signature limit commas width = ltb 2 commas || ltb limit width
-breaks Paren limit commas width = ltb 0 commas && ltb limit width
-breaks Bracket limit commas width = ltb 0 commas && ltb limit width
+breaks Signature limit commas width = breaksSignature limit commas width
+breaks Paren limit commas width = breaksList limit commas width
+breaks Bracket limit commas width = breaksList limit commas width
 
 abbrev pub breaksAt : Span → ℕ → Measure → Bool
 breaksAt span limit m = breaks span limit (m .commas) (m .width)

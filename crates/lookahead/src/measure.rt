@@ -7,7 +7,7 @@ ghost use Prim.Native.Nat.{_+_, _-_, _<_, _≤_};
 ghost use lib.Dec.{eqb};
 ghost use Rattle.rows.specs.Kinds.{LeftParen, RightParen, LeftBracket, RightBracket, Comma};
 ghost use Rattle.lookahead.specs.Measure.{more};
-ghost use Rattle.lookahead.specs.Scan.{depthAfter, stopsAt, topIn, measureOf, counts, breaks, capped, Room};
+ghost use Rattle.lookahead.specs.Scan.{depthAfter, isLast, isTop, stopsAt, topIn, measureOf, counts, breaks, breaksSignature, breaksList, capped, Room};
 
 // What is measured: a signature's parameters, or a group by its opening kind.
 pub enum Span {
@@ -35,7 +35,7 @@ impl Measure {
         }
     }
 
-    // Whether the measure stops before a token of this kind.
+    // Whether the measure stops before a token of this kind: the closer that matches, or Eof.
     pub fn stops(self, span: Span, kind: u32) -> bool
         ensures { λ r. ⌜ r ≡ stopsAt span (self .parens) (self .brackets) kind ⌝ }
     {
@@ -53,19 +53,13 @@ impl Measure {
                 if kind != kinds::RIGHT_PAREN {
                     return false;
                 }
-                if 1 < self.parens {
-                    return false;
-                }
-                self.brackets == 0
+                is_last(self.parens, self.brackets)
             }
             Span::Bracket => {
                 if kind != kinds::RIGHT_BRACKET {
                     return false;
                 }
-                if 0 < self.parens {
-                    return false;
-                }
-                self.brackets <= 1
+                is_last(self.brackets, self.parens)
             }
         }
     }
@@ -93,25 +87,28 @@ impl Measure {
         ensures { λ r. ⌜ r ≡ breaks span limit (self .commas) (self .width) ⌝ }
     {
         match span {
-            Span::Signature => {
-                if 2 < self.commas {
-                    return true;
-                }
-                limit < self.width
-            }
-            Span::Paren => {
-                if self.commas == 0 {
-                    return false;
-                }
-                limit < self.width
-            }
-            Span::Bracket => {
-                if self.commas == 0 {
-                    return false;
-                }
-                limit < self.width
-            }
+            Span::Signature => self.breaks_signature(limit),
+            Span::Paren => self.breaks_list(limit),
+            Span::Bracket => self.breaks_list(limit),
         }
+    }
+
+    fn breaks_signature(self, limit: usize) -> bool
+        ensures { λ r. ⌜ r ≡ breaksSignature limit (self .commas) (self .width) ⌝ }
+    {
+        if 2 < self.commas {
+            return true;
+        }
+        limit < self.width // a signature
+    }
+
+    fn breaks_list(self, limit: usize) -> bool
+        ensures { λ r. ⌜ r ≡ breaksList limit (self .commas) (self .width) ⌝ }
+    {
+        if 0 < self.commas {
+            return limit < self.width; // a list
+        }
+        false
     }
 
     // The width stops growing past the limit, so that it fits however many rows there are.
@@ -143,26 +140,31 @@ impl Measure {
         ensures { λ r. ⌜ r ≡ topIn span (self .parens) (self .brackets) ⌝ }
     {
         match span {
-            Span::Signature => {
-                if self.parens != 1 {
-                    return false;
-                }
-                self.brackets == 0
-            }
-            Span::Paren => {
-                if self.parens != 1 {
-                    return false;
-                }
-                self.brackets == 0
-            }
-            Span::Bracket => {
-                if self.parens != 0 {
-                    return false;
-                }
-                self.brackets == 1
-            }
+            Span::Signature => is_top(self.parens, self.brackets),
+            Span::Paren => is_top(self.parens, self.brackets),
+            Span::Bracket => is_top(self.brackets, self.parens),
         }
     }
+}
+
+// Whether no more than one of the opening kind is open, and none of the other.
+fn is_last(own: usize, other: usize) -> bool
+    ensures { λ r. ⌜ r ≡ isLast own other ⌝ }
+{
+    if 0 < other {
+        return false;
+    }
+    own <= 1 // of its own kind
+}
+
+// Whether one of the opening kind is open, and none of the other.
+fn is_top(own: usize, other: usize) -> bool
+    ensures { λ r. ⌜ r ≡ isTop own other ⌝ }
+{
+    if own == 1 {
+        return other == 0;
+    }
+    false
 }
 
 // A depth behind a token.
