@@ -1,2 +1,5 @@
 pub mod Space
 pub mod Measure
+pub mod Answer
+pub mod Sets
+pub mod Scan

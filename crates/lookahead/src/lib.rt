@@ -1,1 +1,285 @@
 // The lookaheads of format.rs over rows, and the decision on a space.
+use crate::measure::Measure;
+use crate::measure::Span;
+use crate::measure::depth_after;
+use crate::measure::size_of;
+use rows::ROW_BYTES;
+use rows::Row;
+use rows::kinds;
+use rows::row_at;
+ghost use mathlib.Core.List.{List};
+ghost use mathlib.Core.Path.{_≡_};
+ghost use Prim.Native.Nat.{ℕ, _≤_, _<_};
+ghost use lib.ListN.{length, drop};
+ghost use Rattle.rows.specs.Row.{rowsOf};
+ghost use Rattle.rows.specs.Token.{tokensOf};
+ghost use Rattle.rows.specs.Bounds.{InBounds};
+ghost use Rattle.rows.specs.Answer.{rowOf};
+ghost use Rattle.lookahead.specs.Space.{needsSpace, isValueKind};
+ghost use Rattle.lookahead.specs.Answer.{reported, spaceReport};
+ghost use Rattle.lookahead.specs.Measure.{start, params, sigMeasure, groupMeasure, shouldBreakSig, shouldBreakList, blockIsSingleLine, nextHasComment};
+ghost use Rattle.lookahead.specs.Scan.{isComment, trails, endsLine, closesBlock, opensParenRows, groupOf, measureRows, measureOf, breaksAt};
+
+pub mod measure;
+pub mod sets;
+
+// Whether a space is needed between two kinds, or refusal 3 with the place of the first unknown kind.
+pub enum Space {
+    Needed(bool),
+    BadRow(usize),
+}
+
+// The exported call.
+pub fn needs_space(first: u32, second: u32) -> Space
+    ensures { λ r. ⌜ reported r ≡ spaceReport first second ⌝ }
+{
+    if kinds::OTHER < first {
+        return Space::BadRow(0);
+    }
+    if kinds::OTHER < second {
+        return Space::BadRow(1);
+    }
+    Space::Needed(space_between(first, second))
+}
+
+// Whether a space belongs between two adjacent tokens.
+pub fn space_between(prev: u32, curr: u32) -> bool
+    ensures { λ r. ⌜ r ≡ needsSpace prev curr ⌝ }
+{
+    if sets::member(sets::NO_SPACE_AFTER, prev) {
+        return false;
+    }
+    if sets::member(sets::NO_SPACE_BEFORE, curr) {
+        return false;
+    }
+    if curr == kinds::RIGHT_BRACE {
+        return prev != kinds::LEFT_BRACE;
+    }
+    if curr == kinds::LEFT_PAREN {
+        return !sets::member(sets::CALLED, prev);
+    }
+    if curr == kinds::LEFT_BRACKET {
+        return !sets::member(sets::INDEXED, prev);
+    }
+    true
+}
+
+// Whether a token of this kind can end an expression, so that a `-` behind it is binary.
+pub fn is_value_kind(kind: u32) -> bool
+    ensures { λ r. ⌜ r ≡ isValueKind kind ⌝ }
+{
+    sets::member(sets::VALUES, kind)
+}
+
+// The lookaheads take the part of the rows that starts at the opener, its own leading rows included, and goes to
+// the end. What they answer holds of every text in which the rows lie; the last two need none.
+
+// Whether a signature breaks: more than 3 params, or wider than `fn_sig_width`.
+pub fn should_break_sig(rows: &[u8], fn_sig_width: u32) -> bool
+    ensures { λ r. ⌜ ((text : List ℕ) → InBounds text (rowsOf (now (rows .entry))) → r ≡ shouldBreakSig «fn_sig_width» (tokensOf (now (rows .entry)) text)) ⌝ }
+{
+    decide(rows, Span::Signature, fn_sig_width as usize)
+}
+
+// Whether a list breaks: it has a top-level comma, and is wider than `list_width`.
+pub fn should_break_list(rows: &[u8], list_width: u32) -> bool
+    ensures { λ r. ⌜ ((text : List ℕ) → InBounds text (rowsOf (now (rows .entry))) → r ≡ shouldBreakList «list_width» (tokensOf (now (rows .entry)) text)) ⌝ }
+{
+    decide(rows, group(rows), list_width as usize)
+}
+
+pub struct SigMeasure {
+    pub params: usize,
+    pub width: usize,
+}
+
+// The params of a signature and its width, of at most 65,535 rows.
+pub fn sig_measure(rows: &[u8]) -> SigMeasure
+    requires { ⌜ length (now rows) ≤ 1048560 ⌝ }
+    ensures { λ r. ⌜ ((text : List ℕ) → InBounds text (rowsOf (now (rows .entry))) → (r .params ≡ params (sigMeasure (tokensOf (now (rows .entry)) text))) × (r .width ≡ sigMeasure (tokensOf (now (rows .entry)) text) .width)) ⌝ }
+{
+    let m = measure_rows(rows, Span::Signature);
+    if m.width == 0 {
+        return SigMeasure {
+            params: 0,
+            width: 0,
+        };
+    }
+    SigMeasure {
+        params: m.commas + 1,
+        width: m.width,
+    }
+}
+
+pub struct GroupMeasure {
+    pub commas: usize,
+    pub width: usize,
+}
+
+// The top-level commas of a group and its width, of at most 65,535 rows.
+pub fn group_measure(rows: &[u8]) -> GroupMeasure
+    requires { ⌜ length (now rows) ≤ 1048560 ⌝ }
+    ensures { λ r. ⌜ ((text : List ℕ) → InBounds text (rowsOf (now (rows .entry))) → (r .commas ≡ groupMeasure (tokensOf (now (rows .entry)) text) .commas) × (r .width ≡ groupMeasure (tokensOf (now (rows .entry)) text) .width)) ⌝ }
+{
+    let m = measure_rows(rows, group(rows));
+    GroupMeasure {
+        commas: m.commas,
+        width: m.width,
+    }
+}
+
+// Whether a block closes before a Newline, an Eof and any trivia; a closing brace has no trailing rows then.
+pub fn block_is_single_line(rows: &[u8]) -> bool
+    ensures { λ r. ⌜ ((text : List ℕ) → r ≡ blockIsSingleLine (tokensOf (now (rows .entry)) text)) ⌝ }
+{
+    let mut depth = 0;
+    let mut at = 0;
+    while ROW_BYTES <= rows.len() - at {
+        let row = row_at(rows, at);
+        at += ROW_BYTES;
+        if row.what == kinds::LEADING {
+            return false;
+        }
+        if row.what == kinds::TOKEN {
+            if trails(rows, at) {
+                return false;
+            }
+            if ends_line(row.kind) {
+                return false;
+            }
+            if closes_block(row.kind, depth) {
+                return true;
+            }
+            depth = depth_after(kinds::LEFT_BRACE, kinds::RIGHT_BRACE, row.kind, depth);
+        }
+    }
+    false
+}
+
+// Whether the next token has a comment among its leading rows. The rows start right behind a token's row, so
+// that token's trailing rows come first.
+pub fn next_has_comment(rows: &[u8]) -> bool
+    ensures { λ r. ⌜ ((text : List ℕ) → r ≡ nextHasComment (tokensOf (now (rows .entry)) text)) ⌝ }
+{
+    let mut seen = false;
+    let mut at = 0;
+    while ROW_BYTES <= rows.len() - at {
+        let row = row_at(rows, at);
+        at += ROW_BYTES;
+        if row.what == kinds::TOKEN {
+            return seen;
+        }
+        if is_comment(row) {
+            seen = true;
+        }
+    }
+    false
+}
+
+// Whether a measure is above what does not break. It stops as soon as that is certain.
+fn decide(rows: &[u8], span: Span, limit: usize) -> bool
+    requires { ⌜ limit < 4294967296 ⌝ }
+    ensures { λ r. ⌜ r ≡ breaksAt span limit (measureRows span start (rowsOf (now (rows .entry)))) ⌝ }
+{
+    let mut m = Measure::new();
+    let mut at = 0;
+    while ROW_BYTES <= rows.len() - at {
+        let row = row_at(rows, at);
+        at += ROW_BYTES;
+        if row.what == kinds::TOKEN {
+            if m.stops(span, row.kind) {
+                return false;
+            }
+            m = m.counts(span, row.kind, size_of(row)).capped(limit);
+            if m.breaks(span, limit) {
+                return true;
+            }
+        }
+    }
+    false
+}
+
+// The whole measure.
+fn measure_rows(rows: &[u8], span: Span) -> Measure
+    requires { ⌜ length (now rows) ≤ 1048560 ⌝ }
+    ensures exact { λ r. ⌜ measureOf r ≡ measureRows span start (rowsOf (now (rows .entry))) ⌝ }
+    ensures few { λ r. ⌜ r .commas ≤ length (now (rows .entry)) ⌝ }
+{
+    let mut m = Measure::new();
+    let mut at = 0;
+    while ROW_BYTES <= rows.len() - at {
+        let row = row_at(rows, at);
+        at += ROW_BYTES;
+        if row.what == kinds::TOKEN {
+            if m.stops(span, row.kind) {
+                return m;
+            }
+            m = m.counts(span, row.kind, size_of(row));
+        }
+    }
+    m
+}
+
+// The group that the first token opens.
+fn group(rows: &[u8]) -> Span
+    ensures { λ r. ⌜ r ≡ groupOf (opensParenRows (rowsOf (now (rows .entry)))) ⌝ }
+{
+    if opens_paren(rows) {
+        return Span::Paren;
+    }
+    Span::Bracket
+}
+
+fn opens_paren(rows: &[u8]) -> bool
+    ensures { λ r. ⌜ r ≡ opensParenRows (rowsOf (now (rows .entry))) ⌝ }
+{
+    let mut at = 0;
+    while ROW_BYTES <= rows.len() - at {
+        let row = row_at(rows, at);
+        if row.what == kinds::TOKEN {
+            return row.kind == kinds::LEFT_PAREN;
+        }
+        at += ROW_BYTES;
+    }
+    false
+}
+
+// Whether a trailing row stands at `at`.
+fn trails(rows: &[u8], at: usize) -> bool
+    requires { ⌜ at ≤ length (now rows) ⌝ }
+    ensures { λ r. ⌜ r ≡ trails (rowsOf (drop at (now (rows .entry)))) ⌝ }
+{
+    if rows.len() - at < ROW_BYTES {
+        return false;
+    }
+    let row = row_at(rows, at);
+    row.what == kinds::TRAILING
+}
+
+fn ends_line(kind: u32) -> bool
+    ensures { λ r. ⌜ r ≡ endsLine kind ⌝ }
+{
+    if kind == kinds::NEWLINE {
+        return true;
+    }
+    kind == kinds::EOF
+}
+
+// Whether a token of this kind closes the last block that is open.
+fn closes_block(kind: u32, depth: usize) -> bool
+    ensures { λ r. ⌜ r ≡ closesBlock kind depth ⌝ }
+{
+    if kind != kinds::RIGHT_BRACE {
+        return false;
+    }
+    depth <= 1
+}
+
+fn is_comment(row: Row) -> bool
+    ensures { λ r. ⌜ r ≡ isComment (rowOf row) ⌝ }
+{
+    if row.what != kinds::LEADING {
+        return false;
+    }
+    row.kind < kinds::BLANK_LINE
+}

@@ -7,7 +7,7 @@ use Prim.Native.Nat.{ℕ, suc, _+_, _*_, _≤_}
 use native.Mathlib.Omega.{arith}
 use lib.ListN.{length, take, drop}
 use lib.Seq.{take-at}
-use Rattle.report.specs.Report.{Report, option, ragged, badRow, deep, full}
+use Rattle.report.specs.Report.{Report, option, raggedRows, badRow, deep, full}
 use Rattle.rows.specs.Options.{Options, optionsOf, badOption, orElse}
 use Rattle.rows.specs.Row.{rowsOf}
 use Rattle.rows.specs.Checks
@@ -46,7 +46,7 @@ module _ (style indent signature list : ℕ) (rows text out : List ℕ) where
   unfolding layout
   layout-shows =
       unless-shows option (badOption style indent signature list) out _ (lexemes rows text)
-      (unless-shows ragged (orElse (Checks.ragged rows) 0 none) out _ (lexemes rows text)
+      (unless-shows raggedRows (orElse (Checks.ragged rows) 0 none) out _ (lexemes rows text)
       (unless-shows badRow (Checks.badFrom (length text) Checks.atStart 0 (rowsOf rows)) out _ (lexemes rows text)
       (laid-shows (optionsOf style indent signature list) (tokensOf rows text) (length out) out _ refl)))
 

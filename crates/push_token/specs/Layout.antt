@@ -6,7 +6,7 @@ use mathlib.Core.Option.{Option, none, some}
 use Prim.Native.Nat.{ℕ, _+_}
 use lib.Dec.{ltb}
 use lib.ListN.{length, drop}
-use Rattle.report.specs.Report.{Report, success, refuse, zeroed, option, ragged, badRow, deep, full}
+use Rattle.report.specs.Report.{Report, success, refuse, zeroed, option, raggedRows, badRow, deep, full}
 use Rattle.rows.specs.Row.{rowsOf}
 use Rattle.rows.specs.Options.{Options, optionsOf, badOption, orElse}
 use Rattle.rows.specs.Checks
@@ -61,6 +61,6 @@ unless n (some place) out next = record { report = refuse n place; out = out }
 unfoldable pub layout : ℕ → ℕ → ℕ → ℕ → List ℕ → List ℕ → List ℕ → Layout
 layout style indent signature list rows text out =
     unless option (badOption style indent signature list) out
-    (unless ragged (orElse (Checks.ragged rows) 0 none) out
+    (unless raggedRows (orElse (Checks.ragged rows) 0 none) out
     (unless badRow (Checks.badFrom (length text) Checks.atStart 0 (rowsOf rows)) out
     (laidOut (lay (optionsOf style indent signature list) (length out) (tokensOf rows text)) (plain (tokensOf rows text)) out)))

@@ -10,8 +10,8 @@ use lib.ListN.{length, replicate}
 abbrev pub option : ℕ
 option = 1
 
-abbrev pub ragged : ℕ
-ragged = 2
+abbrev pub raggedRows : ℕ
+raggedRows = 2
 
 abbrev pub badRow : ℕ
 badRow = 3

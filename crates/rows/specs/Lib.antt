@@ -3,3 +3,5 @@ pub mod Row
 pub mod Options
 pub mod Token
 pub mod Checks
+pub mod Bounds
+pub mod Answer

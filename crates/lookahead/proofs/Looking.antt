@@ -1,0 +1,125 @@
+-- The loops that look for one row: `opens_paren`, `next_has_comment` and `block_is_single_line`. Assumes nothing.
+use mathlib.Core.Bool.{Bool, true, false, or-true, or-false}
+use mathlib.Core.List.{List, [], _∷_}
+use mathlib.Core.Path.{_≡_, refl, sym, ap, _∙_}
+use Prim.Native.Nat.{ℕ, _+_, _-_, _≤_, _<_}
+use native.Mathlib.Omega.{arith}
+use lib.Dec.{eqb}
+use lib.ListN.{length, drop}
+use borrow.Author.Tests.{eq-eqb, ne-eqb}
+use Rattle.rows.specs.Kinds.{Leading, TokenRow, LeftBrace, RightBrace, LeftParen}
+use Rattle.rows.specs.Row.{Row, rowAt, rowsOf}
+use Rattle.rows.specs.Token.{tokensOf}
+use Rattle.lookahead.specs.Measure.{nextHasComment, blockIsSingleLine, anyComment}
+use Rattle.lookahead.specs.Scan.{isComment, commentAhead, depthAfter, trails, endsLine, closesBlock, singleLineRows, opensParenRows}
+use Rattle.lookahead.proofs.Tokens.{comment-rows, single-rows}
+use Rattle.lookahead.proofs.Rests.{here, over}
+
+-- the answer is what a scan says of the rows from `at` on
+pub record Ahead (rows : List ℕ) (answer : Bool) (scan : List Row → Bool) (at : ℕ) : Type 0 where
+  pub within : at ≤ length rows
+  pub left : answer ≡ scan (rowsOf (drop at rows))
+
+module _ {rows : List ℕ} {answer : Bool} {at : ℕ} (scan : List Row → Bool) (α : Ahead rows answer scan at) where
+  module _ {r : Row} (h : 16 ≤ length rows - at) (e : r ≡ rowAt rows at) where
+    at-row : answer ≡ scan (r ∷ rowsOf (drop (at + 16) rows))
+    at-row = α .left ∙ ap scan (here rows at (α .within) h e)
+
+    -- one more row is passed
+    behind-row : (scan′ : List Row → Bool) → ((rs : List Row) → scan (r ∷ rs) ≡ scan′ rs) → Ahead rows answer scan′ (at + 16)
+    behind-row scan′ s = record { within = omega (arith, α .within); left = at-row ∙ s (rowsOf (drop (at + 16) rows)) }
+
+  pub no-row : scan [] ≡ false → length rows - at < 16 → false ≡ answer
+  no-row s h = sym (α .left ∙ ap scan (over rows at (α .within) h) ∙ s)
+
+-- ---- `opens_paren`
+
+pub opens-start : (rows : List ℕ) → Ahead rows (opensParenRows (rowsOf rows)) opensParenRows 0
+opens-start rows = record { within = omega arith; left = refl }
+
+module _ {rows : List ℕ} {answer : Bool} {at : ℕ} (α : Ahead rows answer opensParenRows at) where
+  module _ {r : Row} (h : 16 ≤ length rows - at) (e : r ≡ rowAt rows at) where
+    pub opens-first : r .what ≡ TokenRow → eqb (r .kind) LeftParen ≡ answer
+    unfolding opensParenRows
+    opens-first t = sym (at-row opensParenRows α h e ∙ rw (eq-eqb (r .what) TokenRow t))
+
+    pub opens-more : (r .what ≡ TokenRow → ⊥) → Ahead rows answer opensParenRows (at + 16)
+    unfolding opensParenRows
+    opens-more n = behind-row opensParenRows α h e opensParenRows (λ rs. rw (ne-eqb (r .what) TokenRow n))
+
+  pub opens-none : length rows - at < 16 → false ≡ answer
+  unfolding opensParenRows
+  opens-none h = no-row opensParenRows α refl h
+
+-- ---- `next_has_comment`
+
+pub comment-start : (rows : List ℕ) → Ahead rows (commentAhead false (rowsOf rows)) (commentAhead false) 0
+comment-start rows = record { within = omega arith; left = refl }
+
+module _ {rows : List ℕ} {answer : Bool} {at : ℕ} (seen : Bool) (α : Ahead rows answer (commentAhead seen) at) where
+  module _ {r : Row} (h : 16 ≤ length rows - at) (e : r ≡ rowAt rows at) where
+    pub comment-token : r .what ≡ TokenRow → seen ≡ answer
+    unfolding commentAhead
+    comment-token t = sym (at-row (commentAhead seen) α h e ∙ rw (eq-eqb (r .what) TokenRow t))
+
+    module _ (n : r .what ≡ TokenRow → ⊥) {c : Bool} (i : c ≡ isComment r) where
+      pub comment-seen : c ≡ true → Ahead rows answer (commentAhead true) (at + 16)
+      unfolding commentAhead
+      comment-seen y = behind-row (commentAhead seen) α h e (commentAhead true) (λ rs. rw (ne-eqb (r .what) TokenRow n, sym i ∙ y, or-true seen))
+
+      pub comment-more : c ≡ false → Ahead rows answer (commentAhead seen) (at + 16)
+      unfolding commentAhead
+      comment-more y = behind-row (commentAhead seen) α h e (commentAhead seen) (λ rs. rw (ne-eqb (r .what) TokenRow n, sym i ∙ y, or-false seen))
+
+  pub comment-none : length rows - at < 16 → false ≡ answer
+  unfolding commentAhead
+  comment-none h = no-row (commentAhead seen) α refl h
+
+pub comment-said : (rows text : List ℕ) {x : Bool} → x ≡ commentAhead false (rowsOf rows) → x ≡ nextHasComment (tokensOf rows text)
+unfolding tokensOf anyComment
+comment-said rows text e = e ∙ sym (comment-rows text [] (rowsOf rows))
+
+-- ---- `block_is_single_line`
+
+pub block-start : (rows : List ℕ) → Ahead rows (singleLineRows 0 (rowsOf rows)) (singleLineRows 0) 0
+block-start rows = record { within = omega arith; left = refl }
+
+module _ {rows : List ℕ} {answer : Bool} {at : ℕ} (depth : ℕ) (α : Ahead rows answer (singleLineRows depth) at) where
+  module _ {r : Row} (h : 16 ≤ length rows - at) (e : r ≡ rowAt rows at) where
+    pub block-leading : r .what ≡ Leading → false ≡ answer
+    unfolding singleLineRows
+    block-leading l = sym (at-row (singleLineRows depth) α h e ∙ rw (eq-eqb (r .what) Leading l))
+
+    pub block-passed : (r .what ≡ Leading → ⊥) → (r .what ≡ TokenRow → ⊥) → Ahead rows answer (singleLineRows depth) (at + 16)
+    unfolding singleLineRows
+    block-passed l n = behind-row (singleLineRows depth) α h e (singleLineRows depth) (λ rs. rw (ne-eqb (r .what) Leading l, ne-eqb (r .what) TokenRow n))
+
+    module _ (l : r .what ≡ Leading → ⊥) (t : r .what ≡ TokenRow) {trailed : Bool} (q : trailed ≡ trails (rowsOf (drop (at + 16) rows))) where
+      pub block-trailed : trailed ≡ true → false ≡ answer
+      unfolding singleLineRows
+      block-trailed y = sym (at-row (singleLineRows depth) α h e ∙ rw (ne-eqb (r .what) Leading l, eq-eqb (r .what) TokenRow t, sym q ∙ y))
+
+      module _ (y : trailed ≡ false) {ends : Bool} (f : ends ≡ endsLine (r .kind)) where
+        pub block-ended : ends ≡ true → false ≡ answer
+        unfolding singleLineRows
+        block-ended z = sym (at-row (singleLineRows depth) α h e ∙ rw (ne-eqb (r .what) Leading l, eq-eqb (r .what) TokenRow t, sym q ∙ y, sym f ∙ z))
+
+        module _ (z : ends ≡ false) {closes : Bool} (g : closes ≡ closesBlock (r .kind) depth) where
+          pub block-closed : closes ≡ true → true ≡ answer
+          unfolding singleLineRows
+          block-closed w = sym (at-row (singleLineRows depth) α h e ∙ rw (ne-eqb (r .what) Leading l, eq-eqb (r .what) TokenRow t, sym q ∙ y, sym f ∙ z, sym g ∙ w))
+
+          pub block-more : closes ≡ false → {d : ℕ} → d ≡ depthAfter LeftBrace RightBrace (r .kind) depth → Ahead rows answer (singleLineRows d) (at + 16)
+          unfolding singleLineRows
+          block-more w {d} k = record {
+            within = omega (arith, α .within);
+            left = at-row (singleLineRows depth) α h e ∙ rw (ne-eqb (r .what) Leading l, eq-eqb (r .what) TokenRow t, sym q ∙ y, sym f ∙ z, sym g ∙ w, k);
+          }
+
+  pub block-none : length rows - at < 16 → false ≡ answer
+  unfolding singleLineRows
+  block-none h = no-row (singleLineRows depth) α refl h
+
+pub block-said : (rows text : List ℕ) {x : Bool} → x ≡ singleLineRows 0 (rowsOf rows) → x ≡ blockIsSingleLine (tokensOf rows text)
+unfolding tokensOf
+block-said rows text e = e ∙ sym (single-rows text 0 (rowsOf rows))

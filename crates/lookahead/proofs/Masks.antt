@@ -1,0 +1,77 @@
+-- The masks in the code are the sets of kinds of format.rs: each by one test, computed at every kind below 64. Assumes nothing.
+use mathlib.Core.Bool.{Bool, true, false, not, _&&_, Bool·beq, or-true, or-false}
+use mathlib.Core.List.{List, [], _∷_}
+use mathlib.Core.Path.{_≡_, refl, sym, _∙_}
+use Prim.Native.Nat.{ℕ, _≤_}
+use native.Mathlib.Omega.{arith}
+use lib.Dec.{eqb, ltb}
+use borrow.Author.Tests.{ltb-true, ltb-false, ne-eqb}
+use Rattle.report.proofs.Logic.{and-left, and-right, split}
+use Rattle.report.proofs.Below.{allBelow, agree-below}
+use Rattle.rows.specs.Kinds.{LeftBrace, RightBrace, LeftParen, RightParen, LeftBracket, RightBracket, Comma, Colon, Semicolon, Question, Dot, DotDot, ColonColon, Hash, Bang, BangHash, Identifier, NumberLiteral, ByteLiteral, StringLiteral, CharacterLiteral, FloatLiteral, BoolLiteral, Null, Array, Map, Set, Result, oneOf}
+use Rattle.lookahead.specs.Sets.{member}
+use Rattle.lookahead.specs.Space.{noSpaceAfter, noSpaceBefore, needsSpace, isValueKind}
+
+-- every kind of the list is below 64
+abbrev small : List ℕ → Bool
+small [] = true
+small (j ∷ js) = ltb j 64 && small js
+
+none-high : (js : List ℕ) (k : ℕ) → small js ≡ true → 64 ≤ k → oneOf js k ≡ false
+none-high [] k e h = refl
+none-high (j ∷ js) k e h =
+    let l = ltb-true j 64 (and-left (ltb j 64) (small js) e) in
+    rw (ne-eqb k j (λ q. omega arith)) (none-high js k (and-right (ltb j 64) (small js) e) h)
+
+-- a mask is a list of kinds
+mask-is : (mask : ℕ) (js : List ℕ) → small js ≡ true → allBelow 64 (λ k. Bool·beq (member mask k) (oneOf js k)) ≡ true → (k : ℕ) → member mask k ≡ oneOf js k
+mask-is mask js s a k =
+    split (ltb k 64) (λ e. agree-below 64 (member mask) (oneOf js) a k (ltb-true k 64 e))
+    (λ e. rw e (sym (none-high js k s (ltb-false k 64 e))))
+
+pub after-mask : (k : ℕ) → member 0x3_f050 k ≡ noSpaceAfter k
+after-mask = mask-is 0x3_f050 (LeftParen ∷ LeftBracket ∷ Dot ∷ DotDot ∷ ColonColon ∷ Hash ∷ Bang ∷ BangHash ∷ []) refl refl
+
+pub before-mask : (k : ℕ) → member 0x7fa0 k ≡ noSpaceBefore k
+before-mask = mask-is 0x7fa0 (RightParen ∷ RightBracket ∷ Dot ∷ DotDot ∷ ColonColon ∷ Comma ∷ Colon ∷ Semicolon ∷ Question ∷ []) refl refl
+
+-- behind these a `(` is a call's, a `[` an index's
+abbrev called : List ℕ
+called = Identifier ∷ RightParen ∷ RightBracket ∷ []
+
+abbrev indexed : List ℕ
+indexed = Identifier ∷ RightParen ∷ RightBracket ∷ Array ∷ Map ∷ Set ∷ Result ∷ []
+
+pub called-mask : (k : ℕ) → member 0x40_00a0 k ≡ oneOf called k
+called-mask = mask-is 0x40_00a0 called refl refl
+
+pub indexed-mask : (k : ℕ) → member 0x3_c040_00a0 k ≡ oneOf indexed k
+indexed-mask = mask-is 0x3_c040_00a0 indexed refl refl
+
+pub value-mask : (k : ℕ) → member 0x3fc0_00a0 k ≡ isValueKind k
+value-mask = mask-is 0x3fc0_00a0 (Identifier ∷ NumberLiteral ∷ ByteLiteral ∷ StringLiteral ∷ CharacterLiteral ∷ FloatLiteral ∷ BoolLiteral ∷ RightParen ∷ RightBracket ∷ Null ∷ []) refl refl
+
+-- ---- `space_between`, by the tests that its code makes
+
+module _ {r : Bool} (p k : ℕ) (e : r ≡ member 0x3_f050 p) where
+  tight : {b : Bool} → r ≡ b → noSpaceAfter p ≡ b
+  tight h = sym (after-mask p) ∙ sym e ∙ h
+
+  pub none-after : r ≡ true → false ≡ needsSpace p k
+  none-after h = rw (tight h)
+
+  pub none-before : {s : Bool} → s ≡ member 0x7fa0 k → s ≡ true → false ≡ needsSpace p k
+  none-before f h = rw (sym (before-mask k) ∙ sym f ∙ h) (simp or-true)
+
+  module _ (h : r ≡ false) where
+    pub before-brace : k ≡ RightBrace → not (eqb p LeftBrace) ≡ needsSpace p k
+    before-brace g = rw (g, tight h) (simp or-false)
+
+    pub before-paren : {s : Bool} → k ≡ LeftParen → s ≡ member 0x40_00a0 p → not s ≡ needsSpace p k
+    before-paren g f = rw (f, called-mask p, g, tight h) (simp or-false)
+
+    pub before-bracket : {s : Bool} → k ≡ LeftBracket → s ≡ member 0x3_c040_00a0 p → not s ≡ needsSpace p k
+    before-bracket g f = rw (f, indexed-mask p, g, tight h)
+
+    pub before-other : {s : Bool} → s ≡ member 0x7fa0 k → s ≡ false → (k ≡ RightBrace → ⊥) → (k ≡ LeftParen → ⊥) → (k ≡ LeftBracket → ⊥) → true ≡ needsSpace p k
+    before-other f g x y z = rw (tight h, sym (before-mask k) ∙ sym f ∙ g, ne-eqb k RightBrace x, ne-eqb k LeftParen y, ne-eqb k LeftBracket z)

@@ -1,0 +1,85 @@
+-- What the measures and decisions over rows say of the tokens that the rows name. Assumes nothing.
+use mathlib.Core.Bool.{Bool, true, false, _&&_, _||_, and-true}
+use mathlib.Core.List.{List, [], _∷_}
+use mathlib.Core.Path.{_≡_, refl, sym, ap, _∙_}
+use Prim.Native.Nat.{ℕ, _+_, _-_}
+use native.Mathlib.Omega.{arith}
+use lib.Dec.{eqb, ltb}
+use borrow.Author.Tests.{lt-ltb, le-ltb, ltb-true, ltb-false}
+use Rattle.report.proofs.Logic.{split}
+use Rattle.rows.specs.Kinds.{TokenRow}
+use Rattle.rows.specs.Row.{Row, rowsOf}
+use Rattle.rows.specs.Token.{tokensOf}
+use Rattle.rows.specs.Bounds.{InBounds}
+use Rattle.lookahead.specs.declared.measure.Span.{Span}
+use Rattle.lookahead.specs.declared.measure.Span.the-variants.{Signature}
+use Rattle.lookahead.specs.Measure.{Measure, start, params, sigMeasure, groupMeasure, groupMeasureFrom, shouldBreakSig, shouldBreakList}
+use Rattle.lookahead.specs.Scan.{stopsAt, counts, measureRows, measureOf, breaks, breaksAt, groupOf, opensParenRows}
+use Rattle.lookahead.proofs.Steps.{positive}
+use Rattle.lookahead.proofs.Tokens.{sig-rows, group-rows, opens-rows}
+use Rattle.lookahead.specs.declared.measure.Measure
+
+-- ---- a token was seen exactly where there is a width
+
+record Seen (m : Measure) : Type 0 where
+  pub saw : m .sawToken ≡ ltb 0 (m .width)
+  pub none : m .width ≡ 0 → m .commas ≡ 0
+
+seen-rows : (span : Span) (m : Measure) (rs : List Row) → Seen m → Seen (measureRows span m rs)
+unfolding measureRows
+seen-rows span m [] σ = σ
+seen-rows span m (r ∷ rs) σ =
+    split (eqb (r .what) TokenRow)
+    (λ e. rw e (split (stopsAt span (m .parenDepth) (m .bracketDepth) (r .kind)) (λ f. rw f σ)
+    (λ f. rw f (seen-rows span (counts span m (r .kind) (r .end - r .start)) rs
+    (record { saw = sym (lt-ltb 0 (m .width + (r .end - r .start + 1)) (omega arith)); none = λ z. absurd (omega arith) })))))
+    (λ e. rw e (seen-rows span m rs σ))
+
+-- more than 3 params are more than 2 commas
+one-more : (n c : ℕ) → ltb (n + 1) (c + 1) ≡ ltb n c
+one-more n c =
+    split (ltb n c)
+    (λ e. let h = ltb-true n c e in rw (e, lt-ltb (n + 1) (c + 1) (omega arith)))
+    (λ e. let h = ltb-false n c e in rw (e, le-ltb (n + 1) (c + 1) (omega arith)))
+
+sig-breaks : (limit : ℕ) (m : Measure) → Seen m → (ltb 3 (params m) || ltb limit (m .width)) && ltb 0 (params m) ≡ breaksAt Signature limit m
+sig-breaks limit m σ =
+    split (ltb 0 (m .width))
+    (λ e. rw (σ .saw, e, one-more 2 (m .commas), lt-ltb 0 (m .commas + 1) (omega arith)) (and-true _))
+    (λ e. let z : m .width ≡ 0 = let h = ltb-false 0 (m .width) e in omega arith in
+    rw (σ .saw, e, z, σ .none z, le-ltb limit 0 (omega arith)))
+
+-- ---- the decisions
+
+module _ (rows text : List ℕ) (β : InBounds text (rowsOf rows)) where
+  sig-is : sigMeasure (tokensOf rows text) ≡ measureRows Signature start (rowsOf rows)
+  unfolding tokensOf
+  sig-is = sig-rows text start [] (rowsOf rows) β
+
+  group-is : groupMeasure (tokensOf rows text) ≡ measureRows (groupOf (opensParenRows (rowsOf rows))) start (rowsOf rows)
+  unfolding tokensOf
+  group-is = ap (λ p. groupMeasureFrom p start (tokensOf rows text)) (opens-rows text [] (rowsOf rows)) ∙ group-rows (opensParenRows (rowsOf rows)) text start [] (rowsOf rows) β
+
+  pub sig-said : {x : Bool} (limit : ℕ) → x ≡ breaksAt Signature limit (measureRows Signature start (rowsOf rows)) → x ≡ shouldBreakSig limit (tokensOf rows text)
+  unfolding shouldBreakSig
+  sig-said limit e = e ∙ sym (rw sig-is (sig-breaks limit (measureRows Signature start (rowsOf rows)) (seen-rows Signature start (rowsOf rows) (record { saw = refl; none = λ z. refl }))))
+
+  breaks-group : (b : Bool) (limit c w : ℕ) → breaks (groupOf b) limit c w ≡ ltb 0 c && ltb limit w
+  breaks-group true limit c w = refl
+  breaks-group false limit c w = refl
+
+  pub list-said : {x : Bool} (limit : ℕ) → x ≡ breaksAt (groupOf (opensParenRows (rowsOf rows))) limit (measureRows (groupOf (opensParenRows (rowsOf rows))) start (rowsOf rows)) → x ≡ shouldBreakList limit (tokensOf rows text)
+  unfolding shouldBreakList
+  list-said limit e = e ∙ breaks-group (opensParenRows (rowsOf rows)) limit _ _ ∙ sym (rw group-is)
+
+  -- ---- the measures
+
+  module _ (m : Measure.Measure) (e : measureOf m ≡ measureRows Signature start (rowsOf rows)) where
+    pub no-params : m .width ≡ 0 → (0 ≡ params (sigMeasure (tokensOf rows text))) × (0 ≡ sigMeasure (tokensOf rows text) .width)
+    no-params z = (rw (sig-is, ← e, z), rw (sig-is, ← e, z))
+
+    pub some-params : (m .width ≡ 0 → ⊥) → (m .commas + 1 ≡ params (sigMeasure (tokensOf rows text))) × (m .width ≡ sigMeasure (tokensOf rows text) .width)
+    some-params n = (rw (sig-is, ← e, positive (m .width) n), rw (sig-is, ← e))
+
+  pub group-said : (m : Measure.Measure) → measureOf m ≡ measureRows (groupOf (opensParenRows (rowsOf rows))) start (rowsOf rows) → (m .commas ≡ groupMeasure (tokensOf rows text) .commas) × (m .width ≡ groupMeasure (tokensOf rows text) .width)
+  group-said m e = (rw (group-is, ← e), rw (group-is, ← e))

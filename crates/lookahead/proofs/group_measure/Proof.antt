@@ -1,0 +1,21 @@
+-- `lookahead::group_measure` meets its contract. Assumes nothing.
+use mathlib.Core.Path.{ap, _∙_}
+use borrow.Author.Needs.{needs}
+use Rattle.rows.specs.Row.{rowsOf}
+use Rattle.lookahead.proofs.Said.{group-said}
+use Rattle.lookahead.specs.Scan.{measureRows}
+use Rattle.lookahead.specs.Measure.{start}
+use Rattle.lookahead.proofs.group_measure.Statement.{statement}
+use Rattle.lookahead.proofs.group_measure.Tie as tie
+
+group-requires : tie.Need-group-requires
+group-requires c κs = search needs
+
+measure-rows-requires : tie.Need-measure-rows-requires
+measure-rows-requires c κs = search needs
+
+returns : tie.Need-returns
+returns c = λ text β. group-said (c .before .before .before .args .rows .now) text β (c .measure-rows .result) (c .measure-rows .ensures .0 ∙ ap (λ s. measureRows s start (rowsOf (c .before .before .before .args .rows .now))) (c .before .group .ensures))
+
+pub group-measure-spec : {M : Type 1} → statement M
+group-measure-spec = tie.close (tie.spec group-requires measure-rows-requires returns)

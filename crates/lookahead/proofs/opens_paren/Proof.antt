@@ -1,0 +1,54 @@
+-- `lookahead::opens_paren` meets its contract. Assumes nothing.
+use Prim.Native.Nat.{_-_}
+use lib.ListN.{length}
+use borrow.Author.Needs.{needs}
+use Rattle.rows.specs.Row.{rowsOf}
+use Rattle.lookahead.proofs.Looking.{Ahead, opens-start, opens-first, opens-more, opens-none}
+use Rattle.lookahead.specs.Scan.{opensParenRows}
+use Rattle.lookahead.proofs.opens_paren.Statement.{statement}
+use Rattle.lookahead.proofs.opens_paren.Tie as tie
+
+abbrev Inv-loop : tie.InvT-loop
+Inv-loop rows at₀ at = Ahead rows (opensParenRows (rowsOf rows)) opensParenRows at
+
+abbrev μ-loop : tie.MeasureT-loop
+μ-loop rows at₀ at = length rows - at
+
+loop-holds : tie.Need-loop-holds Inv-loop μ-loop
+loop-holds c = opens-start _
+
+sub-loop : tie.Need-sub-loop Inv-loop μ-loop
+sub-loop c = search needs
+
+row-at-requires : tie.Need-row-at-requires Inv-loop μ-loop
+row-at-requires c κs = search needs
+
+returns : tie.Need-returns Inv-loop μ-loop
+returns c = opens-first (c .before .before .before .before .before .loop .inv) (search needs) (c .before .before .before .row-at .ensures) (c .before .if1 .taken)
+
+add-at : tie.Need-add-at Inv-loop μ-loop
+add-at c = search needs
+
+loop-less : tie.Need-loop-less Inv-loop μ-loop
+loop-less c = search needs
+
+loop-again : tie.Need-loop-again Inv-loop μ-loop
+loop-again c = opens-more (c .before .before .before .before .loop .inv) (search needs) (c .before .before .row-at .ensures) (c .if1 .left)
+
+returns-2 : tie.Need-returns-2 Inv-loop μ-loop
+returns-2 c = opens-none (c .before .loop .inv) (search needs)
+
+pub opens-paren-spec : {M : Type 1} → statement M
+opens-paren-spec =
+    tie.close
+    (tie.spec
+    Inv-loop
+    μ-loop
+    loop-holds
+    sub-loop
+    row-at-requires
+    returns
+    add-at
+    loop-less
+    loop-again
+    returns-2)

@@ -1,0 +1,130 @@
+-- The lookaheads over rows: what the code's loops compute. They say the same as those over tokens (proofs/Tokens.antt).
+-- Assumes nothing.
+use mathlib.Core.Bool.{Bool, true, false, cond, _&&_, _||_}
+use mathlib.Core.List.{List, [], _∷_}
+use Prim.Native.Nat.{ℕ, _+_, _-_, _<_}
+use lib.Dec.{eqb, ltb, leb}
+use Rattle.rows.specs.Kinds.{Leading, TokenRow, Trailing, BlankLine, Eof, Newline, LeftBrace, RightBrace, LeftParen, RightParen, LeftBracket, RightBracket, Comma}
+use Rattle.rows.specs.Row.{Row}
+use Rattle.lookahead.specs.declared.measure.Span.{Span}
+use Rattle.lookahead.specs.declared.measure.Span.the-variants.{Signature, Paren, Bracket}
+use Rattle.lookahead.specs.declared.measure.Measure
+use Rattle.lookahead.specs.Measure.{Measure, start, more, topLevel}
+
+-- ---- `next_has_comment`
+
+abbrev pub isComment : Row → Bool
+isComment r = eqb (r .what) Leading && ltb (r .kind) BlankLine
+
+-- the first token row, and whether a leading comment was seen before it
+unfoldable pub commentAhead : Bool → List Row → Bool
+commentAhead seen [] = false
+commentAhead seen (r ∷ rs) = cond (eqb (r .what) TokenRow) seen (commentAhead (seen || isComment r) rs)
+
+-- ---- a depth
+
+-- the depth behind a token of the kind k
+abbrev pub depthAfter : ℕ → ℕ → ℕ → ℕ → ℕ
+depthAfter opener closer k depth = cond (eqb k opener) (depth + 1) (cond (eqb k closer) (depth - 1) depth)
+
+-- ---- `block_is_single_line`
+
+-- a trailing row stands first
+abbrev pub trails : List Row → Bool
+trails [] = false
+trails (r ∷ rs) = eqb (r .what) Trailing
+
+abbrev pub endsLine : ℕ → Bool
+endsLine k = eqb k Newline || eqb k Eof
+
+abbrev pub closesBlock : ℕ → ℕ → Bool
+closesBlock k depth = eqb k RightBrace && eqb (depth - 1) 0
+
+unfoldable pub singleLineRows : ℕ → List Row → Bool
+singleLineRows depth [] = false
+singleLineRows depth (r ∷ rs) =
+    cond (eqb (r .what) Leading) false
+    (cond (eqb (r .what) TokenRow)
+    (cond (trails rs || endsLine (r .kind)) false
+    (cond (closesBlock (r .kind) depth) true (singleLineRows (depthAfter LeftBrace RightBrace (r .kind) depth) rs)))
+    (singleLineRows depth rs))
+
+-- ---- `sig_measure` and `group_measure`
+
+-- the group that a kind opens
+abbrev pub groupOf : Bool → Span
+groupOf isParen = cond isParen Paren Bracket
+
+-- whether the first token is a LeftParen
+unfoldable pub opensParenRows : List Row → Bool
+opensParenRows [] = false
+opensParenRows (r ∷ rs) = cond (eqb (r .what) TokenRow) (eqb (r .kind) LeftParen) (opensParenRows rs)
+
+-- no more than one of the opening kind is open, and none of the other
+abbrev pub isLast : ℕ → ℕ → Bool
+isLast own other = eqb (own - 1) 0 && eqb other 0
+
+-- one of the opening kind is open, and none of the other
+abbrev pub isTop : ℕ → ℕ → Bool
+isTop own other = eqb own 1 && eqb other 0
+
+-- the measure stops before a token of the kind k, at these depths
+abbrev pub stopsAt : Span → ℕ → ℕ → ℕ → Bool
+stopsAt Signature parens brackets k = (eqb k RightParen && eqb (parens - 1) 0) || eqb k Eof
+stopsAt Paren parens brackets k = (eqb k RightParen && isLast parens brackets) || eqb k Eof
+stopsAt Bracket parens brackets k = (eqb k RightBracket && isLast brackets parens) || eqb k Eof
+
+-- directly inside what is measured
+abbrev pub topIn : Span → ℕ → ℕ → Bool
+topIn Signature parens brackets = isTop parens brackets
+topIn Paren parens brackets = isTop parens brackets
+topIn Bracket parens brackets = isTop brackets parens
+
+-- a token of the kind k and of n bytes is counted
+abbrev pub counts : Span → Measure → ℕ → ℕ → Measure
+counts span m k n = record {
+  parenDepth = depthAfter LeftParen RightParen k (m .parenDepth);
+  bracketDepth = depthAfter LeftBracket RightBracket k (m .bracketDepth);
+  commas = more (eqb k Comma && topIn span (m .parenDepth) (m .bracketDepth)) (m .commas);
+  width = m .width + (n + 1);
+  sawToken = true;
+}
+
+unfoldable pub measureRows : Span → Measure → List Row → Measure
+measureRows span m [] = m
+measureRows span m (r ∷ rs) =
+    cond (eqb (r .what) TokenRow)
+    (cond (stopsAt span (m .parenDepth) (m .bracketDepth) (r .kind)) m (measureRows span (counts span m (r .kind) (r .end - r .start)) rs))
+    (measureRows span m rs)
+
+-- the numbers of the code: a token was seen where they have a width
+abbrev pub measureOf : Measure.Measure → Measure
+measureOf m = record { parenDepth = m .parens; bracketDepth = m .brackets; commas = m .commas; width = m .width; sawToken = ltb 0 (m .width) }
+
+-- ---- the two decisions
+
+-- so many commas and such a width are enough to break
+abbrev pub breaksSignature : ℕ → ℕ → ℕ → Bool
+breaksSignature limit commas width = ltb 2 commas || ltb limit width
+
+abbrev pub breaksList : ℕ → ℕ → ℕ → Bool
+breaksList limit commas width = ltb 0 commas && ltb limit width
+
+abbrev pub breaks : Span → ℕ → ℕ → ℕ → Bool
+breaks Signature limit commas width = breaksSignature limit commas width
+breaks Paren limit commas width = breaksList limit commas width
+breaks Bracket limit commas width = breaksList limit commas width
+
+abbrev pub breaksAt : Span → ℕ → Measure → Bool
+breaksAt span limit m = breaks span limit (m .commas) (m .width)
+
+-- a width that stops growing past the limit
+abbrev pub capped : ℕ → ℕ → ℕ
+capped limit width = cond (ltb limit width) (limit + 1) width
+
+-- room for one more token of n bytes in the code's numbers
+pub record Room (m : Measure.Measure) (n : ℕ) : Type 0 where
+  pub parens : m .parens < 9223372036854775808
+  pub brackets : m .brackets < 9223372036854775808
+  pub commas : m .commas < 9223372036854775808
+  pub width : m .width + n < 9223372036854775808

@@ -1,0 +1,195 @@
+// The step that the measures and the decisions share: paren depth, bracket depth, commas and width.
+use rows::Row;
+use rows::kinds;
+ghost use mathlib.Core.Path.{_≡_};
+ghost use mathlib.Core.Bool.{_&&_};
+ghost use Prim.Native.Nat.{_+_, _-_, _<_, _≤_};
+ghost use lib.Dec.{eqb};
+ghost use Rattle.rows.specs.Kinds.{LeftParen, RightParen, LeftBracket, RightBracket, Comma};
+ghost use Rattle.lookahead.specs.Measure.{more};
+ghost use Rattle.lookahead.specs.Scan.{depthAfter, isLast, isTop, stopsAt, topIn, measureOf, counts, breaks, breaksSignature, breaksList, capped, Room};
+
+// What is measured: a signature's parameters, or a group by its opening kind.
+pub enum Span {
+    Signature,
+    Paren,
+    Bracket,
+}
+
+pub struct Measure {
+    pub parens: usize,
+    pub brackets: usize,
+    pub commas: usize,
+    pub width: usize,
+}
+
+impl Measure {
+    pub fn new() -> Self
+        ensures { λ r. ⌜ (r .parens ≡ 0) × (r .brackets ≡ 0) × (r .commas ≡ 0) × (r .width ≡ 0) ⌝ }
+    {
+        Self {
+            parens: 0,
+            brackets: 0,
+            commas: 0,
+            width: 0,
+        }
+    }
+
+    // Whether the measure stops before a token of this kind: the closer that matches, or Eof.
+    pub fn stops(self, span: Span, kind: u32) -> bool
+        ensures { λ r. ⌜ r ≡ stopsAt span (self .parens) (self .brackets) kind ⌝ }
+    {
+        if kind == kinds::EOF {
+            return true;
+        }
+        match span {
+            Span::Signature => {
+                if kind != kinds::RIGHT_PAREN {
+                    return false;
+                }
+                self.parens <= 1
+            }
+            Span::Paren => {
+                if kind != kinds::RIGHT_PAREN {
+                    return false;
+                }
+                is_last(self.parens, self.brackets)
+            }
+            Span::Bracket => {
+                if kind != kinds::RIGHT_BRACKET {
+                    return false;
+                }
+                is_last(self.brackets, self.parens)
+            }
+        }
+    }
+
+    // A token of this kind and of `size` bytes is counted.
+    pub fn counts(self, span: Span, kind: u32, size: usize) -> Measure
+        requires { ⌜ Room self size ⌝ }
+        ensures { λ r. ⌜ measureOf r ≡ counts span (measureOf self) kind size ⌝ }
+    {
+        Measure {
+            parens: depth_after(kinds::LEFT_PAREN, kinds::RIGHT_PAREN, kind, self.parens),
+            brackets: depth_after(
+                kinds::LEFT_BRACKET,
+                kinds::RIGHT_BRACKET,
+                kind,
+                self.brackets,
+            ),
+            commas: self.commas_after(span, kind),
+            width: self.width + (size + 1),
+        }
+    }
+
+    // Whether the commas and the width are enough to break.
+    pub fn breaks(self, span: Span, limit: usize) -> bool
+        ensures { λ r. ⌜ r ≡ breaks span limit (self .commas) (self .width) ⌝ }
+    {
+        match span {
+            Span::Signature => self.breaks_signature(limit),
+            Span::Paren => self.breaks_list(limit),
+            Span::Bracket => self.breaks_list(limit),
+        }
+    }
+
+    fn breaks_signature(self, limit: usize) -> bool
+        ensures { λ r. ⌜ r ≡ breaksSignature limit (self .commas) (self .width) ⌝ }
+    {
+        if 2 < self.commas {
+            return true;
+        }
+        limit < self.width // a signature
+    }
+
+    fn breaks_list(self, limit: usize) -> bool
+        ensures { λ r. ⌜ r ≡ breaksList limit (self .commas) (self .width) ⌝ }
+    {
+        if 0 < self.commas {
+            return limit < self.width; // a list
+        }
+        false
+    }
+
+    // The width stops growing past the limit, so that it fits however many rows there are.
+    pub fn capped(mut self, limit: usize) -> Measure
+        requires { ⌜ limit < 4294967296 ⌝ }
+        ensures { λ r. ⌜ (r .parens ≡ self .parens) × (r .brackets ≡ self .brackets) × (r .commas ≡ self .commas) × (r .width ≡ capped limit (self .width)) ⌝ }
+    {
+        if limit < self.width {
+            self.width = limit + 1;
+        }
+        self
+    }
+
+    fn commas_after(self, span: Span, kind: u32) -> usize
+        requires { ⌜ self .commas < 9223372036854775808 ⌝ }
+        ensures { λ r. ⌜ r ≡ more (eqb kind Comma && topIn span (self .parens) (self .brackets)) (self .commas) ⌝ }
+    {
+        if kind != kinds::COMMA {
+            return self.commas;
+        }
+        if self.top_in(span) {
+            return self.commas + 1;
+        }
+        self.commas
+    }
+
+    // Directly inside what is measured.
+    fn top_in(self, span: Span) -> bool
+        ensures { λ r. ⌜ r ≡ topIn span (self .parens) (self .brackets) ⌝ }
+    {
+        match span {
+            Span::Signature => is_top(self.parens, self.brackets),
+            Span::Paren => is_top(self.parens, self.brackets),
+            Span::Bracket => is_top(self.brackets, self.parens),
+        }
+    }
+}
+
+// Whether no more than one of the opening kind is open, and none of the other.
+fn is_last(own: usize, other: usize) -> bool
+    ensures { λ r. ⌜ r ≡ isLast own other ⌝ }
+{
+    if 0 < other {
+        return false;
+    }
+    own <= 1 // of its own kind
+}
+
+// Whether one of the opening kind is open, and none of the other.
+fn is_top(own: usize, other: usize) -> bool
+    ensures { λ r. ⌜ r ≡ isTop own other ⌝ }
+{
+    if own == 1 {
+        return other == 0;
+    }
+    false
+}
+
+// A depth behind a token.
+pub fn depth_after(opener: u32, closer: u32, kind: u32, depth: usize) -> usize
+    requires { ⌜ depth < 9223372036854775808 ⌝ }
+    ensures { λ r. ⌜ r ≡ depthAfter opener closer kind depth ⌝ }
+{
+    if kind == opener {
+        return depth + 1;
+    }
+    if kind != closer {
+        return depth;
+    }
+    if depth == 0 {
+        return 0;
+    }
+    depth - 1
+}
+
+// How many bytes a row names.
+pub fn size_of(row: Row) -> usize
+    ensures { λ r. ⌜ (r ≡ row .end - row .start) × (r < 4294967296) ⌝ }
+{
+    if row.end < row.start {
+        return 0;
+    }
+    (row.end - row.start) as usize
+}

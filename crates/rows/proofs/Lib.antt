@@ -1,0 +1,3 @@
+pub mod RowList
+pub mod Checking
+pub mod Sound
