@@ -9,7 +9,7 @@ use rows::kinds;
 use rows::row_at;
 ghost use mathlib.Core.List.{List};
 ghost use mathlib.Core.Path.{_≡_};
-ghost use Prim.Native.Nat.{ℕ, _≤_, _<_};
+ghost use Prim.Native.Nat.{ℕ, _^_, _≤_, _<_};
 ghost use lib.ListN.{length, drop};
 ghost use Rattle.rows.specs.Row.{rowsOf};
 ghost use Rattle.rows.specs.Token.{tokensOf};
@@ -20,8 +20,8 @@ ghost use Rattle.lookahead.specs.Answer.{reported, spaceReport};
 ghost use Rattle.lookahead.specs.Measure.{start, params, sigMeasure, groupMeasure, shouldBreakSig, shouldBreakList, blockIsSingleLine, nextHasComment};
 ghost use Rattle.lookahead.specs.Scan.{isComment, trails, endsLine, closesBlock, opensParenRows, groupOf, measureRows, measureOf, breaksAt};
 
-pub mod measure;
-pub mod sets;
+mod measure;
+mod sets;
 
 // Whether a space is needed between two kinds, or refusal 3 with the place of the first unknown kind.
 pub enum Space {
@@ -178,7 +178,7 @@ pub fn next_has_comment(rows: &[u8]) -> bool
 
 // Whether a measure is above what does not break. It stops as soon as that is certain.
 fn decide(rows: &[u8], span: Span, limit: usize) -> bool
-    requires { ⌜ limit < 4294967296 ⌝ }
+    requires { ⌜ limit < 2 ^ 32 ⌝ }
     ensures { λ r. ⌜ r ≡ breaksAt span limit (measureRows span start (rowsOf (now (rows .entry)))) ⌝ }
 {
     let mut m = Measure::new();
