@@ -1,0 +1,5 @@
+pub mod Bytes
+pub mod Fixed
+pub mod Tests
+pub mod Rows
+pub mod Pass

@@ -1,0 +1,69 @@
+-- The loop of `plain_mark`: the mark is what the pass says of the rows that are left. Assumes nothing.
+use mathlib.Core.Bool.{Bool, true, false}
+use mathlib.Core.List.{List, [], _∷_}
+use mathlib.Core.Option.{none}
+use mathlib.Core.Path.{_≡_, refl, sym, ap, _∙_}
+use Prim.Native.Nat.{ℕ, _+_, _-_, _≤_, _<_}
+use native.Mathlib.Omega.{arith}
+use lib.ListN.{length, take, drop}
+use borrow.Author.Tests.{eq-eqb, ne-eqb}
+use Rattle.rows.specs.Kinds.{TokenRow}
+use Rattle.rows.specs.Row.{Row, rowAt, rowsOf}
+use Rattle.rows.specs.Token.{bytesOf, tokensOf}
+use Rattle.rows.specs.Bounds.{Inside, InBounds}
+use Rattle.rows.specs.Checks.{atStart, badFrom}
+use Rattle.rows.proofs.Sound.{in-bounds}
+use Rattle.lookahead.proofs.Rests.{here, over}
+use Rattle.push_token.specs.Plain.{plain}
+use Rattle.plain.specs.declared.seen.Seen.{Seen}
+use Rattle.plain.specs.Scan.{unseen, fits, behind, plainRows}
+use Rattle.plain.proofs.Bytes.{part-slice}
+use Rattle.plain.proofs.Rows.{pass}
+
+-- at the loop's head
+pub record Left (rows text : List ℕ) (q : Seen) (at : ℕ) : Type 0 where
+  pub within : at ≤ length rows
+  pub bounds : InBounds text (rowsOf (drop at rows))
+  pub mark : plain (tokensOf rows text) ≡ plainRows text q (rowsOf (drop at rows))
+
+pub start : (rows text : List ℕ) → badFrom (length text) atStart 0 (rowsOf rows) ≡ none → {q : Seen} → q ≡ unseen → Left rows text q 0
+start rows text e z = rw z (record { within = omega arith; bounds = in-bounds text atStart 0 (rowsOf rows) e; mark = pass rows text e })
+
+module _ {rows text : List ℕ} {q : Seen} {at : ℕ} (λ₀ : Left rows text q at) where
+  module _ {r : Row} (h : 16 ≤ length rows - at) (e : r ≡ rowAt rows at) where
+    rest : List Row
+    rest = rowsOf (drop (at + 16) rows)
+
+    next : rowsOf (drop at rows) ≡ r ∷ rowsOf (drop (at + 16) rows)
+    next = here rows at (λ₀ .within) h e
+
+    bounded : Inside text r × InBounds text (rowsOf (drop (at + 16) rows))
+    unfolding InBounds
+    bounded = rw next at (λ₀ .bounds)
+
+    pub inside : Inside text r
+    inside = bounded .0
+
+    pub trivia : (r .what ≡ TokenRow → ⊥) → false ≡ plain (tokensOf rows text)
+    unfolding plainRows
+    trivia n = sym (λ₀ .mark ∙ rw (next, ne-eqb (r .what) TokenRow n))
+
+    module _ (t : r .what ≡ TokenRow) {w : List ℕ} (p : w ≡ take (r .end - r .start) (drop (r .start) text)) where
+      lexeme : w ≡ bytesOf text r
+      lexeme = p ∙ part-slice (r .start) (r .end) text (inside .ordered)
+
+      pub unfit : {x : Bool} → x ≡ fits q (r .kind) w → x ≡ false → false ≡ plain (tokensOf rows text)
+      unfolding plainRows
+      unfit f z = sym (λ₀ .mark ∙ rw (next, eq-eqb (r .what) TokenRow t, ← lexeme, ← f, z))
+
+      pub more : {x : Bool} → x ≡ fits q (r .kind) w → x ≡ true → {s : Seen} → s ≡ behind q (r .kind) w → Left rows text s (at + 16)
+      unfolding plainRows
+      more f z g = record {
+        within = omega (arith, λ₀ .within);
+        bounds = bounded .1;
+        mark = λ₀ .mark ∙ rw (next, eq-eqb (r .what) TokenRow t, ← lexeme, ← f, z, g);
+      }
+
+  pub finished : length rows - at < 16 → true ≡ plain (tokensOf rows text)
+  unfolding plainRows
+  finished h = sym (λ₀ .mark ∙ rw (over rows at (λ₀ .within) h))

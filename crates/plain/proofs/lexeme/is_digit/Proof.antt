@@ -1,0 +1,15 @@
+use Rattle.plain.proofs.lexeme.is_digit.Statement.{statement}
+use Rattle.plain.proofs.lexeme.is_digit.Tie as tie
+use Rattle.plain.proofs.lexeme.is_digit.Reads as reads
+use Rattle.plain.proofs.lexeme.is_digit.Lts as lts
+
+-- src/lexeme.rt:168:9
+returns : tie.Need-returns
+returns c = ?
+
+-- src/lexeme.rt:164:1
+returns-2 : tie.Need-returns-2
+returns-2 c = ?
+
+pub is-digit-spec : {M : Type 1} → statement M
+is-digit-spec = tie.close (tie.spec returns returns-2)

@@ -1,0 +1,55 @@
+use borrow.Author.Needs.{needs}
+use Rattle.plain.proofs.lexeme.is_else.Statement.{statement}
+use Rattle.plain.proofs.lexeme.is_else.Tie as tie
+use Rattle.plain.proofs.lexeme.is_else.Reads as reads
+use Rattle.plain.proofs.lexeme.is_else.Lts as lts
+
+-- src/lexeme.rt:105:9
+returns : tie.Need-returns
+returns c = ?
+
+-- src/lexeme.rt:107:8
+shared-slice-read-if2 : tie.Need-shared-slice-read-if2
+shared-slice-read-if2 c = search needs
+
+-- src/lexeme.rt:108:9
+returns-2 : tie.Need-returns-2
+returns-2 c = ?
+
+-- src/lexeme.rt:110:8
+shared-slice-read-if3 : tie.Need-shared-slice-read-if3
+shared-slice-read-if3 c = search needs
+
+-- src/lexeme.rt:111:9
+returns-3 : tie.Need-returns-3
+returns-3 c = ?
+
+-- src/lexeme.rt:113:8
+shared-slice-read-if4 : tie.Need-shared-slice-read-if4
+shared-slice-read-if4 c = search needs
+
+-- src/lexeme.rt:114:9
+returns-4 : tie.Need-returns-4
+returns-4 c = ?
+
+-- src/lexeme.rt:116:5
+shared-slice-read-result : tie.Need-shared-slice-read-result
+shared-slice-read-result c = search needs
+
+-- src/lexeme.rt:101:1
+returns-5 : tie.Need-returns-5
+returns-5 c = ?
+
+pub is-else-spec : {M : Type 1} → statement M
+is-else-spec =
+    tie.close
+    (tie.spec
+    returns
+    shared-slice-read-if2
+    returns-2
+    shared-slice-read-if3
+    returns-3
+    shared-slice-read-if4
+    returns-4
+    shared-slice-read-result
+    returns-5)

@@ -1,0 +1,20 @@
+use borrow.Author.Needs.{needs}
+use Rattle.plain.proofs.lexeme.is_single.Statement.{statement}
+use Rattle.plain.proofs.lexeme.is_single.Tie as tie
+use Rattle.plain.proofs.lexeme.is_single.Reads as reads
+use Rattle.plain.proofs.lexeme.is_single.Lts as lts
+
+-- src/lexeme.rt:83:9
+returns : tie.Need-returns
+returns c = ?
+
+-- src/lexeme.rt:85:5
+shared-slice-read-result : tie.Need-shared-slice-read-result
+shared-slice-read-result c = search needs
+
+-- src/lexeme.rt:79:1
+returns-2 : tie.Need-returns-2
+returns-2 c = ?
+
+pub is-single-spec : {M : Type 1} → statement M
+is-single-spec = tie.close (tie.spec returns shared-slice-read-result returns-2)

@@ -1,0 +1,19 @@
+use Rattle.plain.proofs.seen.Seen.armed_behind.Statement.{statement}
+use Rattle.plain.proofs.seen.Seen.armed_behind.Tie as tie
+use Rattle.plain.proofs.seen.Seen.armed_behind.Reads as reads
+use Rattle.plain.proofs.seen.Seen.armed_behind.Lts as lts
+
+-- src/seen.rt:111:5
+returns : tie.Need-returns
+returns c = ?
+
+-- src/seen.rt:111:5
+returns-2 : tie.Need-returns-2
+returns-2 c = ?
+
+-- src/seen.rt:111:5
+returns-3 : tie.Need-returns-3
+returns-3 c = ?
+
+pub armed-behind-spec : {M : Type 1} → statement M
+armed-behind-spec = tie.close (tie.spec returns returns-2 returns-3)

@@ -1,0 +1,15 @@
+use Rattle.plain.proofs.seen.Seen.behind_mute.Statement.{statement}
+use Rattle.plain.proofs.seen.Seen.behind_mute.Tie as tie
+use Rattle.plain.proofs.seen.Seen.behind_mute.Reads as reads
+use Rattle.plain.proofs.seen.Seen.behind_mute.Lts as lts
+
+-- src/seen.rt:100:5
+returns : tie.Need-returns
+returns c = ?
+
+-- src/seen.rt:100:5
+returns-2 : tie.Need-returns-2
+returns-2 c = ?
+
+pub behind-mute-spec : {M : Type 1} → statement M
+behind-mute-spec = tie.close (tie.spec returns returns-2)

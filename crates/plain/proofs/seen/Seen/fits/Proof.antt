@@ -1,0 +1,48 @@
+use borrow.Author.Needs.{needs}
+use Rattle.plain.proofs.seen.Seen.fits.Statement.{statement}
+use Rattle.plain.proofs.seen.Seen.fits.Tie as tie
+use Rattle.plain.proofs.seen.Seen.fits.Reads as reads
+use Rattle.plain.proofs.seen.Seen.fits.Lts as lts
+use Rattle.plain.proofs.lexeme.is_itself.Reads as is-itself-reads
+use Rattle.plain.proofs.seen.Seen.collides.Reads as collides-reads
+use Rattle.plain.proofs.seen.Seen.forbids.Reads as forbids-reads
+
+-- src/seen.rt:43:13
+returns : tie.Need-returns
+returns c = ?
+
+-- src/seen.rt:45:12
+forbids-requires : tie.Need-forbids-requires
+forbids-requires c κs = search needs
+
+-- src/seen.rt:46:13
+returns-2 : tie.Need-returns-2
+returns-2 c = ?
+
+-- src/seen.rt:48:13
+is-itself-requires : tie.Need-is-itself-requires
+is-itself-requires c κs = search needs
+
+-- src/seen.rt:49:13
+returns-3 : tie.Need-returns-3
+returns-3 c = ?
+
+-- src/seen.rt:51:10
+collides-requires : tie.Need-collides-requires
+collides-requires c κs = search needs
+
+-- src/seen.rt:39:5
+returns-4 : tie.Need-returns-4
+returns-4 c = ?
+
+pub fits-spec : {M : Type 1} → statement M
+fits-spec =
+    tie.close
+    (tie.spec
+    returns
+    forbids-requires
+    returns-2
+    is-itself-requires
+    returns-3
+    collides-requires
+    returns-4)

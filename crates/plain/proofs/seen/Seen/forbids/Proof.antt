@@ -1,0 +1,23 @@
+use Rattle.plain.proofs.seen.Seen.forbids.Statement.{statement}
+use Rattle.plain.proofs.seen.Seen.forbids.Tie as tie
+use Rattle.plain.proofs.seen.Seen.forbids.Reads as reads
+use Rattle.plain.proofs.seen.Seen.forbids.Lts as lts
+
+-- src/seen.rt:72:5
+returns : tie.Need-returns
+returns c = ?
+
+-- src/seen.rt:72:5
+returns-2 : tie.Need-returns-2
+returns-2 c = ?
+
+-- src/seen.rt:72:5
+returns-3 : tie.Need-returns-3
+returns-3 c = ?
+
+-- src/seen.rt:72:5
+returns-4 : tie.Need-returns-4
+returns-4 c = ?
+
+pub forbids-spec : {M : Type 1} → statement M
+forbids-spec = tie.close (tie.spec returns returns-2 returns-3 returns-4)

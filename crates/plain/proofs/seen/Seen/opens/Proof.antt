@@ -1,0 +1,15 @@
+use Rattle.plain.proofs.seen.Seen.opens.Statement.{statement}
+use Rattle.plain.proofs.seen.Seen.opens.Tie as tie
+use Rattle.plain.proofs.seen.Seen.opens.Reads as reads
+use Rattle.plain.proofs.seen.Seen.opens.Lts as lts
+
+-- src/seen.rt:125:13
+returns : tie.Need-returns
+returns c = ?
+
+-- src/seen.rt:121:5
+returns-2 : tie.Need-returns-2
+returns-2 c = ?
+
+pub opens-spec : {M : Type 1} → statement M
+opens-spec = tie.close (tie.spec returns returns-2)

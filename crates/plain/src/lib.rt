@@ -1,0 +1,39 @@
+// The plain mark (document 01), in one pass over rows that were checked.
+use crate::seen::Seen;
+use rows::ROW_BYTES;
+use rows::kinds;
+use rows::row_at;
+ghost use mathlib.Core.Path.{_≡_};
+ghost use mathlib.Core.Option.{none};
+ghost use lib.ListN.{length};
+ghost use Rattle.rows.specs.Row.{rowsOf};
+ghost use Rattle.rows.specs.Token.{tokensOf};
+ghost use Rattle.rows.specs.Checks.{atStart, badFrom};
+ghost use Rattle.push_token.specs.Plain.{plain};
+
+mod lexeme;
+mod seen;
+
+// Whether the tokens that the rows name in the text are plain. The rows are those that `rows::check` calls good.
+pub fn plain_mark(rows: &[u8], text: &[u8]) -> bool
+    requires { ⌜ badFrom (length (now text)) atStart 0 (rowsOf (now rows)) ≡ none ⌝ }
+    ensures { λ r. ⌜ r ≡ plain (tokensOf (now (rows .entry)) (now (text .entry))) ⌝ }
+{
+    let mut seen = Seen::new();
+    let mut at = 0;
+    while ROW_BYTES <= rows.len() - at {
+        let row = row_at(rows, at);
+        if row.what != kinds::TOKEN {
+            return false;
+        }
+        let start = row.start as usize;
+        let end = row.end as usize;
+        let lexeme = &text[start..end];
+        if !seen.fits(row.kind, lexeme) {
+            return false;
+        }
+        seen = seen.behind(row.kind, lexeme);
+        at += ROW_BYTES;
+    }
+    true
+}
