@@ -20,6 +20,10 @@ use Rattle.plain.specs.Scan.{unseen, fits, behind, plainRows}
 use Rattle.plain.proofs.Bytes.{part-slice}
 use Rattle.plain.proofs.Rows.{pass}
 
+-- a row's bytes, as the code takes them
+abbrev part : List ℕ → Row → List ℕ
+part text r = take (r .end - r .start) (drop (r .start) text)
+
 -- at the loop's head
 pub record Left (rows text : List ℕ) (q : Seen) (at : ℕ) : Type 0 where
   pub within : at ≤ length rows
@@ -29,41 +33,38 @@ pub record Left (rows text : List ℕ) (q : Seen) (at : ℕ) : Type 0 where
 pub start : (rows text : List ℕ) → badFrom (length text) atStart 0 (rowsOf rows) ≡ none → {q : Seen} → q ≡ unseen → Left rows text q 0
 start rows text e z = rw z (record { within = omega arith; bounds = in-bounds text atStart 0 (rowsOf rows) e; mark = pass rows text e })
 
-module _ {rows text : List ℕ} {q : Seen} {at : ℕ} (λ₀ : Left rows text q at) where
+module _ {rows text : List ℕ} {q : Seen} {at : ℕ} (σ : Left rows text q at) where
   module _ {r : Row} (h : 16 ≤ length rows - at) (e : r ≡ rowAt rows at) where
-    rest : List Row
-    rest = rowsOf (drop (at + 16) rows)
-
     next : rowsOf (drop at rows) ≡ r ∷ rowsOf (drop (at + 16) rows)
-    next = here rows at (λ₀ .within) h e
+    next = here rows at (σ .within) h e
 
     bounded : Inside text r × InBounds text (rowsOf (drop (at + 16) rows))
     unfolding InBounds
-    bounded = rw next at (λ₀ .bounds)
+    bounded = rw next at (σ .bounds)
 
     pub inside : Inside text r
     inside = bounded .0
 
     pub trivia : (r .what ≡ TokenRow → ⊥) → false ≡ plain (tokensOf rows text)
     unfolding plainRows
-    trivia n = sym (λ₀ .mark ∙ rw (next, ne-eqb (r .what) TokenRow n))
+    trivia n = sym (σ .mark ∙ rw (next, ne-eqb (r .what) TokenRow n))
 
-    module _ (t : r .what ≡ TokenRow) {w : List ℕ} (p : w ≡ take (r .end - r .start) (drop (r .start) text)) where
-      lexeme : w ≡ bytesOf text r
-      lexeme = p ∙ part-slice (r .start) (r .end) text (inside .ordered)
+    module _ (t : r .what ≡ TokenRow) where
+      lexeme : part text r ≡ bytesOf text r
+      lexeme = part-slice (r .start) (r .end) text (inside .ordered)
 
-      pub unfit : {x : Bool} → x ≡ fits q (r .kind) w → x ≡ false → false ≡ plain (tokensOf rows text)
+      pub unfit : {x : Bool} → x ≡ fits q (r .kind) (part text r) → x ≡ false → false ≡ plain (tokensOf rows text)
       unfolding plainRows
-      unfit f z = sym (λ₀ .mark ∙ rw (next, eq-eqb (r .what) TokenRow t, ← lexeme, ← f, z))
+      unfit f z = sym (σ .mark ∙ rw (next, eq-eqb (r .what) TokenRow t, ← lexeme, ← f, z))
 
-      pub more : {x : Bool} → x ≡ fits q (r .kind) w → x ≡ true → {s : Seen} → s ≡ behind q (r .kind) w → Left rows text s (at + 16)
+      pub more : {x : Bool} → x ≡ fits q (r .kind) (part text r) → x ≡ true → {s : Seen} → s ≡ behind q (r .kind) (part text r) → Left rows text s (at + 16)
       unfolding plainRows
       more f z g = record {
-        within = omega (arith, λ₀ .within);
+        within = omega (arith, σ .within);
         bounds = bounded .1;
-        mark = λ₀ .mark ∙ rw (next, eq-eqb (r .what) TokenRow t, ← lexeme, ← f, z, g);
+        mark = σ .mark ∙ rw (next, eq-eqb (r .what) TokenRow t, ← lexeme, ← f, z, g);
       }
 
   pub finished : length rows - at < 16 → true ≡ plain (tokensOf rows text)
   unfolding plainRows
-  finished h = sym (λ₀ .mark ∙ rw (over rows at (λ₀ .within) h))
+  finished h = sym (σ .mark ∙ rw (over rows at (σ .within) h))

@@ -1,3 +1,5 @@
+use Rattle.plain.proofs.Bytes.{no-digit-first, digit-first}
+use mathlib.Core.Path.{_∙_}
 use borrow.Author.Needs.{needs}
 use Rattle.plain.proofs.lexeme.begins_digit.Statement.{statement}
 use Rattle.plain.proofs.lexeme.begins_digit.Tie as tie
@@ -7,7 +9,7 @@ use Rattle.plain.proofs.lexeme.is_digit.Reads as is-digit-reads
 
 -- src/lexeme.rt:51:9
 returns : tie.Need-returns
-returns c = ?
+returns c = no-digit-first (c .before .before .args .lexeme .now) (c .if1 .taken)
 
 -- src/lexeme.rt:53:14
 shared-slice-read-is-digit : tie.Need-shared-slice-read-is-digit
@@ -19,7 +21,7 @@ is-digit-requires c κs = search needs
 
 -- src/lexeme.rt:47:1
 returns-2 : tie.Need-returns-2
-returns-2 c = ?
+returns-2 c = c .is-digit .ensures ∙ digit-first (c .before .before .before .before .args .lexeme .now) (c .before .before .if1 .left)
 
 pub begins-digit-spec : {M : Type 1} → statement M
 begins-digit-spec =

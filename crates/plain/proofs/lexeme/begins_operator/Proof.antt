@@ -1,3 +1,5 @@
+use Rattle.plain.proofs.Bytes.{no-operator-first, operator-first}
+use mathlib.Core.Path.{_∙_}
 use borrow.Author.Needs.{needs}
 use Rattle.plain.proofs.lexeme.begins_operator.Statement.{statement}
 use Rattle.plain.proofs.lexeme.begins_operator.Tie as tie
@@ -7,7 +9,7 @@ use Rattle.plain.proofs.lexeme.is_operator.Reads as is-operator-reads
 
 -- src/lexeme.rt:33:9
 returns : tie.Need-returns
-returns c = ?
+returns c = no-operator-first (c .before .before .args .lexeme .now) (c .if1 .taken)
 
 -- src/lexeme.rt:35:17
 shared-slice-read-is-operator : tie.Need-shared-slice-read-is-operator
@@ -19,7 +21,7 @@ is-operator-requires c κs = search needs
 
 -- src/lexeme.rt:29:1
 returns-2 : tie.Need-returns-2
-returns-2 c = ?
+returns-2 c = c .is-operator .ensures ∙ operator-first (c .before .before .before .before .args .lexeme .now) (c .before .before .if1 .left)
 
 pub begins-operator-spec : {M : Type 1} → statement M
 begins-operator-spec =

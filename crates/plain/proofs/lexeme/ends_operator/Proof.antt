@@ -1,3 +1,5 @@
+use Rattle.plain.proofs.Bytes.{no-operator-last, operator-last}
+use mathlib.Core.Path.{_∙_}
 use borrow.Author.Needs.{needs}
 use Rattle.plain.proofs.lexeme.ends_operator.Statement.{statement}
 use Rattle.plain.proofs.lexeme.ends_operator.Tie as tie
@@ -7,7 +9,7 @@ use Rattle.plain.proofs.lexeme.is_operator.Reads as is-operator-reads
 
 -- src/lexeme.rt:42:9
 returns : tie.Need-returns
-returns c = ?
+returns c = no-operator-last (c .before .before .args .lexeme .now) (c .if1 .taken)
 
 -- src/lexeme.rt:44:24
 sub-is-operator : tie.Need-sub-is-operator
@@ -23,7 +25,7 @@ is-operator-requires c κs = search needs
 
 -- src/lexeme.rt:38:1
 returns-2 : tie.Need-returns-2
-returns-2 c = ?
+returns-2 c = c .is-operator .ensures ∙ operator-last (c .before .before .before .before .args .lexeme .now) (c .before .before .if1 .left)
 
 pub ends-operator-spec : {M : Type 1} → statement M
 ends-operator-spec =

@@ -1,3 +1,5 @@
+use borrow.Author.Tests.{not-true, not-false}
+use mathlib.Core.Path.{sym, _∙_}
 use borrow.Author.Needs.{needs}
 use Rattle.plain.proofs.lexeme.is_operators.Statement.{statement}
 use Rattle.plain.proofs.lexeme.is_operators.Tie as tie
@@ -12,7 +14,7 @@ begins-operator-requires c κs = search needs
 
 -- src/lexeme.rt:124:9
 returns : tie.Need-returns
-returns c = ?
+returns c = rw (sym (c .before .begins-operator .ensures) ∙ not-true _ (c .if1 .taken))
 
 -- src/lexeme.rt:126:5
 reads-whole-requires : tie.Need-reads-whole-requires
@@ -20,7 +22,7 @@ reads-whole-requires c κs = search needs
 
 -- src/lexeme.rt:120:1
 returns-2 : tie.Need-returns-2
-returns-2 c = ?
+returns-2 c = rw (sym (c .before .before .begins-operator .ensures) ∙ not-false _ (c .before .if1 .left)) (c .reads-whole .ensures)
 
 pub is-operators-spec : {M : Type 1} → statement M
 is-operators-spec =

@@ -1,3 +1,6 @@
+use Rattle.plain.specs.Scan.{singleOf}
+use borrow.Author.Tests.{ne-eqb}
+use borrow.Author.Needs.{needs}
 use Rattle.plain.proofs.lexeme.single_of.Statement.{statement}
 use Rattle.plain.proofs.lexeme.single_of.Tie as tie
 use Rattle.plain.proofs.lexeme.single_of.Reads as reads
@@ -5,63 +8,78 @@ use Rattle.plain.proofs.lexeme.single_of.Lts as lts
 
 -- src/lexeme.rt:57:1
 returns : tie.Need-returns
-returns c = ?
+unfolding singleOf
+returns c = rw (c .match .keys1)
 
 -- src/lexeme.rt:57:1
 returns-2 : tie.Need-returns-2
-returns-2 c = ?
+unfolding singleOf
+returns-2 c = rw (c .match .keys2)
 
 -- src/lexeme.rt:57:1
 returns-3 : tie.Need-returns-3
-returns-3 c = ?
+unfolding singleOf
+returns-3 c = rw (c .match .keys3)
 
 -- src/lexeme.rt:57:1
 returns-4 : tie.Need-returns-4
-returns-4 c = ?
+unfolding singleOf
+returns-4 c = rw (c .match .keys4)
 
 -- src/lexeme.rt:57:1
 returns-5 : tie.Need-returns-5
-returns-5 c = ?
+unfolding singleOf
+returns-5 c = rw (c .match .keys5)
 
 -- src/lexeme.rt:57:1
 returns-6 : tie.Need-returns-6
-returns-6 c = ?
+unfolding singleOf
+returns-6 c = rw (c .match .keys6)
 
 -- src/lexeme.rt:57:1
 returns-7 : tie.Need-returns-7
-returns-7 c = ?
+unfolding singleOf
+returns-7 c = rw (c .match .keys7)
 
 -- src/lexeme.rt:57:1
 returns-8 : tie.Need-returns-8
-returns-8 c = ?
+unfolding singleOf
+returns-8 c = rw (c .match .keys8)
 
 -- src/lexeme.rt:57:1
 returns-9 : tie.Need-returns-9
-returns-9 c = ?
+unfolding singleOf
+returns-9 c = rw (c .match .keys9)
 
 -- src/lexeme.rt:57:1
 returns-10 : tie.Need-returns-10
-returns-10 c = ?
+unfolding singleOf
+returns-10 c = rw (c .match .keys10)
 
 -- src/lexeme.rt:57:1
 returns-11 : tie.Need-returns-11
-returns-11 c = ?
+unfolding singleOf
+returns-11 c = rw (c .match .keys11)
 
 -- src/lexeme.rt:57:1
 returns-12 : tie.Need-returns-12
-returns-12 c = ?
+unfolding singleOf
+returns-12 c = rw (c .match .keys12)
 
 -- src/lexeme.rt:57:1
 returns-13 : tie.Need-returns-13
-returns-13 c = ?
+unfolding singleOf
+returns-13 c = rw (c .match .keys13)
 
 -- src/lexeme.rt:57:1
 returns-14 : tie.Need-returns-14
-returns-14 c = ?
+unfolding singleOf
+returns-14 c = rw (c .match .keys14)
 
 -- src/lexeme.rt:57:1
 returns-15 : tie.Need-returns-15
-returns-15 c = ?
+unfolding singleOf
+returns-15 c = rw (ne-eqb _ _ (c .match .rest .0 .0 .0 .0 .0 .0 .0 .0 .0 .0 .0 .0 .0 .1), ne-eqb _ _ (c .match .rest .0 .0 .0 .0 .0 .0 .0 .0 .0 .0 .0 .0 .1), ne-eqb _ _ (c .match .rest .0 .0 .0 .0 .0 .0 .0 .0 .0 .0 .0 .1), ne-eqb _ _ (c .match .rest .0 .0 .0 .0 .0 .0 .0 .0 .0 .0 .1), ne-eqb _ _ (c .match .rest .0 .0 .0 .0 .0 .0 .0 .0 .0 .1), ne-eqb _ _ (c .match .rest .0 .0 .0 .0 .0 .0 .0 .0 .1), ne-eqb _ _ (c .match .rest .0 .0 .0 .0 .0 .0 .0 .1), ne-eqb _ _ (c .match .rest .0 .0 .0 .0 .0 .0 .1), ne-eqb _ _ (c .match .rest .0 .0 .0 .0 .0 .1), ne-eqb _ _ (c .match .rest .0 .0 .0 .0 .1), ne-eqb _ _ (c .match .rest .0 .0 .0 .1), ne-eqb _ _ (c .match .rest .0 .0 .1), ne-eqb _ _ (c .match .rest .0 .1), ne-eqb _ _ (c .match .rest .1))
 
 pub single-of-spec : {M : Type 1} → statement M
 single-of-spec =

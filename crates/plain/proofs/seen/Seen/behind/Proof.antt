@@ -1,3 +1,4 @@
+use Rattle.plain.proofs.Tests.{behind-written}
 use borrow.Author.Needs.{needs}
 use Rattle.plain.proofs.seen.Seen.behind.Statement.{statement}
 use Rattle.plain.proofs.seen.Seen.behind.Tie as tie
@@ -16,7 +17,7 @@ behind-mute-requires c κs = search needs
 
 -- src/seen.rt:59:13
 returns : tie.Need-returns
-returns c = ?
+returns c = c .behind-mute .ensures (c .before .before .before .args .lexeme .now)
 
 -- src/seen.rt:62:23
 ends-operator-requires : tie.Need-ends-operator-requires
@@ -40,7 +41,7 @@ opens-requires c κs = search needs
 
 -- src/seen.rt:55:5
 returns-2 : tie.Need-returns-2
-returns-2 c = ?
+returns-2 c = behind-written (c .before .before .before .before .before .before .before .args .self) (c .before .before .before .before .before .before .before .args .kind) (c .before .before .before .before .before .before .before .args .lexeme .now) (c .before .before .before .before .before .if1 .left) (c .before .before .before .before .ends-operator .ensures) (c .before .before .before .tight-before .ensures) (c .before .before .begins-digit .ensures) (c .before .armed-behind .ensures) (c .opens .ensures)
 
 pub behind-spec : {M : Type 1} → statement M
 behind-spec =

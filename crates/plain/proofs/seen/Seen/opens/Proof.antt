@@ -1,3 +1,5 @@
+use borrow.Author.Tests.{eq-eqb, ne-eqb}
+use borrow.Author.Needs.{needs}
 use Rattle.plain.proofs.seen.Seen.opens.Statement.{statement}
 use Rattle.plain.proofs.seen.Seen.opens.Tie as tie
 use Rattle.plain.proofs.seen.Seen.opens.Reads as reads
@@ -5,11 +7,11 @@ use Rattle.plain.proofs.seen.Seen.opens.Lts as lts
 
 -- src/seen.rt:125:13
 returns : tie.Need-returns
-returns c = ?
+returns c = rw (eq-eqb _ _ (c .if1 .taken))
 
 -- src/seen.rt:121:5
 returns-2 : tie.Need-returns-2
-returns-2 c = ?
+returns-2 c = rw (ne-eqb _ _ (c .if1 .left))
 
 pub opens-spec : {M : Type 1} → statement M
 opens-spec = tie.close (tie.spec returns returns-2)
