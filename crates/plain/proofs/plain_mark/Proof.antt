@@ -1,17 +1,11 @@
-use Rattle.plain.proofs.Pass.{Left, start, inside, trivia, unfit, more, finished}
-use borrow.Author.Tests.{not-true, not-false}
-use lib.ListN.{length}
+-- `plain::plain_mark` meets its contract. Assumes nothing.
 use Prim.Native.Nat.{_-_}
-use mathlib.Core.Path.{sym, ap, _∙_}
+use lib.ListN.{length}
 use borrow.Author.Needs.{needs}
+use borrow.Author.Tests.{not-true, not-false}
+use Rattle.plain.proofs.Pass.{Left, start, inside, trivia, unfit, more, finished}
 use Rattle.plain.proofs.plain_mark.Statement.{statement}
 use Rattle.plain.proofs.plain_mark.Tie as tie
-use Rattle.plain.proofs.plain_mark.Reads as reads
-use Rattle.plain.proofs.plain_mark.Lts as lts
-use Rattle.plain.proofs.seen.Seen.behind.Reads as behind-reads
-use Rattle.plain.proofs.seen.Seen.fits.Reads as fits-reads
-use Rattle.plain.proofs.seen.Seen.new.Reads as new-reads
-use Rattle.rows.proofs.row_at.Reads as row-at-reads
 
 abbrev Inv-loop : tie.InvT-loop
 Inv-loop rows text seen₀ at₀ seen at = Left rows text seen at
@@ -19,71 +13,54 @@ Inv-loop rows text seen₀ at₀ seen at = Left rows text seen at
 abbrev μ-loop : tie.MeasureT-loop
 μ-loop rows text seen₀ at₀ seen at = length rows - at
 
--- src/lib.rt:22:9
 new-requires : tie.Need-new-requires Inv-loop μ-loop
 new-requires c κs = search needs
 
--- src/lib.rt:24:5
 loop-holds : tie.Need-loop-holds Inv-loop μ-loop
 loop-holds c = start (c .before .before .before .args .rows .now) (c .before .before .before .args .text .now) (c .before .before .before .pre) (c .new .ensures)
 
--- src/lib.rt:24:24
 sub-loop : tie.Need-sub-loop Inv-loop μ-loop
 sub-loop c = search needs
 
--- src/lib.rt:25:13
 row-at-requires : tie.Need-row-at-requires Inv-loop μ-loop
 row-at-requires c κs = search needs
 
--- src/lib.rt:27:13
 returns : tie.Need-returns Inv-loop μ-loop
 returns c = trivia (c .before .before .before .before .loop .inv) (search needs) (c .before .before .row-at .ensures) (c .if1 .taken)
 
--- src/lib.rt:29:21
 cast-start : tie.Need-cast-start Inv-loop μ-loop
 cast-start c = search needs
 
--- src/lib.rt:30:19
 cast-end : tie.Need-cast-end Inv-loop μ-loop
 cast-end c = search needs
 
--- src/lib.rt:31:22
 sub-lexeme : tie.Need-sub-lexeme Inv-loop μ-loop
 sub-lexeme c = inside (c .before .before .before .before .before .before .loop .inv) (search needs) (c .before .before .before .before .row-at .ensures) .ordered
 
--- src/lib.rt:31:22
 part-lexeme-start : tie.Need-part-lexeme-start Inv-loop μ-loop
 part-lexeme-start c = inside (c .before .before .before .before .before .before .loop .inv) (search needs) (c .before .before .before .before .row-at .ensures) .ordered
 
--- src/lib.rt:31:22
 part-lexeme-end : tie.Need-part-lexeme-end Inv-loop μ-loop
 part-lexeme-end c = inside (c .before .before .before .before .before .before .loop .inv) (search needs) (c .before .before .before .before .row-at .ensures) .within
 
--- src/lib.rt:32:13
 fits-requires : tie.Need-fits-requires Inv-loop μ-loop
 fits-requires c κs = search needs
 
--- src/lib.rt:33:13
 returns-2 : tie.Need-returns-2 Inv-loop μ-loop
 returns-2 c = unfit (c .before .before .before .before .before .before .before .before .before .loop .inv) (search needs) (c .before .before .before .before .before .before .before .row-at .ensures) (c .before .before .before .before .before .if1 .left) (c .before .fits2 .ensures) (not-true _ (c .if2 .taken))
 
--- src/lib.rt:35:9
 behind-requires : tie.Need-behind-requires Inv-loop μ-loop
 behind-requires c κs = search needs
 
--- src/lib.rt:36:9
 add-at : tie.Need-add-at Inv-loop μ-loop
 add-at c = search needs
 
--- src/lib.rt:24:5
 loop-less : tie.Need-loop-less Inv-loop μ-loop
 loop-less c = search needs
 
--- src/lib.rt:24:5
 loop-again : tie.Need-loop-again Inv-loop μ-loop
 loop-again c = more (c .before .before .before .before .before .before .before .before .before .before .loop .inv) (search needs) (c .before .before .before .before .before .before .before .before .row-at .ensures) (c .before .before .before .before .before .before .if1 .left) (c .before .before .fits2 .ensures) (not-false _ (c .before .if2 .left)) (c .behind .ensures)
 
--- src/lib.rt:18:1
 returns-3 : tie.Need-returns-3 Inv-loop μ-loop
 returns-3 c = finished (c .before .loop .inv) (search needs)
 

@@ -1,15 +1,11 @@
+-- `plain::lexeme::is_digit` meets its contract. Assumes nothing.
 use borrow.Author.Tests.{le-leb, lt-leb}
-use borrow.Author.Needs.{needs}
 use Rattle.plain.proofs.lexeme.is_digit.Statement.{statement}
 use Rattle.plain.proofs.lexeme.is_digit.Tie as tie
-use Rattle.plain.proofs.lexeme.is_digit.Reads as reads
-use Rattle.plain.proofs.lexeme.is_digit.Lts as lts
 
--- src/lexeme.rt:168:9
 returns : tie.Need-returns
 returns c = rw (le-leb _ _ (c .if1 .taken))
 
--- src/lexeme.rt:164:1
 returns-2 : tie.Need-returns-2
 returns-2 c = rw (lt-leb _ _ (c .if1 .left))
 

@@ -1,82 +1,65 @@
-use Rattle.plain.specs.Scan.{singleOf}
+-- `plain::lexeme::single_of` meets its contract. Assumes nothing.
 use borrow.Author.Tests.{ne-eqb}
-use borrow.Author.Needs.{needs}
+use Rattle.plain.specs.Scan.{singleOf}
 use Rattle.plain.proofs.lexeme.single_of.Statement.{statement}
 use Rattle.plain.proofs.lexeme.single_of.Tie as tie
-use Rattle.plain.proofs.lexeme.single_of.Reads as reads
-use Rattle.plain.proofs.lexeme.single_of.Lts as lts
 
--- src/lexeme.rt:57:1
 returns : tie.Need-returns
 unfolding singleOf
 returns c = rw (c .match .keys1)
 
--- src/lexeme.rt:57:1
 returns-2 : tie.Need-returns-2
 unfolding singleOf
 returns-2 c = rw (c .match .keys2)
 
--- src/lexeme.rt:57:1
 returns-3 : tie.Need-returns-3
 unfolding singleOf
 returns-3 c = rw (c .match .keys3)
 
--- src/lexeme.rt:57:1
 returns-4 : tie.Need-returns-4
 unfolding singleOf
 returns-4 c = rw (c .match .keys4)
 
--- src/lexeme.rt:57:1
 returns-5 : tie.Need-returns-5
 unfolding singleOf
 returns-5 c = rw (c .match .keys5)
 
--- src/lexeme.rt:57:1
 returns-6 : tie.Need-returns-6
 unfolding singleOf
 returns-6 c = rw (c .match .keys6)
 
--- src/lexeme.rt:57:1
 returns-7 : tie.Need-returns-7
 unfolding singleOf
 returns-7 c = rw (c .match .keys7)
 
--- src/lexeme.rt:57:1
 returns-8 : tie.Need-returns-8
 unfolding singleOf
 returns-8 c = rw (c .match .keys8)
 
--- src/lexeme.rt:57:1
 returns-9 : tie.Need-returns-9
 unfolding singleOf
 returns-9 c = rw (c .match .keys9)
 
--- src/lexeme.rt:57:1
 returns-10 : tie.Need-returns-10
 unfolding singleOf
 returns-10 c = rw (c .match .keys10)
 
--- src/lexeme.rt:57:1
 returns-11 : tie.Need-returns-11
 unfolding singleOf
 returns-11 c = rw (c .match .keys11)
 
--- src/lexeme.rt:57:1
 returns-12 : tie.Need-returns-12
 unfolding singleOf
 returns-12 c = rw (c .match .keys12)
 
--- src/lexeme.rt:57:1
 returns-13 : tie.Need-returns-13
 unfolding singleOf
 returns-13 c = rw (c .match .keys13)
 
--- src/lexeme.rt:57:1
 returns-14 : tie.Need-returns-14
 unfolding singleOf
 returns-14 c = rw (c .match .keys14)
 
--- src/lexeme.rt:57:1
 returns-15 : tie.Need-returns-15
 unfolding singleOf
 returns-15 c = rw (ne-eqb _ _ (c .match .rest .0 .0 .0 .0 .0 .0 .0 .0 .0 .0 .0 .0 .0 .1), ne-eqb _ _ (c .match .rest .0 .0 .0 .0 .0 .0 .0 .0 .0 .0 .0 .0 .1), ne-eqb _ _ (c .match .rest .0 .0 .0 .0 .0 .0 .0 .0 .0 .0 .0 .1), ne-eqb _ _ (c .match .rest .0 .0 .0 .0 .0 .0 .0 .0 .0 .0 .1), ne-eqb _ _ (c .match .rest .0 .0 .0 .0 .0 .0 .0 .0 .0 .1), ne-eqb _ _ (c .match .rest .0 .0 .0 .0 .0 .0 .0 .0 .1), ne-eqb _ _ (c .match .rest .0 .0 .0 .0 .0 .0 .0 .1), ne-eqb _ _ (c .match .rest .0 .0 .0 .0 .0 .0 .1), ne-eqb _ _ (c .match .rest .0 .0 .0 .0 .0 .1), ne-eqb _ _ (c .match .rest .0 .0 .0 .0 .1), ne-eqb _ _ (c .match .rest .0 .0 .0 .1), ne-eqb _ _ (c .match .rest .0 .0 .1), ne-eqb _ _ (c .match .rest .0 .1), ne-eqb _ _ (c .match .rest .1))

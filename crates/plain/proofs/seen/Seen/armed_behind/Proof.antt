@@ -1,19 +1,14 @@
+-- `plain::seen::Seen::armed_behind` meets its contract. Assumes nothing.
 use borrow.Author.Tests.{ne-eqb}
-use borrow.Author.Needs.{needs}
 use Rattle.plain.proofs.seen.Seen.armed_behind.Statement.{statement}
 use Rattle.plain.proofs.seen.Seen.armed_behind.Tie as tie
-use Rattle.plain.proofs.seen.Seen.armed_behind.Reads as reads
-use Rattle.plain.proofs.seen.Seen.armed_behind.Lts as lts
 
--- src/seen.rt:111:5
 returns : tie.Need-returns
 returns c = rw (c .match .keys1)
 
--- src/seen.rt:111:5
 returns-2 : tie.Need-returns-2
 returns-2 c = rw (c .match .keys2)
 
--- src/seen.rt:111:5
 returns-3 : tie.Need-returns-3
 returns-3 c = rw (ne-eqb _ _ (c .match .rest .0 .1), ne-eqb _ _ (c .match .rest .1))
 

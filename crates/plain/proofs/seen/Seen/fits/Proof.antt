@@ -1,40 +1,29 @@
-use Rattle.plain.proofs.Tests.{is-mute, not-mute}
-use borrow.Author.Tests.{not-true, not-false}
+-- `plain::seen::Seen::fits` meets its contract. Assumes nothing.
 use mathlib.Core.Path.{sym, _∙_}
 use borrow.Author.Needs.{needs}
+use borrow.Author.Tests.{not-true, not-false}
+use Rattle.plain.proofs.Tests.{is-mute, not-mute}
 use Rattle.plain.proofs.seen.Seen.fits.Statement.{statement}
 use Rattle.plain.proofs.seen.Seen.fits.Tie as tie
-use Rattle.plain.proofs.seen.Seen.fits.Reads as reads
-use Rattle.plain.proofs.seen.Seen.fits.Lts as lts
-use Rattle.plain.proofs.lexeme.is_itself.Reads as is-itself-reads
-use Rattle.plain.proofs.seen.Seen.collides.Reads as collides-reads
-use Rattle.plain.proofs.seen.Seen.forbids.Reads as forbids-reads
 
--- src/seen.rt:43:13
 returns : tie.Need-returns
 returns c = rw (is-mute _ (c .if1 .taken))
 
--- src/seen.rt:45:12
 forbids-requires : tie.Need-forbids-requires
 forbids-requires c κs = search needs
 
--- src/seen.rt:46:13
 returns-2 : tie.Need-returns-2
 returns-2 c = rw (not-mute _ (c .before .before .if1 .left), sym (c .before .forbids .ensures) ∙ c .if2 .taken)
 
--- src/seen.rt:48:13
 is-itself-requires : tie.Need-is-itself-requires
 is-itself-requires c κs = search needs
 
--- src/seen.rt:49:13
 returns-3 : tie.Need-returns-3
 returns-3 c = rw (not-mute _ (c .before .before .before .before .if1 .left), sym (c .before .before .before .forbids .ensures) ∙ c .before .before .if2 .left, sym (c .before .is-itself .ensures) ∙ not-true _ (c .if3 .taken))
 
--- src/seen.rt:51:10
 collides-requires : tie.Need-collides-requires
 collides-requires c κs = search needs
 
--- src/seen.rt:39:5
 returns-4 : tie.Need-returns-4
 returns-4 c = rw (not-mute _ (c .before .before .before .before .before .if1 .left), sym (c .before .before .before .before .forbids .ensures) ∙ c .before .before .before .if2 .left, sym (c .before .before .is-itself .ensures) ∙ not-false _ (c .before .if3 .left), sym (c .collides .ensures))
 

@@ -1,23 +1,17 @@
+-- `plain::seen::Seen::forbids` meets its contract. Assumes nothing.
 use borrow.Author.Tests.{ne-eqb}
-use borrow.Author.Needs.{needs}
 use Rattle.plain.proofs.seen.Seen.forbids.Statement.{statement}
 use Rattle.plain.proofs.seen.Seen.forbids.Tie as tie
-use Rattle.plain.proofs.seen.Seen.forbids.Reads as reads
-use Rattle.plain.proofs.seen.Seen.forbids.Lts as lts
 
--- src/seen.rt:72:5
 returns : tie.Need-returns
 returns c = rw (c .match .keys1)
 
--- src/seen.rt:72:5
 returns-2 : tie.Need-returns-2
 returns-2 c = rw (c .match .keys2)
 
--- src/seen.rt:72:5
 returns-3 : tie.Need-returns-3
 returns-3 c = rw (c .match .keys3)
 
--- src/seen.rt:72:5
 returns-4 : tie.Need-returns-4
 returns-4 c = rw (ne-eqb _ _ (c .match .rest .0 .0 .1), ne-eqb _ _ (c .match .rest .0 .1), ne-eqb _ _ (c .match .rest .1))
 

@@ -1,15 +1,11 @@
+-- `plain::seen::Seen::opens` meets its contract. Assumes nothing.
 use borrow.Author.Tests.{eq-eqb, ne-eqb}
-use borrow.Author.Needs.{needs}
 use Rattle.plain.proofs.seen.Seen.opens.Statement.{statement}
 use Rattle.plain.proofs.seen.Seen.opens.Tie as tie
-use Rattle.plain.proofs.seen.Seen.opens.Reads as reads
-use Rattle.plain.proofs.seen.Seen.opens.Lts as lts
 
--- src/seen.rt:125:13
 returns : tie.Need-returns
 returns c = rw (eq-eqb _ _ (c .if1 .taken))
 
--- src/seen.rt:121:5
 returns-2 : tie.Need-returns-2
 returns-2 c = rw (ne-eqb _ _ (c .if1 .left))
 
