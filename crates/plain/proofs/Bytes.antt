@@ -1,15 +1,14 @@
 -- A lexeme's bytes: compared one by one, at its ends, read as one piece, and as a part of the text. Assumes nothing.
 use mathlib.Core.Bool.{Bool, true, false, _&&_, and-true}
 use mathlib.Core.List.{List, [], _∷_}
-use mathlib.Core.Path.{_≡_, refl, sym, ap, _∙_}
-use Prim.Native.Nat.{ℕ, zero, suc, _-_, _≤_, _<_}
+use mathlib.Core.Path.{_≡_, refl, sym, ap}
+use Prim.Native.Nat.{ℕ, zero, suc, _-_, _≤_}
 use native.Mathlib.Omega.{arith}
 use lib.Dec.{eqb}
 use lib.ListN.{length, getD, take, drop}
 use lib.Seq.{slice, take-nil}
 use borrow.Author.Tests.{eqb-true, ne-eqb}
 use Rattle.report.proofs.Logic.{split, impossible′}
-use Rattle.pieces.specs.declared.Next.{Next}
 use Rattle.pieces.specs.declared.Next.the-variants.{Piece, End, Unreadable}
 use Rattle.pieces.specs.Class.{digit}
 use Rattle.pieces.specs.Reading.{Reading, done, refused, piece, between, readFrom}

@@ -1,5 +1,5 @@
 -- The pass over checked rows is the plain mark of the tokens that they name. Assumes nothing.
-use mathlib.Core.Bool.{Bool, true, false, cond, not, _&&_, _||_, and-assoc, and-comm, and-false, and-true}
+use mathlib.Core.Bool.{Bool, true, false, not, _&&_, _||_, and-assoc, and-comm, and-false, and-true}
 use mathlib.Core.List.{List, [], _∷_, _++_}
 use mathlib.Core.Option.{Option, none, some}
 use mathlib.Core.Path.{_≡_, refl, sym, ap, _∙_}
@@ -7,17 +7,17 @@ use Prim.Native.Nat.{ℕ, _+_}
 use native.Mathlib.Omega.{arith}
 use lib.Dec.{eqb}
 use lib.ListN.{length}
-use borrow.Author.Tests.{eqb-true, eqb-false, ne-eqb}
+use borrow.Author.Tests.{eqb-true, eqb-false}
 use Rattle.report.proofs.Logic.{split, impossible, impossible′, or-cases}
-use Rattle.rows.specs.Kinds.{Leading, TokenRow, Trailing, Eof, Newline, LeftBrace, RightBrace, Dot, Record, Comma}
+use Rattle.rows.specs.Kinds.{Leading, TokenRow, Trailing, Eof, Newline, LeftBrace, RightBrace, Dot}
 use Rattle.rows.specs.Row.{Row, rowsOf}
-use Rattle.rows.specs.Token.{Trivia, Token, bytesOf, triviaOf, trailingOf, tokenOf, tokensFrom, tokensOf}
+use Rattle.rows.specs.Token.{Trivia, Token, triviaOf, trailingOf, tokenOf, tokensFrom, tokensOf}
 use Rattle.rows.specs.Checks.{Before, atStart, after, badFrom}
 use Rattle.rows.proofs.Sound.{first-sound, rest-good}
 use Rattle.lookahead.specs.Measure.{isEmpty}
 use Rattle.lookahead.specs.Scan.{trails}
 use Rattle.push_token.specs.Arms.{nextIs}
-use Rattle.push_token.specs.Plain.{isMute, hasItsLexeme, readsWhole, endsOperator, beginsOperator, beginsDigit, tightBefore, tightBehind, clause₁, clause₂, clause₃, clause₄, clause₅, clause₆, clause₇, plain}
+use Rattle.push_token.specs.Plain.{isMute, hasItsLexeme, readsWhole, endsOperator, beginsOperator, beginsDigit, tightBefore, tightBehind, clause₂, clause₃, clause₄, clause₅, clause₆, clause₇, plain}
 use Rattle.push_token.specs.PlainScan
 use Rattle.push_token.specs.PlainScan.{see, plainFrom}
 use Rattle.push_token.proofs.PlainScan.{plain-scan}
