@@ -1,0 +1,40 @@
+// Each call's answer as a report.
+use crate::fill::Report;
+use crate::fill::refuse;
+use crate::fill::success;
+use crate::refusals;
+ghost use mathlib.Core.Path.{_≡_};
+ghost use Rattle.doors.specs.Bytes.{reportOf};
+ghost use Rattle.sheet.specs.Answer.{reported as sheetReported};
+ghost use Rattle.pieces.specs.Answer.{reported as piecesReported};
+ghost use Rattle.lookahead.specs.Answer.{reported as spaceReported};
+
+pub fn of_sheet(answer: sheet::Answer) -> Report
+    ensures { λ r. ⌜ reportOf r ≡ sheetReported answer ⌝ }
+{
+    match answer {
+        sheet::Answer::Read(rows, bytes) => success(rows as u64, bytes as u64, 0),
+        sheet::Answer::NoNames => refuse(refusals::NO_NAMES, 0),
+        sheet::Answer::BadLine(line) => refuse(refusals::BAD_LINE, line),
+        sheet::Answer::SheetFull(line) => refuse(refusals::SHEET_FULL, line),
+    }
+}
+
+pub fn of_pieces(answer: pieces::Answer) -> Report
+    ensures { λ r. ⌜ reportOf r ≡ piecesReported answer ⌝ }
+{
+    match answer {
+        pieces::Answer::Pieces(n) => success(n as u64, 0, 0),
+        pieces::Answer::Unreadable(i) => refuse(refusals::UNREADABLE, i),
+        pieces::Answer::PiecesFull(s) => refuse(refusals::PIECES_FULL, s),
+    }
+}
+
+pub fn of_space(answer: lookahead::Space) -> Report
+    ensures { λ r. ⌜ reportOf r ≡ spaceReported answer ⌝ }
+{
+    match answer {
+        lookahead::Space::Needed(b) => success(b as u64, 0, 0),
+        lookahead::Space::BadRow(place) => refuse(refusals::BAD_ROW, place),
+    }
+}

@@ -1,0 +1,63 @@
+// The C doors (document 01, 'Around the call'): each returns the refusal or 0, and fills a 24-byte report.
+use crate::fill::REPORT_BYTES;
+use crate::fill::put_report;
+use lookahead::needs_space;
+use pieces::read_pieces;
+use sheet::read_sheet;
+ghost use mathlib.Core.Path.{_≡_};
+ghost use lib.ListN.{length};
+ghost use Rattle.sheet.specs.Answer.{sheetAnswer, sheetRows, sheetText};
+ghost use Rattle.pieces.specs.Answer.{readAnswer, readSlots};
+ghost use Rattle.lookahead.specs.Answer.{spaceReport};
+ghost use Rattle.doors.specs.Door.{doorRefusal, doorReport, doorSlice};
+
+mod answers;
+mod fill;
+mod refusals;
+
+// Reads `sheet` into rows and their texts. Reports the rows, the texts' bytes and 0.
+#[no_mangle]
+pub extern "C" fn rl_read_sheet(
+    sheet: &[u8],
+    rows: &mut [u8],
+    text: &mut [u8],
+    report: &mut [u8],
+) -> u32
+    ensures refusal { λ r. ⌜ r ≡ doorRefusal (now (report .entry)) (sheetAnswer (now (sheet .entry)) (length (now (rows .entry))) (length (now (text .entry)))) ⌝ }
+    ensures report { λ r. ⌜ now (report .exit) ≡ doorReport (now (report .entry)) (sheetAnswer (now (sheet .entry)) (length (now (rows .entry))) (length (now (text .entry)))) ⌝ }
+    ensures rows { λ r. ⌜ now (rows .exit) ≡ doorSlice (now (report .entry)) (now (rows .entry)) (sheetRows (now (sheet .entry)) (now (rows .entry)) (now (text .entry))) ⌝ }
+    ensures text { λ r. ⌜ now (text .exit) ≡ doorSlice (now (report .entry)) (now (text .entry)) (sheetText (now (sheet .entry)) (now (rows .entry)) (now (text .entry))) ⌝ }
+{
+    if report.len() != REPORT_BYTES {
+        return refusals::REPORT;
+    }
+    let answer = answers::of_sheet(read_sheet(sheet, rows, text));
+    put_report(report, answer)
+}
+
+// Reads `text` back into pieces, the start and the end of each. Reports the pieces, 0 and 0.
+#[no_mangle]
+pub extern "C" fn rl_read_pieces(text: &[u8], pieces: &mut [u32], report: &mut [u8]) -> u32
+    ensures refusal { λ r. ⌜ r ≡ doorRefusal (now (report .entry)) (readAnswer (now (text .entry)) (length (now (pieces .entry)))) ⌝ }
+    ensures report { λ r. ⌜ now (report .exit) ≡ doorReport (now (report .entry)) (readAnswer (now (text .entry)) (length (now (pieces .entry)))) ⌝ }
+    ensures pieces { λ r. ⌜ now (pieces .exit) ≡ doorSlice (now (report .entry)) (now (pieces .entry)) (readSlots (now (text .entry)) (now (pieces .entry))) ⌝ }
+{
+    if report.len() != REPORT_BYTES {
+        return refusals::REPORT;
+    }
+    let answer = answers::of_pieces(read_pieces(text, pieces));
+    put_report(report, answer)
+}
+
+// Whether a space is needed between tokens of two kinds. Reports 1 or 0, 0 and 0.
+#[no_mangle]
+pub extern "C" fn rl_needs_space(first: u32, second: u32, report: &mut [u8]) -> u32
+    ensures refusal { λ r. ⌜ r ≡ doorRefusal (now (report .entry)) (spaceReport first second) ⌝ }
+    ensures report { λ r. ⌜ now (report .exit) ≡ doorReport (now (report .entry)) (spaceReport first second) ⌝ }
+{
+    if report.len() != REPORT_BYTES {
+        return refusals::REPORT;
+    }
+    let answer = answers::of_space(needs_space(first, second));
+    put_report(report, answer)
+}

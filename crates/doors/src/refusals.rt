@@ -1,0 +1,14 @@
+// The refusals' numbers in document 01's table, as in crates/report/specs/Report.antt.
+pub const BAD_ROW: u32 = 3;
+
+pub const NO_NAMES: u32 = 6;
+
+pub const BAD_LINE: u32 = 7;
+
+pub const SHEET_FULL: u32 = 8;
+
+pub const UNREADABLE: u32 = 9;
+
+pub const PIECES_FULL: u32 = 10;
+
+pub const REPORT: u32 = 11;

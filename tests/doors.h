@@ -1,0 +1,18 @@
+/* The C doors of crates/doors (document 01, 'Around the call'). Each slice is a pointer and then its length.
+   Each returns the refusal or 0, and fills the report: three little-endian eight-byte numbers, named below; on a
+   refusal its place, 0 and 0. Refusal 11, a report of other than 24 bytes, comes first and changes nothing.
+   Nothing tests the pointers: each is valid for its length and not null, `pieces` is aligned for 32 bits, and no
+   slice that a door writes overlaps another. */
+#include <stddef.h>
+#include <stdint.h>
+
+/* rows, text bytes, 0 */
+uint32_t rl_read_sheet(const uint8_t *sheet, size_t sheet_len, uint8_t *rows, size_t rows_len, uint8_t *text,
+                       size_t text_len, uint8_t *report, size_t report_len);
+
+/* pieces, 0, 0; each piece is its start and its end */
+uint32_t rl_read_pieces(const uint8_t *text, size_t text_len, uint32_t *pieces, size_t pieces_len, uint8_t *report,
+                        size_t report_len);
+
+/* 1 where a space is needed between tokens of the two kinds, else 0; 0, 0 */
+uint32_t rl_needs_space(uint32_t first, uint32_t second, uint8_t *report, size_t report_len);
