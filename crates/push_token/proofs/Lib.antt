@@ -8,3 +8,4 @@ pub mod Turn
 pub mod Walk
 pub mod Demand3
 pub mod Cases
+pub mod Said

@@ -1,0 +1,4 @@
+pub mod Sink
+pub mod Pen
+pub mod Parts
+pub mod Does

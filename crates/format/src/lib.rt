@@ -1,0 +1,4 @@
+// The layout of rl source text (document 01): token rows in, text out.
+mod arms;
+mod formatter;
+mod write;
