@@ -1,3 +1,4 @@
 pub mod Sink
 pub mod Stack
 pub mod Does
+pub mod Openers
