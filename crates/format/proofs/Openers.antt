@@ -1,20 +1,19 @@
--- What the openers go by: the next token's row, what a lookahead says of the rows from the opener on, and the depth of a signature.
+-- What the openers go by: the next token's row, what a lookahead says of the rows from the opener on, the block's style, and the signature's depth.
 -- Assumes nothing.
-use mathlib.Core.Bool.{Bool, true, false, cond}
+use mathlib.Core.Bool.{Bool, false, cond}
 use mathlib.Core.List.{List, [], _∷_, _++_, append-nil}
-use mathlib.Core.Option.{Option, none, some}
 use mathlib.Core.Path.{_≡_, refl, sym, ap, _∙_}
 use Prim.Native.Nat.{ℕ, zero, suc, _+_, _-_, _≤_, _<_}
 use native.Mathlib.Numerals.{add-one}
 use native.Mathlib.Omega.{arith}
 use lib.Dec.{eqb}
 use lib.ListN.{length, take, drop, length-drop}
-use lib.Seq.{slice, take-all, take-length}
+use lib.Seq.{take-all}
 use borrow.Author.Tests.{eq-eqb, ne-eqb}
 use Rattle.report.proofs.Logic.{split}
 use Rattle.rows.specs.Kinds.{Leading, TokenRow, LeftBrace}
 use Rattle.rows.specs.Row.{Row, rowAt, rowsOf}
-use Rattle.rows.specs.Token.{Trivia, triviaOf, Token, leadingAfter, tokensFrom, tokensOf}
+use Rattle.rows.specs.Token.{Trivia, triviaOf, Token, tokensFrom, tokensOf}
 use Rattle.rows.specs.Bounds.{InBounds}
 use Rattle.lookahead.proofs.Rests.{here, over}
 use Rattle.push_token.specs.Formatter.{setInlineDepth}
@@ -79,11 +78,11 @@ pub part-is : (n : ℕ) (rows : List ℕ) → take (length rows - n) (drop n row
 part-is n rows = take-all (length rows - n) (drop n rows) (omega (arith, length-drop n rows))
 
 module _ {token : TokenAt} {rows text : List ℕ} {t : Token} {ts : List Token} (σ : Stands token rows text t ts) where
-  -- what a lookahead says of a part that is they
+  -- a lookahead on that part says it of the token and those behind it
   pub looked : (f : List Token → Bool) {part : List ℕ} {r : Bool} → part ≡ drop (token .lead) rows → (InBounds text (rowsOf part) → r ≡ f (tokensOf part text)) → r ≡ f (t ∷ ts)
   looked f e k = k (rw e (σ .bounds)) ∙ ap (λ l. f (tokensOf l text)) e ∙ ap f (σ .ahead)
 
-  -- and of those behind it
+  -- on the part behind the token's row, of those behind it
   pub looked-behind : (f : List Token → Bool) {part : List ℕ} {r : Bool} → part ≡ drop (token .behind) rows → r ≡ f (tokensOf part text) → r ≡ f ts
   looked-behind f e k = k ∙ ap (λ l. f (tokensOf l text)) e ∙ ap f (σ .behind)
 

@@ -19,7 +19,6 @@ use lookahead::next_has_comment;
 use lookahead::should_break_list;
 use lookahead::should_break_sig;
 use rows::kinds;
-
 ghost use mathlib.Core.Bool.{Bool, true, false, _&&_, _||_, not, cond};
 ghost use mathlib.Core.List.{List, [], _∷_, _++_};
 ghost use mathlib.Core.Path.{_≡_};
@@ -393,7 +392,14 @@ impl Formatter {
 
     // ---- LeftParen and LeftBracket
 
-    pub fn left_paren_arm(mut self, out: &mut [u8], stack: &mut [u32], rows: &[u8], text: &[u8], token: TokenAt) -> Self
+    pub fn left_paren_arm(
+        mut self,
+        out: &mut [u8],
+        stack: &mut [u32],
+        rows: &[u8],
+        text: &[u8],
+        token: TokenAt,
+    ) -> Self
         requires { ⌜ Roomy self ⌝ }
         requires { ⌜ StackRoom self (now stack) ⌝ }
         requires { ⌜ Names token (now text) ⌝ }
@@ -412,7 +418,14 @@ impl Formatter {
         self.open_group(out, text, token)
     }
 
-    pub fn left_bracket_arm(self, out: &mut [u8], stack: &mut [u32], rows: &[u8], text: &[u8], token: TokenAt) -> Self
+    pub fn left_bracket_arm(
+        self,
+        out: &mut [u8],
+        stack: &mut [u32],
+        rows: &[u8],
+        text: &[u8],
+        token: TokenAt,
+    ) -> Self
         requires { ⌜ Roomy self ⌝ }
         requires { ⌜ StackRoom self (now stack) ⌝ }
         requires { ⌜ Names token (now text) ⌝ }
@@ -558,7 +571,13 @@ impl Formatter {
 
     // ---- RightParen
 
-    pub fn right_paren_arm(mut self, out: &mut [u8], stack: &[u32], text: &[u8], token: TokenAt) -> Self
+    pub fn right_paren_arm(
+        mut self,
+        out: &mut [u8],
+        stack: &[u32],
+        text: &[u8],
+        token: TokenAt,
+    ) -> Self
         requires { ⌜ Names token (now text) ⌝ }
         ensures { λ r. ⌜ Does (λ o. rightParenArm o (lone token (now (text .entry)))) (on self (now (stack .entry)) (now (out .entry))) (on r (now (stack .entry)) (now (out .exit))) ⌝ }
     {
@@ -633,7 +652,13 @@ impl Formatter {
 
     // ---- RightBracket
 
-    pub fn right_bracket_arm(self, out: &mut [u8], stack: &[u32], text: &[u8], token: TokenAt) -> Self
+    pub fn right_bracket_arm(
+        self,
+        out: &mut [u8],
+        stack: &[u32],
+        text: &[u8],
+        token: TokenAt,
+    ) -> Self
         requires { ⌜ Roomy self ⌝ }
         requires { ⌜ Names token (now text) ⌝ }
         ensures { λ r. ⌜ Does (λ o. rightBracketArm o (lone token (now (text .entry)))) (on self (now (stack .entry)) (now (out .entry))) (on r (now (stack .entry)) (now (out .exit))) ⌝ }

@@ -6,7 +6,6 @@ use crate::write::write_spaces;
 use lookahead::is_value_kind;
 use lookahead::space_between;
 use rows::kinds;
-
 ghost use mathlib.Core.Bool.{_&&_, _||_, not, cond};
 ghost use mathlib.Core.List.{List, [], _∷_, _++_};
 ghost use mathlib.Core.Path.{_≡_};

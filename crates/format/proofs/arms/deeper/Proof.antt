@@ -1,19 +1,15 @@
-use Rattle.format.proofs.Openers.{signature-deeper, signature-none}
+-- `format::arms::deeper` meets its contract. Assumes nothing.
 use borrow.Author.Needs.{needs}
+use Rattle.format.proofs.Openers.{signature-deeper, signature-none}
 use Rattle.format.proofs.arms.deeper.Statement.{statement}
 use Rattle.format.proofs.arms.deeper.Tie as tie
-use Rattle.format.proofs.arms.deeper.Reads as reads
-use Rattle.format.proofs.arms.deeper.Lts as lts
 
--- src/arms.rt:824:16
 add-result : tie.Need-add-result
 add-result c = search needs
 
--- src/arms.rt:824:9
 returns : tie.Need-returns
 returns c = signature-deeper (c .before .args .depth) (c .if1 .taken)
 
--- src/arms.rt:819:1
 returns-2 : tie.Need-returns-2
 returns-2 c = signature-none (c .before .args .depth) (c .if1 .left)
 

@@ -1,34 +1,26 @@
+-- `format::formatter::Formatter::empty_record` meets its contract. Assumes nothing.
+use mathlib.Core.Path.{refl}
+use borrow.Author.Needs.{needs}
+use Rattle.push_token.specs.Act.{run}
+use Rattle.push_token.specs.Arms.{emptyRecord}
 use Rattle.format.proofs.Does.{seq, does}
 use Rattle.format.proofs.Sink.{andThen}
 use Rattle.push_token.proofs.Said.{said}
-use Rattle.push_token.specs.Arms.{emptyRecord}
-use Rattle.push_token.specs.Act.{run}
-use mathlib.Core.Path.{refl}
-use borrow.Author.Needs.{needs}
 use Rattle.format.proofs.formatter.Formatter.empty_record.Statement.{statement}
 use Rattle.format.proofs.formatter.Formatter.empty_record.Tie as tie
-use Rattle.format.proofs.formatter.Formatter.empty_record.Reads as reads
-use Rattle.format.proofs.formatter.Formatter.empty_record.Lts as lts
-use Rattle.format.proofs.formatter.Formatter.push_lexeme.Reads as push-lexeme-reads
-use Rattle.format.proofs.write.write_byte.Reads as write-byte-reads
 
--- src/arms.rt:266:13
 push-lexeme-requires : tie.Need-push-lexeme-requires
 push-lexeme-requires c κs = search needs
 
--- src/arms.rt:268:13
 write-byte-requires : tie.Need-write-byte-requires
 write-byte-requires c κs = search needs
 
--- src/arms.rt:269:13
 write-byte-requires-2 : tie.Need-write-byte-requires-2
 write-byte-requires-2 c κs = search needs
 
--- src/arms.rt:262:5
 same-length : tie.Need-same-length
 same-length c = search needs
 
--- src/arms.rt:262:5
 returns : tie.Need-returns
 unfolding run said emptyRecord
 returns c = λ s. seq (c .before .before .before .before .before .before .before .before .before .before .push-lexeme .ensures s) (does refl refl refl (andThen (c .before .before .before .before .before .before .write-byte .ensures) (c .before .before .write-byte2 .ensures)))

@@ -1,44 +1,32 @@
-use Rattle.format.proofs.Does.{yes, no, told}
-use Rattle.push_token.specs.Arms.{leftBracketArm}
+-- `format::formatter::Formatter::left_bracket_arm` meets its contract. Assumes nothing.
 use borrow.Author.Needs.{needs}
+use Rattle.push_token.specs.Arms.{leftBracketArm}
+use Rattle.format.proofs.Does.{yes, no, told}
 use Rattle.format.proofs.formatter.Formatter.left_bracket_arm.Statement.{statement}
 use Rattle.format.proofs.formatter.Formatter.left_bracket_arm.Tie as tie
-use Rattle.format.proofs.formatter.Formatter.left_bracket_arm.Reads as reads
-use Rattle.format.proofs.formatter.Formatter.left_bracket_arm.Lts as lts
-use Rattle.format.proofs.formatter.Formatter.breaks_list.Reads as breaks-list-reads
-use Rattle.format.proofs.formatter.Formatter.open_group.Reads as open-group-reads
-use Rattle.format.proofs.formatter.Formatter.open_list.Reads as open-list-reads
 
--- src/arms.rt:422:12
 breaks-list-requires : tie.Need-breaks-list-requires
 breaks-list-requires c κs = search needs
 
--- src/arms.rt:423:13
 open-list-requires : tie.Need-open-list-requires
 open-list-requires c κs = search needs
 
--- src/arms.rt:423:13
 same-length : tie.Need-same-length
 same-length c = search needs
 
--- src/arms.rt:423:13
 same-length-2 : tie.Need-same-length-2
 same-length-2 c = search needs
 
--- src/arms.rt:423:13
 returns : tie.Need-returns
 unfolding leftBracketArm
 returns c = λ t ts σ. yes (λ n. told (c .before .before .before .before .before .before .before .before .breaks-list .ensures _ t ts σ) (c .before .before .before .before .before .before .before .if1 .taken)) (rw (σ .kind, σ .lexeme) (c .before .before .before .before .open-list .ensures))
 
--- src/arms.rt:425:9
 open-group-requires : tie.Need-open-group-requires
 open-group-requires c κs = search needs
 
--- src/arms.rt:415:5
 same-length-3 : tie.Need-same-length-3
 same-length-3 c = search needs
 
--- src/arms.rt:415:5
 returns-2 : tie.Need-returns-2
 unfolding leftBracketArm
 returns-2 c = λ t ts σ. no (λ n. told (c .before .before .before .before .before .breaks-list .ensures _ t ts σ) (c .before .before .before .before .if1 .left)) (rw (σ .kind, σ .lexeme) (c .before .before .open-group .ensures _))

@@ -1,41 +1,30 @@
-use Rattle.format.proofs.Openers.{block-same-line, block-allman}
+-- `format::formatter::Formatter::open_block` meets its contract. Assumes nothing.
 use borrow.Author.Needs.{needs}
+use Rattle.format.proofs.Openers.{block-same-line, block-allman}
 use Rattle.format.proofs.formatter.Formatter.open_block.Statement.{statement}
 use Rattle.format.proofs.formatter.Formatter.open_block.Tie as tie
-use Rattle.format.proofs.formatter.Formatter.open_block.Reads as reads
-use Rattle.format.proofs.formatter.Formatter.open_block.Lts as lts
-use Rattle.format.proofs.formatter.Formatter.open_block_allman.Reads as open-block-allman-reads
-use Rattle.format.proofs.formatter.Formatter.open_block_same_line.Reads as open-block-same-line-reads
 
--- src/arms.rt:349:63
 enum-told : tie.Need-enum-told
 enum-told c = search needs
 
--- src/arms.rt:349:37
 open-block-same-line-requires : tie.Need-open-block-same-line-requires
 open-block-same-line-requires c κs = search needs
 
--- src/arms.rt:350:58
 enum-told-2 : tie.Need-enum-told-2
 enum-told-2 c = search needs
 
--- src/arms.rt:350:35
 open-block-allman-requires : tie.Need-open-block-allman-requires
 open-block-allman-requires c κs = search needs
 
--- src/arms.rt:341:5
 same-length : tie.Need-same-length
 same-length c = search needs
 
--- src/arms.rt:341:5
 returns : tie.Need-returns
 returns c = λ s. block-same-line (c .before .before .before .before .before .before .before .before .args .index) (c .before .before .before .before .enum-told .given .1) (c .before .before .open-block-same-line .ensures s)
 
--- src/arms.rt:341:5
 same-length-2 : tie.Need-same-length-2
 same-length-2 c = search needs
 
--- src/arms.rt:341:5
 returns-2 : tie.Need-returns-2
 returns-2 c = λ s. block-allman (c .before .before .before .before .before .before .before .before .args .index) (c .before .before .before .before .enum-told2 .given .1) (c .before .before .open-block-allman .ensures s)
 

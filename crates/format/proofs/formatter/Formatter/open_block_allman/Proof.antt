@@ -1,42 +1,32 @@
+-- `format::formatter::Formatter::open_block_allman` meets its contract. Assumes nothing.
+use mathlib.Core.List.{append-nil}
+use mathlib.Core.Path.{refl}
+use borrow.Author.Needs.{needs}
+use Rattle.push_token.specs.Act.{run}
 use Rattle.format.proofs.Does.{does}
 use Rattle.format.proofs.Sink.{andThen}
 use Rattle.push_token.proofs.Said.{said}
-use Rattle.push_token.specs.Act.{run}
-use mathlib.Core.Path.{refl}
-use mathlib.Core.List.{append-nil}
-use borrow.Author.Needs.{needs}
 use Rattle.format.proofs.formatter.Formatter.open_block_allman.Statement.{statement}
 use Rattle.format.proofs.formatter.Formatter.open_block_allman.Tie as tie
-use Rattle.format.proofs.formatter.Formatter.open_block_allman.Reads as reads
-use Rattle.format.proofs.formatter.Formatter.open_block_allman.Lts as lts
-use Rattle.format.proofs.formatter.Formatter.write_on_new_line.Reads as write-on-new-line-reads
-use Rattle.format.proofs.write.write_byte.Reads as write-byte-reads
 
--- src/arms.rt:377:13
 write-on-new-line-requires : tie.Need-write-on-new-line-requires
 write-on-new-line-requires c κs = search needs
 
--- src/arms.rt:378:13
 write-byte-requires : tie.Need-write-byte-requires
 write-byte-requires c κs = search needs
 
--- src/arms.rt:379:13
 write-byte-requires-2 : tie.Need-write-byte-requires-2
 write-byte-requires-2 c κs = search needs
 
--- src/arms.rt:384:34
 add-t17 : tie.Need-add-t17
 add-t17 c = search needs
 
--- src/arms.rt:389:23
 add-self : tie.Need-add-self
 add-self c = search needs
 
--- src/arms.rt:371:5
 same-length : tie.Need-same-length
 same-length c = search needs
 
--- src/arms.rt:371:5
 returns : tie.Need-returns
 unfolding run said
 returns c = λ s. does refl refl refl (rw append-nil (andThen (c .before .before .before .before .before .before .before .before .before .before .before .write-on-new-line .ensures) (andThen (c .before .before .before .before .before .before .before .write-byte .ensures) (c .before .before .before .write-byte2 .ensures))))

@@ -1,25 +1,19 @@
-use Rattle.format.proofs.Openers.{inner-inline}
+-- `format::formatter::Formatter::open_inner_inline` meets its contract. Assumes nothing.
 use mathlib.Core.Path.{refl}
 use borrow.Author.Needs.{needs}
+use Rattle.format.proofs.Openers.{inner-inline}
 use Rattle.format.proofs.formatter.Formatter.open_inner_inline.Statement.{statement}
 use Rattle.format.proofs.formatter.Formatter.open_inner_inline.Tie as tie
-use Rattle.format.proofs.formatter.Formatter.open_inner_inline.Reads as reads
-use Rattle.format.proofs.formatter.Formatter.open_inner_inline.Lts as lts
-use Rattle.format.proofs.formatter.Formatter.write_inner_inline.Reads as write-inner-inline-reads
 
--- src/arms.rt:299:13
 write-inner-inline-requires : tie.Need-write-inner-inline-requires
 write-inner-inline-requires c κs = search needs
 
--- src/arms.rt:304:33
 add-t11 : tie.Need-add-t11
 add-t11 c = search needs
 
--- src/arms.rt:294:5
 same-length : tie.Need-same-length
 same-length c = search needs
 
--- src/arms.rt:294:5
 returns : tie.Need-returns
 returns c = λ s. inner-inline refl refl refl (c .before .before .before .before .write-inner-inline .ensures)
 
