@@ -2,6 +2,7 @@
 use borrow.Author.Needs.{needs}
 use Rattle.push_token.specs.Arms.{leftBracketArm}
 use Rattle.format.proofs.Does.{yes, no, told}
+use Rattle.format.proofs.Openers.{opened}
 use Rattle.format.proofs.formatter.Formatter.left_bracket_arm.Statement.{statement}
 use Rattle.format.proofs.formatter.Formatter.left_bracket_arm.Tie as tie
 
@@ -29,7 +30,7 @@ same-length-3 c = search needs
 
 returns-2 : tie.Need-returns-2
 unfolding leftBracketArm
-returns-2 c = λ t ts σ. no (λ n. told (c .before .before .before .before .before .breaks-list .ensures _ t ts σ) (c .before .before .before .before .if1 .left)) (rw (σ .kind, σ .lexeme) (c .before .before .open-group .ensures _))
+returns-2 c = λ t ts σ. no (λ n. told (c .before .before .before .before .before .breaks-list .ensures _ t ts σ) (c .before .before .before .before .if1 .left)) (opened σ (c .before .before .open-group .ensures _))
 
 pub left-bracket-arm-spec : {M : Type 1} → statement M
 left-bracket-arm-spec =

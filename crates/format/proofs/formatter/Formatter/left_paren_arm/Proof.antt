@@ -4,6 +4,7 @@ use borrow.Author.Needs.{needs}
 use Rattle.push_token.specs.Arms.{leftParenArm}
 use Rattle.format.proofs.Does.{seq, updated, yes, no, told}
 use Rattle.format.proofs.Sink.{nothing}
+use Rattle.format.proofs.Openers.{opened}
 use Rattle.format.proofs.formatter.Formatter.left_paren_arm.Statement.{statement}
 use Rattle.format.proofs.formatter.Formatter.left_paren_arm.Tie as tie
 
@@ -47,7 +48,7 @@ same-length-4 c = search needs
 
 returns-3 : tie.Need-returns-3
 unfolding leftParenArm
-returns-3 c = λ t ts σ. no (λ n. told (c .before .before .before .before .before .before .before .before .before .at-signature .ensures) (c .before .before .before .before .before .before .before .before .if1 .left)) (no (λ n. told (c .before .before .before .before .before .before .before .breaks-list .ensures _ t ts σ) (c .before .before .before .before .before .before .if2 .left)) (seq (updated refl (rw (c .before .before .before .before .deeper .ensures)) refl nothing) (rw (σ .kind, σ .lexeme) (c .before .before .open-group .ensures _))))
+returns-3 c = λ t ts σ. no (λ n. told (c .before .before .before .before .before .before .before .before .before .at-signature .ensures) (c .before .before .before .before .before .before .before .before .if1 .left)) (no (λ n. told (c .before .before .before .before .before .before .before .breaks-list .ensures _ t ts σ) (c .before .before .before .before .before .before .if2 .left)) (seq (updated refl (rw (c .before .before .before .before .deeper .ensures)) refl nothing) (opened σ (c .before .before .open-group .ensures _))))
 
 pub left-paren-arm-spec : {M : Type 1} → statement M
 left-paren-arm-spec =

@@ -3,7 +3,7 @@ use mathlib.Core.Path.{refl}
 use borrow.Author.Needs.{needs}
 use Rattle.lookahead.specs.Measure.{shouldBreakSig}
 use Rattle.format.proofs.Does.{seq, updated, yes, no, told}
-use Rattle.format.proofs.Openers.{looked, part-is}
+use Rattle.format.proofs.Openers.{looked, part-is, opened}
 use Rattle.format.proofs.Sink.{nothing}
 use Rattle.format.proofs.formatter.Formatter.open_signature.Statement.{statement}
 use Rattle.format.proofs.formatter.Formatter.open_signature.Tie as tie
@@ -36,7 +36,7 @@ same-length-2 : tie.Need-same-length-2
 same-length-2 c = search needs
 
 returns-2 : tie.Need-returns-2
-returns-2 c = λ s t ts σ. seq (updated refl refl refl nothing) (no (λ n. told (looked σ (shouldBreakSig (c .before .before .before .before .before .before .before .before .before .before .before .args .self .options .«fn_sig_width»)) (part-is (c .before .before .before .before .before .before .before .before .before .before .before .args .token .lead) (c .before .before .before .before .before .before .before .before .before .before .before .args .rows .now)) (c .before .before .before .before .before .should-break-sig .ensures (c .before .before .before .before .before .before .before .before .before .before .before .args .text .now))) (c .before .before .before .before .if1 .left)) (rw (σ .kind, σ .lexeme) (c .before .before .open-group .ensures s)))
+returns-2 c = λ s t ts σ. seq (updated refl refl refl nothing) (no (λ n. told (looked σ (shouldBreakSig (c .before .before .before .before .before .before .before .before .before .before .before .args .self .options .«fn_sig_width»)) (part-is (c .before .before .before .before .before .before .before .before .before .before .before .args .token .lead) (c .before .before .before .before .before .before .before .before .before .before .before .args .rows .now)) (c .before .before .before .before .before .should-break-sig .ensures (c .before .before .before .before .before .before .before .before .before .before .before .args .text .now))) (c .before .before .before .before .if1 .left)) (opened σ (c .before .before .open-group .ensures s)))
 
 pub open-signature-spec : {M : Type 1} → statement M
 open-signature-spec =
