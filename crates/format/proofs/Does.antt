@@ -1,5 +1,5 @@
 -- How what methods do is put together: tests, one act after the other, and the write rule for a straight-line method. Assumes nothing.
-use mathlib.Core.Bool.{Bool, true, false, cond}
+use mathlib.Core.Bool.{Bool, true, false, cond, not}
 use mathlib.Core.List.{List, [], _∷_, _++_, append-nil}
 use mathlib.Core.Path.{_≡_, refl, sym, ap, _∙_}
 use Prim.Native.Nat.{ℕ, _+_, _-_, _≤_, _<_}
@@ -113,11 +113,19 @@ entering {g} {h} {x} {y} t {p} e o c k w d = same-run {a = λ z. update (λ i. h
 
 -- ---- a closer, with a comma of the layout's own before it unless the test says that none is wanted
 
+turned : (b : Bool) {r : Bool} → r ≡ not b → b ≡ not r
+turned true e = rw e
+turned false e = rw e
+
 module _ {g h : Formatter → Formatter} {u : Options → Formatter → List ℕ} {w : List ℕ} {p q : Pen} where
-  pub closing : (t : Formatter → Bool) (bare : Bool) → t (g (stateOf p .formatter)) ≡ bare → opts q ≡ opts p → h (g (stateOf p .formatter)) ≡ formatterOf (q .form) (q .stack) → p .form .commas + cond bare 0 1 ≡ q .form .commas → Writes (p .buf) (p .form .len) (cond bare [] (44 ∷ []) ++ (u (opts p) (g (stateOf p .formatter)) ++ w)) (q .buf) (q .form .len) → Does (λ o. update g ⨾ (if t (gap (u o) ⨾ lexeme w) (insert (u o) w) ⨾ update h)) p q
+  pub closing : (t : Formatter → Bool) (wanted : Bool) → wanted ≡ not (t (g (stateOf p .formatter))) → opts q ≡ opts p → h (g (stateOf p .formatter)) ≡ formatterOf (q .form) (q .stack) → p .form .commas + cond wanted 1 0 ≡ q .form .commas → Writes (p .buf) (p .form .len) (cond wanted (44 ∷ []) [] ++ (u (opts p) (g (stateOf p .formatter)) ++ w)) (q .buf) (q .form .len) → Does (λ o. update g ⨾ (if t (gap (u o) ⨾ lexeme w) (insert (u o) w) ⨾ update h)) p q
   unfolding run said
-  closing t true e o c k x = does o (rw e c) (rw e (sym (add-zero (p .form .commas)) ∙ k)) (rw (e, append-nil (u (opts p) (g (stateOf p .formatter)) ++ w)) x)
-  closing t false e o c k x = does o (rw e c) (rw e k) (rw (e, append-nil (u (opts p) (g (stateOf p .formatter)) ++ w)) x)
+  closing t false e o c k x =
+      let f = turned (t (g (stateOf p .formatter))) e in
+      does o (rw f c) (rw f (sym (add-zero (p .form .commas)) ∙ k)) (rw (f, append-nil (u (opts p) (g (stateOf p .formatter)) ++ w)) x)
+  closing t true e o c k x =
+      let f = turned (t (g (stateOf p .formatter))) e in
+      does o (rw f c) (rw f k) (rw (f, append-nil (u (opts p) (g (stateOf p .formatter)) ++ w)) x)
 
 -- ---- what a test that was run says of the definition's
 
