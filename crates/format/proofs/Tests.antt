@@ -1,6 +1,7 @@
 -- What the definition's tests come to, by what the code reads. Assumes nothing.
 use mathlib.Core.Bool.{Bool, true, false, cond, not, _&&_, _||_}
 use mathlib.Core.List.{List, [], _∷_}
+use mathlib.Core.Logic.{_⊎_, ⊎-elim}
 use mathlib.Core.Path.{_≡_, refl, sym, ap, _∙_}
 use Prim.Native.Nat.{ℕ, zero, suc, _+_, _-_, _≤_, _<_}
 use native.Mathlib.Omega.{arith}
@@ -13,6 +14,11 @@ use Rattle.lookahead.specs.Measure.{nextHasComment}
 use Rattle.push_token.specs.Emit.{isSome, isAt}
 use Rattle.push_token.specs.Arms.{endsWithTwoFeeds, isEmptyText, shallower}
 use Rattle.format.specs.Pen.{signatureOf}
+
+-- ---- the ways that meet, by which one the code came
+
+pub by-way : {A B C : Type 0} → A ⊎ B → (A → C) → (B → C) → C
+by-way s f g = ⊎-elim f g s
 
 -- ---- the stack
 
@@ -73,14 +79,10 @@ sig-open (suc d) = ne-eqb (suc d) 0 (λ e. omega arith)
 
 -- ---- the rows behind a token
 
-pub and-no : (a b : Bool) → b ≡ false → a && b ≡ false
-and-no true b e = e
-and-no false b e = refl
-
 -- the rows from n on, which the code lends as a part
 pub rest-part : (n : ℕ) (l : List ℕ) → take (length l - n) (drop n l) ≡ drop n l
 rest-part n l = take-all (length l - n) (drop n l) (omega (arith, length-drop n l))
 
 -- what the test of that part says of the tokens there
-pub led : (n : ℕ) (rows : List ℕ) {text : List ℕ} {ts : List Token} {r v : Bool} → r ≡ nextHasComment (tokensOf (take (length rows - n) (drop n rows)) text) → tokensOf (drop n rows) text ≡ ts → r ≡ v → nextHasComment ts ≡ v
-led n rows {text} e f g = sym (e ∙ ap (λ (l : List ℕ). nextHasComment (tokensOf l text)) (rest-part n rows) ∙ ap nextHasComment f) ∙ g
+pub led : (n : ℕ) (rows : List ℕ) (text : List ℕ) {ts : List Token} {r v : Bool} → r ≡ nextHasComment (tokensOf (take (length rows - n) (drop n rows)) text) → tokensOf (drop n rows) text ≡ ts → r ≡ v → nextHasComment ts ≡ v
+led n rows text e f g = sym (e ∙ ap (λ (l : List ℕ). nextHasComment (tokensOf l text)) (rest-part n rows) ∙ ap nextHasComment f) ∙ g

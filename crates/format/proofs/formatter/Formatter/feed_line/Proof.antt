@@ -1,9 +1,9 @@
 -- `format::formatter::Formatter::feed_line` meets its contract. Assumes nothing.
-use mathlib.Core.Logic.{⊎-elim}
 use mathlib.Core.Path.{refl}
 use borrow.Author.Needs.{needs}
 use Rattle.push_token.specs.Act.{run}
 use Rattle.format.proofs.Does.{told, does, yes, no, stays}
+use Rattle.format.proofs.Tests.{by-way}
 use Rattle.push_token.proofs.Said.{said}
 use Rattle.format.proofs.formatter.Formatter.feed_line.Statement.{statement}
 use Rattle.format.proofs.formatter.Formatter.feed_line.Tie as tie
@@ -25,7 +25,7 @@ same-length-2 c = search needs
 
 returns-2 : tie.Need-returns-2
 unfolding run said
-returns-2 c = λ s. ⊎-elim (λ w. no (λ n. rw (w .0 .taken)) (yes (λ n. rw (told (w .2 .ensures n) (w .3 .left))) (does refl (rw (w .0 .taken)) refl (c .before .before .write-byte .ensures)))) (λ w. yes (λ n. rw (w .left)) (does refl refl refl (c .before .before .write-byte .ensures))) (c .before .before .before .before .if1 .came)
+returns-2 c = λ s. by-way (c .before .before .before .before .if1 .came) (λ w. no (λ n. rw (w .0 .taken)) (yes (λ n. rw (told (w .2 .ensures n) (w .3 .left))) (does refl (rw (w .0 .taken)) refl (c .before .before .write-byte .ensures)))) (λ w. yes (λ n. rw (w .left)) (does refl refl refl (c .before .before .write-byte .ensures)))
 
 pub feed-line-spec : {M : Type 1} → statement M
 feed-line-spec =

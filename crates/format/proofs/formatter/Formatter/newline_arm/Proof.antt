@@ -1,12 +1,11 @@
 -- `format::formatter::Formatter::newline_arm` meets its contract. Assumes nothing.
-use mathlib.Core.Logic.{⊎-elim}
 use mathlib.Core.Path.{refl}
 use borrow.Author.Needs.{needs}
 use borrow.Author.Tests.{eq-eqb, ne-eqb}
 use Rattle.push_token.specs.Arms.{newlineArm}
 use Rattle.format.proofs.Does.{told, yes, no, stays, updated}
 use Rattle.format.proofs.Sink.{nothing}
-use Rattle.format.proofs.Tests.{empty-take, and-no, led}
+use Rattle.format.proofs.Tests.{empty-take, led, by-way}
 use Rattle.format.proofs.formatter.Formatter.newline_arm.Statement.{statement}
 use Rattle.format.proofs.formatter.Formatter.newline_arm.Tie as tie
 
@@ -31,14 +30,14 @@ next-has-comment-requires c κs = search needs
 
 returns-2 : tie.Need-returns-2
 unfolding newlineArm
-returns-2 c = λ s text t ts st. no (λ n. told (c .before .before .before .before .before .suppresses .ensures) (c .before .before .before .before .if1 .left)) (yes (λ n. rw (empty-take _ _ n, eq-eqb _ _ (c .before .before .before .if2 .taken)) (led _ _ (c .before .next-has-comment .ensures text) (st .behind) (c .if3 .taken))) stays)
+returns-2 c = λ s text t ts st. no (λ n. told (c .before .before .before .before .before .suppresses .ensures) (c .before .before .before .before .if1 .left)) (yes (λ n. rw (empty-take _ _ n, eq-eqb _ _ (c .before .before .before .if2 .taken)) (led (c .before .before .before .before .before .before .before .before .args .token .behind) (c .before .before .before .before .before .before .before .before .args .rows .now) text (c .before .next-has-comment .ensures text) (st .behind) (c .if3 .taken))) stays)
 
 keeps-lines-requires : tie.Need-keeps-lines-requires
 keeps-lines-requires c κs = search needs
 
 returns-3 : tie.Need-returns-3
 unfolding newlineArm
-returns-3 c = λ s text t ts st. no (λ n. told (c .before .before .before .before .suppresses .ensures) (c .before .before .before .if1 .left)) (no (λ n. ⊎-elim (λ w. and-no _ _ (led _ _ (w .2 .ensures text) (st .behind) (w .3 .left))) (λ w. rw (empty-take _ _ n, ne-eqb _ _ (w .left))) (c .before .before .if2 .came)) (yes (λ n. told (c .before .keeps-lines .ensures) (c .if4 .taken)) stays))
+returns-3 c = λ s text t ts st. no (λ n. told (c .before .before .before .before .suppresses .ensures) (c .before .before .before .if1 .left)) (no (λ n. by-way (c .before .before .if2 .came) (λ w. rw (empty-take _ _ n, eq-eqb _ _ (w .0 .taken)) (led (c .before .before .before .before .before .before .before .args .token .behind) (c .before .before .before .before .before .before .before .args .rows .now) text (w .2 .ensures text) (st .behind) (w .3 .left))) (λ w. rw (empty-take _ _ n, ne-eqb _ _ (w .left)))) (yes (λ n. told (c .before .keeps-lines .ensures) (c .if4 .taken)) stays))
 
 feed-line-requires : tie.Need-feed-line-requires
 feed-line-requires c κs = search needs
@@ -48,7 +47,7 @@ same-length c = search needs
 
 returns-4 : tie.Need-returns-4
 unfolding newlineArm
-returns-4 c = λ s text t ts st. no (λ n. told (c .before .before .before .before .before .before .before .before .suppresses .ensures) (c .before .before .before .before .before .before .before .if1 .left)) (no (λ n. ⊎-elim (λ w. and-no _ _ (led _ _ (w .2 .ensures text) (st .behind) (w .3 .left))) (λ w. rw (empty-take _ _ n, ne-eqb _ _ (w .left))) (c .before .before .before .before .before .before .if2 .came)) (no (λ n. told (c .before .before .before .before .before .keeps-lines .ensures) (c .before .before .before .before .if4 .left)) (c .before .before .feed-line .ensures s)))
+returns-4 c = λ s text t ts st. no (λ n. told (c .before .before .before .before .before .before .before .before .suppresses .ensures) (c .before .before .before .before .before .before .before .if1 .left)) (no (λ n. by-way (c .before .before .before .before .before .before .if2 .came) (λ w. rw (empty-take _ _ n, eq-eqb _ _ (w .0 .taken)) (led (c .before .before .before .before .before .before .before .before .before .before .before .args .token .behind) (c .before .before .before .before .before .before .before .before .before .before .before .args .rows .now) text (w .2 .ensures text) (st .behind) (w .3 .left))) (λ w. rw (empty-take _ _ n, ne-eqb _ _ (w .left)))) (no (λ n. told (c .before .before .before .before .before .keeps-lines .ensures) (c .before .before .before .before .if4 .left)) (c .before .before .feed-line .ensures s)))
 
 pub newline-arm-spec : {M : Type 1} → statement M
 newline-arm-spec =
