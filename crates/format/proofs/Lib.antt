@@ -2,3 +2,4 @@ pub mod Sink
 pub mod Stack
 pub mod Does
 pub mod Tests
+pub mod Openers

@@ -338,7 +338,7 @@ impl Formatter {
 
     // `open_block_multiline`, and the last kind.
     fn open_block(self, out: &mut [u8], index: usize) -> Self
-        requires { ⌜ Roomy self ⌝ }
+        requires { ⌜ self .indent < 4294967295 ⌝ }
         requires { ⌜ index < 4294967296 ⌝ }
         ensures { λ r. ⌜ ((s : List ℕ) → Does (λ o. openBlock o index) (on self s (now (out .entry))) (on r s (now (out .exit)))) ⌝ }
     {
@@ -351,7 +351,7 @@ impl Formatter {
     }
 
     fn open_block_same_line(mut self, out: &mut [u8]) -> Self
-        requires { ⌜ Roomy self ⌝ }
+        requires { ⌜ self .indent < 4294967295 ⌝ }
         ensures { λ r. ⌜ ((s : List ℕ) → Does (λ o. Rattle.format.specs.Parts.openSameLine) (on self s (now (out .entry))) (on r s (now (out .exit)))) ⌝ }
     {
         let len = self.len;
@@ -368,7 +368,7 @@ impl Formatter {
     }
 
     fn open_block_allman(mut self, out: &mut [u8], index: usize) -> Self
-        requires { ⌜ Roomy self ⌝ }
+        requires { ⌜ self .indent < 4294967295 ⌝ }
         requires { ⌜ index < 4294967296 ⌝ }
         ensures { λ r. ⌜ ((s : List ℕ) → Does (λ o. Rattle.format.specs.Parts.openAllman o index) (on self s (now (out .entry))) (on r s (now (out .exit)))) ⌝ }
     {
@@ -517,7 +517,7 @@ impl Formatter {
 
     // A lexeme, and one bracket deeper.
     fn open_group(mut self, out: &mut [u8], text: &[u8], token: TokenAt) -> Self
-        requires { ⌜ Roomy self ⌝ }
+        requires { ⌜ self .«group_depth» .0 < 4294967295 ⌝ }
         requires { ⌜ Names token (now text) ⌝ }
         ensures { λ r. ⌜ ((s : List ℕ) → Does (λ o. pushLexeme o (lone token (now (text .entry))) ⨾ update groupOpened) (on self s (now (out .entry))) (on r s (now (out .exit)))) ⌝ }
     {
