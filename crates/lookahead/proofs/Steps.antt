@@ -12,12 +12,21 @@ use Rattle.lookahead.specs.declared.measure.Span.the-variants.{Signature
 use Rattle.lookahead.specs.Measure.{more}
 use Rattle.lookahead.specs.Scan.{depthAfter, isLast, stopsAt}
 
--- a last closer: none is open, or one
+-- ---- the last closer: none is open, or one
+
 pub last : (d : ℕ) → leb d 1 ≡ eqb (d - 1) 0
 last d =
     split (leb d 1)
     (λ e. let h = leb-true d 1 e in e ∙ sym (eq-eqb (d - 1) 0 (omega arith)))
     (λ e. let h = leb-false d 1 e in e ∙ sym (ne-eqb (d - 1) 0 (λ q. omega arith)))
+
+pub last-other : (own other : ℕ) → 0 < other → false ≡ isLast own other
+last-other own other h = rw (ne-eqb other 0 (λ q. omega arith), and-false)
+
+pub last-own : (own other : ℕ) → other ≤ 0 → leb own 1 ≡ isLast own other
+last-own own other h = rw (eq-eqb other 0 (omega arith), and-true, last own)
+
+-- ---- where a measure stops, by the tests that the code makes
 
 module _ (p b k : ℕ) where
   pub stops-eof : (s : Span) → k ≡ Eof → true ≡ stopsAt s p b k
@@ -44,13 +53,10 @@ module _ (p b k : ℕ) where
   pub bracket-closer : k ≡ RightBracket → isLast b p ≡ stopsAt Bracket p b k
   bracket-closer e = rw e (sym (or-false (isLast b p)))
 
--- ---- bounds of a step
+-- ---- what a step adds
 
 pub depth-after-most : (o c k d : ℕ) → depthAfter o c k d ≤ d + 1
 depth-after-most o c k d = split (eqb k o) (λ e. rw e (omega arith)) (λ e. rw e (split (eqb k c) (λ f. rw f (omega arith)) (λ f. rw f (omega arith))))
-
-pub positive : (n : ℕ) → (n ≡ 0 → ⊥) → ltb 0 n ≡ true
-positive n h = split (ltb 0 n) (λ e. e) (λ e. absurd (h (let l = ltb-false 0 n e in omega arith)))
 
 pub more-most : (b : Bool) (n : ℕ) → more b n ≤ n + 1
 more-most true n = omega arith
@@ -60,8 +66,5 @@ pub more-least : (b : Bool) (n : ℕ) → n ≤ more b n
 more-least true n = omega arith
 more-least false n = omega arith
 
-pub last-other : (own other : ℕ) → 0 < other → false ≡ isLast own other
-last-other own other h = rw (ne-eqb other 0 (λ q. omega arith), and-false)
-
-pub last-own : (own other : ℕ) → other ≤ 0 → leb own 1 ≡ isLast own other
-last-own own other h = rw (eq-eqb other 0 (omega arith), and-true, last own)
+pub positive : (n : ℕ) → (n ≡ 0 → ⊥) → ltb 0 n ≡ true
+positive n h = split (ltb 0 n) (λ e. e) (λ e. absurd (h (let l = ltb-false 0 n e in omega arith)))

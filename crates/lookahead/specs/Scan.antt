@@ -2,14 +2,14 @@
 -- Assumes nothing.
 use mathlib.Core.Bool.{Bool, true, false, cond, _&&_, _||_}
 use mathlib.Core.List.{List, [], _∷_}
-use Prim.Native.Nat.{ℕ, _+_, _-_, _<_}
-use lib.Dec.{eqb, ltb, leb}
+use Prim.Native.Nat.{ℕ, _+_, _-_, _^_, _<_}
+use lib.Dec.{eqb, ltb}
 use Rattle.rows.specs.Kinds.{Leading, TokenRow, Trailing, BlankLine, Eof, Newline, LeftBrace, RightBrace, LeftParen, RightParen, LeftBracket, RightBracket, Comma}
 use Rattle.rows.specs.Row.{Row}
 use Rattle.lookahead.specs.declared.measure.Span.{Span}
 use Rattle.lookahead.specs.declared.measure.Span.the-variants.{Signature, Paren, Bracket}
 use Rattle.lookahead.specs.declared.measure.Measure
-use Rattle.lookahead.specs.Measure.{Measure, start, more, topLevel}
+use Rattle.lookahead.specs.Measure.{Measure, more}
 
 -- ---- `next_has_comment`
 
@@ -124,7 +124,7 @@ capped limit width = cond (ltb limit width) (limit + 1) width
 
 -- room for one more token of n bytes in the code's numbers
 pub record Room (m : Measure.Measure) (n : ℕ) : Type 0 where
-  pub parens : m .parens < 9223372036854775808
-  pub brackets : m .brackets < 9223372036854775808
-  pub commas : m .commas < 9223372036854775808
-  pub width : m .width + n < 9223372036854775808
+  pub parens : m .parens < 2 ^ 63
+  pub brackets : m .brackets < 2 ^ 63
+  pub commas : m .commas < 2 ^ 63
+  pub width : m .width + n < 2 ^ 63

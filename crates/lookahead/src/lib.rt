@@ -9,7 +9,7 @@ use rows::kinds;
 use rows::row_at;
 ghost use mathlib.Core.List.{List};
 ghost use mathlib.Core.Path.{_≡_};
-ghost use Prim.Native.Nat.{ℕ, _≤_, _<_};
+ghost use Prim.Native.Nat.{ℕ, _^_, _≤_, _<_};
 ghost use lib.ListN.{length, drop};
 ghost use Rattle.rows.specs.Row.{rowsOf};
 ghost use Rattle.rows.specs.Token.{tokensOf};
@@ -20,8 +20,11 @@ ghost use Rattle.lookahead.specs.Answer.{reported, spaceReport};
 ghost use Rattle.lookahead.specs.Measure.{start, params, sigMeasure, groupMeasure, shouldBreakSig, shouldBreakList, blockIsSingleLine, nextHasComment};
 ghost use Rattle.lookahead.specs.Scan.{isComment, trails, endsLine, closesBlock, opensParenRows, groupOf, measureRows, measureOf, breaksAt};
 
-pub mod measure;
-pub mod sets;
+mod measure;
+mod sets;
+
+// The bytes of the 65,535 rows that a layout takes at most.
+const MOST_BYTES: usize = 1048560;
 
 // Whether a space is needed between two kinds, or refusal 3 with the place of the first unknown kind.
 pub enum Space {
@@ -93,11 +96,17 @@ pub struct SigMeasure {
     pub width: usize,
 }
 
-// The params of a signature and its width, of at most 65,535 rows.
+// The params of a signature and its width; more rows than a layout takes measure 0.
 pub fn sig_measure(rows: &[u8]) -> SigMeasure
-    requires { ⌜ length (now rows) ≤ 1048560 ⌝ }
-    ensures { λ r. ⌜ ((text : List ℕ) → InBounds text (rowsOf (now (rows .entry))) → (r .params ≡ params (sigMeasure (tokensOf (now (rows .entry)) text))) × (r .width ≡ sigMeasure (tokensOf (now (rows .entry)) text) .width)) ⌝ }
+    ensures exact { λ r. ⌜ (length (now (rows .entry)) ≤ 1048560 → (text : List ℕ) → InBounds text (rowsOf (now (rows .entry))) → (r .params ≡ params (sigMeasure (tokensOf (now (rows .entry)) text))) × (r .width ≡ sigMeasure (tokensOf (now (rows .entry)) text) .width)) ⌝ }
+    ensures too_many { λ r. ⌜ (1048560 < length (now (rows .entry)) → (r .params ≡ 0) × (r .width ≡ 0)) ⌝ }
 {
+    if MOST_BYTES < rows.len() {
+        return SigMeasure {
+            params: 0,
+            width: 0,
+        };
+    }
     let m = measure_rows(rows, Span::Signature);
     if m.width == 0 {
         return SigMeasure {
@@ -116,11 +125,17 @@ pub struct GroupMeasure {
     pub width: usize,
 }
 
-// The top-level commas of a group and its width, of at most 65,535 rows.
+// The top-level commas of a group and its width; more rows than a layout takes measure 0.
 pub fn group_measure(rows: &[u8]) -> GroupMeasure
-    requires { ⌜ length (now rows) ≤ 1048560 ⌝ }
-    ensures { λ r. ⌜ ((text : List ℕ) → InBounds text (rowsOf (now (rows .entry))) → (r .commas ≡ groupMeasure (tokensOf (now (rows .entry)) text) .commas) × (r .width ≡ groupMeasure (tokensOf (now (rows .entry)) text) .width)) ⌝ }
+    ensures exact { λ r. ⌜ (length (now (rows .entry)) ≤ 1048560 → (text : List ℕ) → InBounds text (rowsOf (now (rows .entry))) → (r .commas ≡ groupMeasure (tokensOf (now (rows .entry)) text) .commas) × (r .width ≡ groupMeasure (tokensOf (now (rows .entry)) text) .width)) ⌝ }
+    ensures too_many { λ r. ⌜ (1048560 < length (now (rows .entry)) → (r .commas ≡ 0) × (r .width ≡ 0)) ⌝ }
 {
+    if MOST_BYTES < rows.len() {
+        return GroupMeasure {
+            commas: 0,
+            width: 0,
+        };
+    }
     let m = measure_rows(rows, group(rows));
     GroupMeasure {
         commas: m.commas,
@@ -178,7 +193,7 @@ pub fn next_has_comment(rows: &[u8]) -> bool
 
 // Whether a measure is above what does not break. It stops as soon as that is certain.
 fn decide(rows: &[u8], span: Span, limit: usize) -> bool
-    requires { ⌜ limit < 4294967296 ⌝ }
+    requires { ⌜ limit < 2 ^ 32 ⌝ }
     ensures { λ r. ⌜ r ≡ breaksAt span limit (measureRows span start (rowsOf (now (rows .entry)))) ⌝ }
 {
     let mut m = Measure::new();

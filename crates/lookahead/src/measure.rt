@@ -3,7 +3,7 @@ use rows::Row;
 use rows::kinds;
 ghost use mathlib.Core.Path.{_≡_};
 ghost use mathlib.Core.Bool.{_&&_};
-ghost use Prim.Native.Nat.{_+_, _-_, _<_, _≤_};
+ghost use Prim.Native.Nat.{_-_, _^_, _<_};
 ghost use lib.Dec.{eqb};
 ghost use Rattle.rows.specs.Kinds.{LeftParen, RightParen, LeftBracket, RightBracket, Comma};
 ghost use Rattle.lookahead.specs.Measure.{more};
@@ -113,7 +113,7 @@ impl Measure {
 
     // The width stops growing past the limit, so that it fits however many rows there are.
     pub fn capped(mut self, limit: usize) -> Measure
-        requires { ⌜ limit < 4294967296 ⌝ }
+        requires { ⌜ limit < 2 ^ 32 ⌝ }
         ensures { λ r. ⌜ (r .parens ≡ self .parens) × (r .brackets ≡ self .brackets) × (r .commas ≡ self .commas) × (r .width ≡ capped limit (self .width)) ⌝ }
     {
         if limit < self.width {
@@ -123,7 +123,7 @@ impl Measure {
     }
 
     fn commas_after(self, span: Span, kind: u32) -> usize
-        requires { ⌜ self .commas < 9223372036854775808 ⌝ }
+        requires { ⌜ self .commas < 2 ^ 63 ⌝ }
         ensures { λ r. ⌜ r ≡ more (eqb kind Comma && topIn span (self .parens) (self .brackets)) (self .commas) ⌝ }
     {
         if kind != kinds::COMMA {
@@ -169,7 +169,7 @@ fn is_top(own: usize, other: usize) -> bool
 
 // A depth behind a token.
 pub fn depth_after(opener: u32, closer: u32, kind: u32, depth: usize) -> usize
-    requires { ⌜ depth < 9223372036854775808 ⌝ }
+    requires { ⌜ depth < 2 ^ 63 ⌝ }
     ensures { λ r. ⌜ r ≡ depthAfter opener closer kind depth ⌝ }
 {
     if kind == opener {
@@ -186,7 +186,7 @@ pub fn depth_after(opener: u32, closer: u32, kind: u32, depth: usize) -> usize
 
 // How many bytes a row names.
 pub fn size_of(row: Row) -> usize
-    ensures { λ r. ⌜ (r ≡ row .end - row .start) × (r < 4294967296) ⌝ }
+    ensures { λ r. ⌜ (r ≡ row .end - row .start) × (r < 2 ^ 32) ⌝ }
 {
     if row.end < row.start {
         return 0;

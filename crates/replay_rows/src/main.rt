@@ -124,9 +124,6 @@ fn print_lookahead(calls: &[u8], i: usize, rows: &[u8], signature_width: u32, li
         return;
     }
     let part = &rows[at..];
-    if 1048560 < part.len() {
-        return;
-    }
     if which == 0 {
         print_signature(part, signature_width);
     }
@@ -142,18 +139,14 @@ fn print_lookahead(calls: &[u8], i: usize, rows: &[u8], signature_width: u32, li
     io::write_all(STDOUT_FILENO, b";");
 }
 
-fn print_signature(rows: &[u8], width: u32)
-    requires { ⌜ length (now rows) ≤ 1048560 ⌝ }
-{
+fn print_signature(rows: &[u8], width: u32) {
     let m = lookahead::sig_measure(rows);
     print_number(m.params as u64);
     print_number(m.width as u64);
     print_number(flag(lookahead::should_break_sig(rows, width)));
 }
 
-fn print_list(rows: &[u8], width: u32)
-    requires { ⌜ length (now rows) ≤ 1048560 ⌝ }
-{
+fn print_list(rows: &[u8], width: u32) {
     let m = lookahead::group_measure(rows);
     print_number(m.commas as u64);
     print_number(m.width as u64);

@@ -1,3 +1,4 @@
 pub mod RowList
 pub mod Checking
 pub mod Sound
+pub mod Passed

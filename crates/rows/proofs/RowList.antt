@@ -64,4 +64,4 @@ row-here bytes i h =
 
 pub row-index : (bytes : List ℕ) (i : ℕ) (d : Row) → 16 * i + 16 ≤ length bytes → getD (rowsOf bytes) i d ≡ rowAt bytes (16 * i)
 row-index bytes i d h =
-    ap (getD (rowsOf bytes) i) refl ∙ ap (λ n. getD (rowsOf bytes) n d) (sym (add-zero i)) ∙ sym (getD-drop i (rowsOf bytes) 0 d) ∙ rw (row-here bytes i h)
+    ap (λ n. getD (rowsOf bytes) n d) (sym (add-zero i)) ∙ sym (getD-drop i (rowsOf bytes) 0 d) ∙ rw (row-here bytes i h)

@@ -1,0 +1,52 @@
+-- What a caller knows where `check` answers Good. Assumes nothing.
+use mathlib.Core.Bool.{false, not}
+use mathlib.Core.List.{List}
+use mathlib.Core.Option.{Option, none, some}
+use mathlib.Core.Path.{_≡_, refl, ap}
+use Prim.Native.Nat.{ℕ, _*_, _/_, _%_, _≤_}
+use native.Mathlib.Omega.{arith}
+use lib.Dec.{eqb, ltb}
+use lib.ListN.{length}
+use borrow.Author.Tests.{eqb-true, ltb-false, not-false}
+use Rattle.report.specs.Report.{Report, success, option, raggedRows, badRow}
+use Rattle.report.proofs.Logic.{or-left, or-right, split}
+use Rattle.rows.specs.Row.{rowsOf}
+use Rattle.rows.specs.Options.{badOption}
+use Rattle.rows.specs.Bounds.{InBounds}
+use Rattle.rows.specs.Checks.{ragged, atStart, badFrom}
+use Rattle.rows.specs.Answer.{refuseOr, eachRowReport, rowsReport, checkReport}
+use Rattle.rows.proofs.Sound.{in-bounds}
+
+-- none of the refusals 1, 2 and 3
+pub record Passed (style indent signature list : ℕ) (rows : List ℕ) (size : ℕ) : Type 0 where
+  pub options : badOption style indent signature list ≡ none
+  pub even : ragged rows ≡ false
+  pub each : badFrom size atStart 0 (rowsOf rows) ≡ none
+
+-- a refusal is no success
+no-refusal : (number : ℕ) (o : Option ℕ) (r : Report) → refuseOr number o r ≡ success 0 0 0 → (number ≡ 0 → ⊥) → (o ≡ none) × (r ≡ success 0 0 0)
+no-refusal number none r e n = (refl, e)
+no-refusal number (some i) r e n = absurd (n (ap (λ x. x .refusal) e))
+
+pub passed : (style indent signature list : ℕ) (rows : List ℕ) (size : ℕ) → checkReport style indent signature list rows size ≡ success 0 0 0 → Passed style indent signature list rows size
+unfolding checkReport rowsReport eachRowReport
+passed style indent signature list rows size e =
+    let f = no-refusal option (badOption style indent signature list) (rowsReport rows size) e (λ z. omega arith) in
+    split (ragged rows)
+    (λ r. let z : raggedRows ≡ 0 = ap (λ x. x .refusal) (rw r at (f .1)) in absurd (omega arith))
+    (λ r. record { options = f .0; even = r; each = no-refusal badRow (badFrom size atStart 0 (rowsOf rows)) (success 0 0 0) (rw r at (f .1)) (λ z. omega arith) .0 })
+
+module _ {style indent signature list : ℕ} {rows : List ℕ} {size : ℕ} (π : Passed style indent signature list rows size) where
+  pub whole-rows : length rows ≡ 16 * (length rows / 16)
+  whole-rows =
+      let z : length rows % 16 ≡ 0 = eqb-true (length rows % 16) 0 (not-false _ (or-left (not (eqb (length rows % 16) 0)) (ltb 65535 (length rows / 16)) (π .even))) in
+      omega arith
+
+  pub few-rows : length rows ≤ 1048560
+  few-rows =
+      let m : length rows / 16 ≤ 65535 = ltb-false 65535 (length rows / 16) (or-right (not (eqb (length rows % 16) 0)) (ltb 65535 (length rows / 16)) (π .even)) in
+      omega (arith, whole-rows)
+
+-- the rows lie in the text
+pub passed-bounds : (text : List ℕ) {style indent signature list : ℕ} {rows : List ℕ} → Passed style indent signature list rows (length text) → InBounds text (rowsOf rows)
+passed-bounds text {rows = rows} π = in-bounds text atStart 0 (rowsOf rows) (π .each)

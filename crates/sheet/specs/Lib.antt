@@ -1,0 +1,5 @@
+pub mod Line
+pub mod Row
+pub mod Answer
+pub mod Steps
+pub mod Written
