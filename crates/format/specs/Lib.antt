@@ -2,3 +2,4 @@ pub mod Sink
 pub mod Pen
 pub mod Parts
 pub mod Does
+pub mod Trivia
