@@ -3,7 +3,8 @@
 use mathlib.Core.Bool.{Bool, true, false, cond, not}
 use mathlib.Core.List.{List, [], _∷_, _++_}
 use mathlib.Core.Option.{Option, none, some}
-use Prim.Native.Nat.{ℕ, _+_}
+use mathlib.Core.Path.{_≡_}
+use Prim.Native.Nat.{ℕ, _+_, _<_}
 use Rattle.rows.specs.Kinds.{Newline, LeftBrace, RightBrace, LeftParen, RightParen, Comma, Else}
 use Rattle.rows.specs.Options.{Options}
 use Rattle.rows.specs.Token.{Token}
@@ -11,7 +12,7 @@ use Rattle.lookahead.specs.Measure.{shouldBreakSig}
 use Rattle.push_token.specs.Formatter.{Formatter, setAtLineStart, setPrev, setInlineDepth, setFnState, setSigBreakDepth, setRecordPending, setInRecord, setRecordDepth, setSuppressNewlineAt, setReturned}
 use Rattle.push_token.specs.Act.{Act, update, gap, lexeme, _⨾_, choose, nothing, if}
 use Rattle.push_token.specs.Emit.{lineFeed, space, indentStr, indentOrSpace, onNewLine, endedBy, lineBegun, indented, dedented, pushLexeme}
-use Rattle.push_token.specs.Arms.{endsWithTwoFeeds, nextIs, emptyRecord, openBlock, groupOpened, groupClosed}
+use Rattle.push_token.specs.Arms.{endsWithTwoFeeds, nextIs, emptyRecord, openBlock, groupOpened, groupClosed, breaksList}
 
 -- a Newline that is neither suppressed nor swallowed
 abbrev pub feedLine : Act
@@ -59,3 +60,7 @@ breakComma i = lexeme (44 ∷ []) ⨾ gap (λ f. lineFeed) ⨾ update (λ f. set
 
 abbrev pub breakElse : Options → Act
 breakElse o = gap (λ f. lineFeed ++ indentStr o f) ⨾ lexeme (101 ∷ 108 ∷ 115 ∷ 101 ∷ []) ⨾ update (endedBy Else)
+
+-- a list that breaks finds room on a stack of 64 numbers, of which n are taken
+abbrev pub ListRoom : Options → Token → List Token → Formatter → ℕ → Type 0
+ListRoom o t ts f n = breaksList o t ts f ≡ true → n < 64

@@ -105,9 +105,10 @@ pub record Roomy (f : Formatter) : Type 0 where
   pub signature : f .«sig_break_depth» .0 < 4294967295
   pub commas : f .commas < 4294967295
 
--- the stack has room for one more
+-- the stack holds 64 numbers, and the count is not past them
 pub record StackRoom (f : Formatter) (stack : List ℕ) : Type 0 where
-  pub room : f .«break_count» < length stack
+  pub most : f .«break_count» ≤ 64
+  pub size : 64 ≤ length stack
 
 -- ---- what the methods ask of a token
 

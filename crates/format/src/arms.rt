@@ -24,16 +24,16 @@ ghost use mathlib.Core.List.{List, [], _∷_, _++_};
 ghost use mathlib.Core.Path.{_≡_};
 ghost use Prim.Native.Nat.{ℕ, _+_, _-_, _≤_, _<_};
 ghost use lib.Dec.{eqb};
-ghost use lib.ListN.{length, take};
+ghost use lib.ListN.{length, take, set};
 ghost use Rattle.rows.specs.Token.{Token};
 ghost use Rattle.lookahead.specs.Measure.{nextHasComment, shouldBreakSig, shouldBreakList, blockIsSingleLine};
 ghost use Rattle.push_token.specs.Act.{update, _⨾_};
 ghost use Rattle.push_token.specs.Emit.{openBlockMultiline, pushLexeme};
-ghost use Rattle.push_token.specs.Arms.{inlineCloseGap, endsWithTwoFeeds, groupOpened, groupClosed, newlineArm, closeInline, closeRecord, closeBlock, rightBraceArm, nextIs, emptyRecord, openBlock, leftBraceArm, openList, breaksList, leftParenArm, leftBracketArm, closeCall, rightParenArm, closeArray, rightBracketArm, commaArm, elseOnNewLine, elseArm, otherArm, trackRecord};
+ghost use Rattle.push_token.specs.Arms.{inlineCloseGap, endsWithTwoFeeds, groupOpened, groupClosed, atSignature, newlineArm, closeInline, closeRecord, closeBlock, rightBraceArm, nextIs, emptyRecord, openBlock, leftBraceArm, openList, breaksList, leftParenArm, leftBracketArm, closeCall, rightParenArm, closeArray, rightBracketArm, commaArm, elseOnNewLine, elseArm, otherArm, trackRecord};
 ghost use Rattle.push_token.specs.PushToken.{arm};
 ghost use Rattle.format.specs.Sink.{Writes};
 ghost use Rattle.format.specs.Pen.{Roomy, StackRoom, Names, Stands, Ahead, lexemeOf, lone, optionsOf, formatterOf, prevOf, newlineOf, on};
-ghost use Rattle.format.specs.Parts.{breakComma, breakSignature, closeSignatureParen, openInline};
+ghost use Rattle.format.specs.Parts.{ListRoom, breakComma, breakSignature, closeSignatureParen, openInline};
 ghost use Rattle.format.specs.Does.{Does};
 
 impl Formatter {
@@ -404,7 +404,7 @@ impl Formatter {
         requires { ⌜ StackRoom self (now stack) ⌝ }
         requires { ⌜ Names token (now text) ⌝ }
         requires { ⌜ Ahead token (now rows) ⌝ }
-        ensures { λ r. ⌜ ((t : Token) (ts : List Token) → Stands token (now (rows .entry)) (now (text .entry)) t ts → Does (λ o. leftParenArm o (token .index) t ts) (on self (now (stack .entry)) (now (out .entry))) (on r (now (stack .exit)) (now (out .exit)))) ⌝ }
+        ensures { λ r. ⌜ ((t : Token) (ts : List Token) → Stands token (now (rows .entry)) (now (text .entry)) t ts → (atSignature (formatterOf self []) ≡ false → ListRoom (optionsOf (self .options)) t ts (formatterOf self []) (self .«break_count»)) → Does (λ o. leftParenArm o (token .index) t ts) (on self (now (stack .entry)) (now (out .entry))) (on r (now (stack .exit)) (now (out .exit)))) ⌝ }
     {
         if self.at_signature() {
             return self.open_signature(out, rows, text, token);
@@ -430,7 +430,7 @@ impl Formatter {
         requires { ⌜ StackRoom self (now stack) ⌝ }
         requires { ⌜ Names token (now text) ⌝ }
         requires { ⌜ Ahead token (now rows) ⌝ }
-        ensures { λ r. ⌜ ((t : Token) (ts : List Token) → Stands token (now (rows .entry)) (now (text .entry)) t ts → Does (λ o. leftBracketArm o (token .index) t ts) (on self (now (stack .entry)) (now (out .entry))) (on r (now (stack .exit)) (now (out .exit)))) ⌝ }
+        ensures { λ r. ⌜ ((t : Token) (ts : List Token) → Stands token (now (rows .entry)) (now (text .entry)) t ts → ListRoom (optionsOf (self .options)) t ts (formatterOf self []) (self .«break_count») → Does (λ o. leftBracketArm o (token .index) t ts) (on self (now (stack .entry)) (now (out .entry))) (on r (now (stack .exit)) (now (out .exit)))) ⌝ }
     {
         if self.breaks_list(rows, token) {
             return self.open_list(out, stack, text, token);
@@ -440,7 +440,7 @@ impl Formatter {
 
     // `fn name (` or `fn (`, outside one-line blocks.
     pub fn at_signature(self) -> bool
-        ensures { λ r. ⌜ r ≡ Rattle.push_token.specs.Arms.atSignature (formatterOf self []) ⌝ }
+        ensures { λ r. ⌜ r ≡ atSignature (formatterOf self []) ⌝ }
     {
         let inline = self.inline_depth;
         let depth = inline.0;
@@ -542,7 +542,7 @@ impl Formatter {
         requires { ⌜ Roomy self ⌝ }
         requires { ⌜ StackRoom self (now stack) ⌝ }
         requires { ⌜ Names token (now text) ⌝ }
-        ensures { λ r. ⌜ Does (λ o. openList o (token .index) (lone token (now (text .entry)))) (on self (now (stack .entry)) (now (out .entry))) (on r (now (stack .exit)) (now (out .exit))) ⌝ }
+        ensures { λ r. ⌜ (self .«break_count» < 64 → Does (λ o. openList o (token .index) (lone token (now (text .entry)))) (on self (now (stack .entry)) (now (out .entry))) (on r (now (stack .exit)) (now (out .exit)))) ⌝ }
     {
         let kind = token.kind;
         let index = token.index;
@@ -551,7 +551,7 @@ impl Formatter {
         let count = self.break_count;
         let group = self.group_depth;
         let inner = group.0 + 1;
-        stack[count] = inner;
+        push_entry(stack, count, inner);
         let prev = Before {
             kind: Prev::Kind(kind),
         };
@@ -864,4 +864,14 @@ fn next_is(rows: &[u8], kind: u32) -> bool
         at += rows::ROW_BYTES;
     }
     false
+}
+
+// Puts a depth on the stack at `count`, where it has room.
+fn push_entry(stack: &mut [u32], count: usize, depth: u32)
+    ensures { λ r. ⌜ (count < length (now (stack .entry)) → now (stack .exit) ≡ set (now (stack .entry)) count depth) ⌝ }
+    ensures size { λ r. ⌜ length (now (stack .exit)) ≡ length (now (stack .entry)) ⌝ }
+{
+    if count < stack.len() {
+        stack[count] = depth;
+    }
 }

@@ -1,5 +1,5 @@
 // The layout of rl source text (document 01): token rows in, text out.
 mod arms;
-mod formatter;
+pub mod formatter;
 mod trivia;
 mod write;

@@ -20,7 +20,7 @@ same-length-2 c = search needs
 
 returns : tie.Need-returns
 unfolding leftBracketArm
-returns c = λ t ts σ. yes (λ n. told (c .before .before .before .before .before .before .before .before .breaks-list .ensures _ t ts σ) (c .before .before .before .before .before .before .before .if1 .taken)) (rw (σ .kind, σ .lexeme) (c .before .before .before .before .open-list .ensures))
+returns c = λ t ts σ room. yes (λ n. told (c .before .before .before .before .before .before .before .before .breaks-list .ensures _ t ts σ) (c .before .before .before .before .before .before .before .if1 .taken)) (rw (σ .kind, σ .lexeme) ((c .before .before .before .before .open-list .ensures) (room (told (c .before .before .before .before .before .before .before .before .breaks-list .ensures _ t ts σ) (c .before .before .before .before .before .before .before .if1 .taken)))))
 
 open-group-requires : tie.Need-open-group-requires
 open-group-requires c κs = search needs
@@ -30,7 +30,7 @@ same-length-3 c = search needs
 
 returns-2 : tie.Need-returns-2
 unfolding leftBracketArm
-returns-2 c = λ t ts σ. no (λ n. told (c .before .before .before .before .before .breaks-list .ensures _ t ts σ) (c .before .before .before .before .if1 .left)) (opened σ (c .before .before .open-group .ensures _))
+returns-2 c = λ t ts σ room. no (λ n. told (c .before .before .before .before .before .breaks-list .ensures _ t ts σ) (c .before .before .before .before .if1 .left)) (opened σ (c .before .before .open-group .ensures _))
 
 pub left-bracket-arm-spec : {M : Type 1} → statement M
 left-bracket-arm-spec =

@@ -19,7 +19,7 @@ same-length c = search needs
 
 returns : tie.Need-returns
 unfolding leftParenArm
-returns c = λ t ts σ. yes (λ n. told (c .before .before .before .before .before .at-signature .ensures) (c .before .before .before .before .if1 .taken)) (c .before .before .open-signature .ensures _ t ts σ)
+returns c = λ t ts σ room. yes (λ n. told (c .before .before .before .before .before .at-signature .ensures) (c .before .before .before .before .if1 .taken)) (c .before .before .open-signature .ensures _ t ts σ)
 
 breaks-list-requires : tie.Need-breaks-list-requires
 breaks-list-requires c κs = search needs
@@ -35,7 +35,7 @@ same-length-3 c = search needs
 
 returns-2 : tie.Need-returns-2
 unfolding leftParenArm
-returns-2 c = λ t ts σ. no (λ n. told (c .before .before .before .before .before .before .before .before .before .before .at-signature .ensures) (c .before .before .before .before .before .before .before .before .before .if1 .left)) (yes (λ n. told (c .before .before .before .before .before .before .before .before .breaks-list .ensures _ t ts σ) (c .before .before .before .before .before .before .before .if2 .taken)) (rw (σ .kind, σ .lexeme) (c .before .before .before .before .open-list .ensures)))
+returns-2 c = λ t ts σ room. no (λ n. told (c .before .before .before .before .before .before .before .before .before .before .at-signature .ensures) (c .before .before .before .before .before .before .before .before .before .if1 .left)) (yes (λ n. told (c .before .before .before .before .before .before .before .before .breaks-list .ensures _ t ts σ) (c .before .before .before .before .before .before .before .if2 .taken)) (rw (σ .kind, σ .lexeme) ((c .before .before .before .before .open-list .ensures) (room (told (c .before .before .before .before .before .before .before .before .before .before .at-signature .ensures) (c .before .before .before .before .before .before .before .before .before .if1 .left)) (told (c .before .before .before .before .before .before .before .before .breaks-list .ensures _ t ts σ) (c .before .before .before .before .before .before .before .if2 .taken))))))
 
 deeper-requires : tie.Need-deeper-requires
 deeper-requires c κs = search needs
@@ -48,7 +48,7 @@ same-length-4 c = search needs
 
 returns-3 : tie.Need-returns-3
 unfolding leftParenArm
-returns-3 c = λ t ts σ. no (λ n. told (c .before .before .before .before .before .before .before .before .before .at-signature .ensures) (c .before .before .before .before .before .before .before .before .if1 .left)) (no (λ n. told (c .before .before .before .before .before .before .before .breaks-list .ensures _ t ts σ) (c .before .before .before .before .before .before .if2 .left)) (seq (updated refl (rw (c .before .before .before .before .deeper .ensures)) refl nothing) (opened σ (c .before .before .open-group .ensures _))))
+returns-3 c = λ t ts σ room. no (λ n. told (c .before .before .before .before .before .before .before .before .before .at-signature .ensures) (c .before .before .before .before .before .before .before .before .if1 .left)) (no (λ n. told (c .before .before .before .before .before .before .before .breaks-list .ensures _ t ts σ) (c .before .before .before .before .before .before .if2 .left)) (seq (updated refl (rw (c .before .before .before .before .deeper .ensures)) refl nothing) (opened σ (c .before .before .open-group .ensures _))))
 
 pub left-paren-arm-spec : {M : Type 1} → statement M
 left-paren-arm-spec =

@@ -1,7 +1,9 @@
 -- `format::formatter::Formatter::open_list` meets its contract. Assumes nothing.
 use mathlib.Core.List.{append-nil}
 use mathlib.Core.Path.{refl, sym}
+use Prim.Native.Nat.{_<_}
 use native.Mathlib.Omega.{arith}
+use lib.ListN.{length}
 use borrow.Author.Needs.{needs}
 use Rattle.push_token.specs.Act.{run}
 use Rattle.format.proofs.Does.{does}
@@ -20,20 +22,17 @@ write-byte-requires c κs = search needs
 add-inner : tie.Need-add-inner
 add-inner c = search needs
 
-mul-stack : tie.Need-mul-stack
-mul-stack c = search needs
+push-entry-requires : tie.Need-push-entry-requires
+push-entry-requires c κs = search needs
 
-slice-write-stack : tie.Need-slice-write-stack
-slice-write-stack c = search needs
-
-add-t20 : tie.Need-add-t20
-add-t20 c = search needs
+add-t24 : tie.Need-add-t24
+add-t24 c = search needs
 
 add-self : tie.Need-add-self
 add-self c = search needs
 
 add-self-2 : tie.Need-add-self-2
-add-self-2 c = record { fits = let p = c .before .before .before .before .before .before .before .before .before .before .before .before .before .before .pre .1 .0 .room in let g = c .before .before .before .before .before .before .before .before .before .before .before .before .before .before .good .1 .1 .0 in omega arith }
+add-self-2 c = record { fits = let p = c .before .before .before .before .before .before .before .before .before .before .before .before .before .before .before .before .before .before .pre .1 .0 .most in omega arith }
 
 same-length : tie.Need-same-length
 same-length c = search needs
@@ -43,7 +42,7 @@ same-length-2 c = search needs
 
 returns : tie.Need-returns
 unfolding run said
-returns c = does refl (sym (rw (top-pushed (c .before .before .before .before .before .before .before .before .before .before .before .before .before .before .args .self .«break_count») (c .before .before .before .before .before .before .before .before .before .before .before .before .before .before .args .stack .now) _ (c .before .before .before .before .before .before .before .before .before .before .before .before .before .before .pre .1 .0 .room)))) refl (rw append-nil (andThen (c .before .before .before .before .before .before .before .before .before .write-token .ensures) (c .before .before .before .before .before .write-byte .ensures)))
+returns c = λ few. let room : c .before .before .before .before .before .before .before .before .before .before .before .before .before .before .before .before .before .before .args .self .«break_count» < length (c .before .before .before .before .before .before .before .before .before .before .before .before .before .before .before .before .before .before .args .stack .now) = let z = c .before .before .before .before .before .before .before .before .before .before .before .before .before .before .before .before .before .before .pre .1 .0 .size in omega arith in does refl (sym (rw (c .before .before .before .push-entry .ensures .0 room, top-pushed (c .before .before .before .before .before .before .before .before .before .before .before .before .before .before .before .before .before .before .args .self .«break_count») (c .before .before .before .before .before .before .before .before .before .before .before .before .before .before .before .before .before .before .args .stack .now) _ room))) refl (rw append-nil (andThen (c .before .before .before .before .before .before .before .before .before .before .before .before .before .write-token .ensures) (c .before .before .before .before .before .before .before .before .before .write-byte .ensures)))
 
 pub open-list-spec : {M : Type 1} → statement M
 open-list-spec =
@@ -52,9 +51,8 @@ open-list-spec =
     write-token-requires
     write-byte-requires
     add-inner
-    mul-stack
-    slice-write-stack
-    add-t20
+    push-entry-requires
+    add-t24
     add-self
     add-self-2
     same-length
