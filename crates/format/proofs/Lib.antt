@@ -3,3 +3,4 @@ pub mod Stack
 pub mod Does
 pub mod Tests
 pub mod Openers
+pub mod Comments

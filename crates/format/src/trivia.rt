@@ -6,7 +6,6 @@ use rows::ROW_BYTES;
 use rows::Row;
 use rows::kinds;
 use rows::row_at;
-
 ghost use mathlib.Core.Bool.{cond};
 ghost use mathlib.Core.List.{List, [], _∷_, _++_};
 ghost use mathlib.Core.Path.{_≡_};
@@ -23,7 +22,14 @@ ghost use Rattle.format.specs.Does.{Does};
 
 impl Formatter {
     // Writes the leading rows from `from` to `to`.
-    pub fn push_leading(self, out: &mut [u8], rows: &[u8], text: &[u8], from: usize, to: usize) -> Self
+    pub fn push_leading(
+        self,
+        out: &mut [u8],
+        rows: &[u8],
+        text: &[u8],
+        from: usize,
+        to: usize,
+    ) -> Self
         requires { ⌜ Part (now rows) (now text) from to ⌝ }
         ensures { λ r. ⌜ ((s : List ℕ) → Does (λ o. leadingTrivia o (triviaIn (now (rows .entry)) (now (text .entry)) from ((to - from) / 16))) (on self s (now (out .entry))) (on r s (now (out .exit)))) ⌝ }
     {
@@ -37,7 +43,14 @@ impl Formatter {
     }
 
     // Writes the trailing rows from `from` to `to`.
-    pub fn push_trailing(self, out: &mut [u8], rows: &[u8], text: &[u8], from: usize, to: usize) -> Self
+    pub fn push_trailing(
+        self,
+        out: &mut [u8],
+        rows: &[u8],
+        text: &[u8],
+        from: usize,
+        to: usize,
+    ) -> Self
         requires { ⌜ Part (now rows) (now text) from to ⌝ }
         ensures { λ r. ⌜ ((s : List ℕ) → Does (λ o. trailingTrivia (triviaIn (now (rows .entry)) (now (text .entry)) from ((to - from) / 16))) (on self s (now (out .entry))) (on r s (now (out .exit)))) ⌝ }
     {
