@@ -4,3 +4,4 @@ pub mod Does
 pub mod Tests
 pub mod Openers
 pub mod Comments
+pub mod Held

@@ -110,6 +110,17 @@ pub record StackRoom (f : Formatter) (stack : List ℕ) : Type 0 where
   pub most : f .«break_count» ≤ 64
   pub size : 64 ≤ length stack
 
+-- the counts and the options of f are those of g
+pub record Held (f g : Formatter) : Type 0 where
+  pub options : g .options ≡ f .options
+  pub indent : g .indent ≡ f .indent
+  pub group : g .«group_depth» ≡ f .«group_depth»
+  pub inline : g .«inline_depth» ≡ f .«inline_depth»
+  pub records : g .«record_depth» ≡ f .«record_depth»
+  pub signature : g .«sig_break_depth» ≡ f .«sig_break_depth»
+  pub commas : g .commas ≡ f .commas
+  pub count : g .«break_count» ≡ f .«break_count»
+
 -- ---- what the methods ask of a token
 
 -- its lexeme lies in the text

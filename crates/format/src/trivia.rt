@@ -16,7 +16,7 @@ ghost use Rattle.rows.specs.Bounds.{Inside};
 ghost use Rattle.rows.specs.Token.{triviaOf, bytesOf};
 ghost use Rattle.push_token.specs.Emit.{leadingTrivia, trailingTrivia};
 ghost use Rattle.format.specs.Sink.{Writes};
-ghost use Rattle.format.specs.Pen.{optionsOf, formatterOf, on};
+ghost use Rattle.format.specs.Pen.{Held, on};
 ghost use Rattle.format.specs.Trivia.{Part, triviaIn, leadAct, trailAct, commentHead, leadTail, trailHead, trailTail};
 ghost use Rattle.format.specs.Does.{Does};
 
@@ -31,7 +31,8 @@ impl Formatter {
         to: usize,
     ) -> Self
         requires { ⌜ Part (now rows) (now text) from to ⌝ }
-        ensures { λ r. ⌜ ((s : List ℕ) → Does (λ o. leadingTrivia o (triviaIn (now (rows .entry)) (now (text .entry)) from ((to - from) / 16))) (on self s (now (out .entry))) (on r s (now (out .exit)))) ⌝ }
+        ensures does { λ r. ⌜ ((s : List ℕ) → Does (λ o. leadingTrivia o (triviaIn (now (rows .entry)) (now (text .entry)) from ((to - from) / 16))) (on self s (now (out .entry))) (on r s (now (out .exit)))) ⌝ }
+        ensures held { λ r. ⌜ Held self r ⌝ }
     {
         let mut f = self;
         let mut at = from;
@@ -65,7 +66,8 @@ impl Formatter {
 
     fn push_lead(mut self, out: &mut [u8], text: &[u8], row: Row) -> Self
         requires { ⌜ Inside (now text) (rowOf row) ⌝ }
-        ensures { λ r. ⌜ ((s : List ℕ) → Does (λ o. leadAct o (triviaOf (now (text .entry)) (rowOf row))) (on self s (now (out .entry))) (on r s (now (out .exit)))) ⌝ }
+        ensures does { λ r. ⌜ ((s : List ℕ) → Does (λ o. leadAct o (triviaOf (now (text .entry)) (rowOf row))) (on self s (now (out .entry))) (on r s (now (out .exit)))) ⌝ }
+        ensures held { λ r. ⌜ Held self r ⌝ }
     {
         let len = self.len;
         if kinds::BLOCK_COMMENT < row.kind {

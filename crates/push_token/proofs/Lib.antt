@@ -9,3 +9,4 @@ pub mod Walk
 pub mod Demand3
 pub mod Cases
 pub mod Said
+pub mod Growth

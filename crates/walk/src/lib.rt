@@ -1,5 +1,5 @@
 // The walk over checked rows: `push_token` for each token, and how it ends.
-use crate::push_token::push_token;
+use crate::token::push_token;
 use format::formatter::Formatter;
 use format::formatter::TokenAt;
 use rows::ROW_BYTES;
@@ -14,9 +14,9 @@ ghost use Rattle.rows.specs.Token.{Token};
 ghost use Rattle.push_token.specs.PushToken.{turn};
 ghost use Rattle.format.specs.Pen.{Roomy, StackRoom, Stands, on};
 ghost use Rattle.format.specs.Does.{Does};
-ghost use Rattle.walk.specs.Walk.{Fresh, runRows, TokenAtRow, TokenRows, Walks, Laid};
+ghost use Rattle.walk.specs.Walk.{Fresh, runRows, TokenAtRow, TokenRows, Trivial, Walks, Laid};
 
-mod push_token;
+mod token;
 
 // How a walk ends: with the length of the text and the number of inserted commas, or with refusal 4 or 5 at a token.
 pub enum Walked {
@@ -56,13 +56,20 @@ pub fn walk(new: Formatter, out: &mut [u8], stack: &mut [u32], rows: &[u8], text
 }
 
 // One token of the walk: nothing for one that was taken along.
-fn turn(mut f: Formatter, out: &mut [u8], stack: &mut [u32], rows: &[u8], text: &[u8], token: TokenAt, next: usize) -> Formatter
+fn turn(
+    mut f: Formatter,
+    out: &mut [u8],
+    stack: &mut [u32],
+    rows: &[u8],
+    text: &[u8],
+    token: TokenAt,
+    next: usize,
+) -> Formatter
     requires { ⌜ Roomy f ⌝ }
     requires { ⌜ StackRoom f (now stack) ⌝ }
     requires { ⌜ TokenRows token (now rows) (now text) next ⌝ }
     requires { ⌜ f .«too_deep» ≡ 0 ⌝ }
-    ensures { λ r. ⌜ ((t : Token) (ts : List Token) → Stands token (now (rows .entry)) (now (text .entry)) t ts → Rattle.walk.specs.Walk.Trivial token next (now (rows .entry)) (now (text .entry)) t → Does (λ o. turn o (token .index) t ts) (on f (now (stack .entry)) (now (out .entry))) (on r (now (stack .exit)) (now (out .exit)))) ⌝ }
-    ensures stack { λ r. ⌜ length (now (stack .exit)) ≡ length (now (stack .entry)) ⌝ }
+    ensures { λ r. ⌜ ((t : Token) (ts : List Token) → Stands token (now (rows .entry)) (now (text .entry)) t ts → Trivial token next (now (rows .entry)) (now (text .entry)) t → Does (λ o. turn o (token .index) t ts) (on f (now (stack .entry)) (now (out .entry))) (on r (now (stack .exit)) (now (out .exit)))) ⌝ }
 {
     if f.skip_next {
         f.skip_next = false;

@@ -18,7 +18,7 @@ same-length c = search needs
 
 returns : tie.Need-returns
 unfolding run said
-returns c = λ s. rw (blank-row (c .before .before .before .before .before .before .before .before .args .text .now) (rowOf (c .before .before .before .before .before .before .before .before .args .row)) (c .before .before .before .before .if1 .taken)) (does-then refl refl refl (c .before .before .write-blank-line .ensures))
+returns c = (λ s. rw (blank-row (c .before .before .before .before .before .before .before .before .args .text .now) (rowOf (c .before .before .before .before .before .before .before .before .args .row)) (c .before .before .before .before .if1 .taken)) (does-then refl refl refl (c .before .before .write-blank-line .ensures)), record { options = refl; indent = refl; group = refl; inline = refl; records = refl; signature = refl; commas = refl; count = refl })
 
 write-indent-or-space-requires : tie.Need-write-indent-or-space-requires
 write-indent-or-space-requires c κs = search needs
@@ -30,7 +30,7 @@ same-length-2 : tie.Need-same-length-2
 same-length-2 c = search needs
 
 returns-2 : tie.Need-returns-2
-returns-2 c = λ s. lead-comment (c .before .before .before .before .before .before .before .before .before .before .before .before .args .text .now) (rowOf (c .before .before .before .before .before .before .before .before .before .before .before .before .args .row)) (search needs) refl refl refl (andThen (c .before .before .before .before .before .before .write-indent-or-space .ensures) (c .before .before .write-lead .ensures))
+returns-2 c = (λ s. lead-comment (c .before .before .before .before .before .before .before .before .before .before .before .before .args .text .now) (rowOf (c .before .before .before .before .before .before .before .before .before .before .before .before .args .row)) (search needs) refl refl refl (andThen (c .before .before .before .before .before .before .write-indent-or-space .ensures) (c .before .before .write-lead .ensures)), record { options = refl; indent = refl; group = refl; inline = refl; records = refl; signature = refl; commas = refl; count = refl })
 
 pub push-lead-spec : {M : Type 1} → statement M
 push-lead-spec =

@@ -5,6 +5,7 @@ use rows::ROW_BYTES;
 use rows::kinds;
 ghost use mathlib.Core.Bool.{false};
 ghost use mathlib.Core.List.{List};
+ghost use mathlib.Core.Option.{some};
 ghost use mathlib.Core.Path.{_≡_};
 ghost use Prim.Native.Nat.{ℕ, _+_, _-_, _<_};
 ghost use lib.ListN.{length};
@@ -12,18 +13,25 @@ ghost use Rattle.rows.specs.Token.{Token};
 ghost use Rattle.push_token.specs.Formatter.{setTooDeep};
 ghost use Rattle.push_token.specs.Act.{update};
 ghost use Rattle.push_token.specs.PushToken.{takeInlineClose, arm, overflows, pushToken};
-ghost use Rattle.format.specs.Pen.{Roomy, StackRoom, Names, Ahead, Stands, optionsOf, formatterOf, tooDeepOf, on};
+ghost use Rattle.format.specs.Pen.{Held, Roomy, StackRoom, Names, Ahead, Stands, optionsOf, formatterOf, on};
 ghost use Rattle.format.specs.Trivia.{Part, triviaIn};
 ghost use Rattle.format.specs.Does.{Does};
 ghost use Rattle.walk.specs.Walk.{TokenRows, Trivial, endToken, rowCount};
 
 // The rows from `token.lead` on are its leading rows, its own, and trailing ones up to `next`.
-pub fn push_token(f: Formatter, out: &mut [u8], stack: &mut [u32], rows: &[u8], text: &[u8], token: TokenAt, next: usize) -> Formatter
+pub fn push_token(
+    f: Formatter,
+    out: &mut [u8],
+    stack: &mut [u32],
+    rows: &[u8],
+    text: &[u8],
+    token: TokenAt,
+    next: usize,
+) -> Formatter
     requires { ⌜ Roomy f ⌝ }
     requires { ⌜ StackRoom f (now stack) ⌝ }
     requires { ⌜ TokenRows token (now rows) (now text) next ⌝ }
     ensures { λ r. ⌜ ((t : Token) (ts : List Token) → Stands token (now (rows .entry)) (now (text .entry)) t ts → Trivial token next (now (rows .entry)) (now (text .entry)) t → Does (λ o. pushToken o (token .index) t ts) (on f (now (stack .entry)) (now (out .entry))) (on r (now (stack .exit)) (now (out .exit)))) ⌝ }
-    ensures stack { λ r. ⌜ length (now (stack .exit)) ≡ length (now (stack .entry)) ⌝ }
 {
     let lead = token.lead;
     let behind = token.behind;
@@ -39,12 +47,17 @@ pub fn push_token(f: Formatter, out: &mut [u8], stack: &mut [u32], rows: &[u8], 
 
 // The mark of a one-line block's `}`; where trivia was seen it stays.
 fn take_inline_close(mut f: Formatter, bare: bool) -> Formatter
-    ensures { λ r. ⌜ ((s l : List ℕ) → Does (λ o. update (takeInlineClose bare)) (on f s l) (on r s l)) ⌝ }
+    ensures does { λ r. ⌜ ((s l : List ℕ) → Does (λ o. update (takeInlineClose bare)) (on f s l) (on r s l)) ⌝ }
+    ensures held { λ r. ⌜ Held f r ⌝ }
 {
-    let closed = f.just_closed_inline;
-    f.inline_close = bare && closed;
-    f.just_closed_inline = !bare && closed;
     f.returned = false;
+    if bare {
+        let closed = f.just_closed_inline;
+        f.inline_close = closed;
+        f.just_closed_inline = false;
+        return f;
+    }
+    f.inline_close = false;
     f
 }
 
@@ -71,7 +84,7 @@ fn overflows(f: Formatter, rows: &[u8], token: TokenAt) -> bool
 
 fn refuse(mut f: Formatter, token: TokenAt) -> Formatter
     requires { ⌜ token .index < 4294967296 ⌝ }
-    ensures { λ r. ⌜ ((s l : List ℕ) → Does (λ o. update (setTooDeep (tooDeepOf (token .index + 1)))) (on f s l) (on r s l)) ⌝ }
+    ensures { λ r. ⌜ ((s l : List ℕ) → Does (λ o. update (setTooDeep (some (token .index)))) (on f s l) (on r s l)) ⌝ }
 {
     let index = token.index;
     f.too_deep = index + 1;
@@ -79,12 +92,18 @@ fn refuse(mut f: Formatter, token: TokenAt) -> Formatter
 }
 
 // The arm of the token's kind.
-fn arm(f: Formatter, out: &mut [u8], stack: &mut [u32], rows: &[u8], text: &[u8], token: TokenAt) -> Formatter
+fn arm(
+    f: Formatter,
+    out: &mut [u8],
+    stack: &mut [u32],
+    rows: &[u8],
+    text: &[u8],
+    token: TokenAt,
+) -> Formatter
     requires { ⌜ Roomy f ⌝ }
     requires { ⌜ StackRoom f (now stack) ⌝ }
     requires { ⌜ (Names token (now text)) × (Ahead token (now rows)) ⌝ }
     ensures { λ r. ⌜ ((t : Token) (ts : List Token) → Stands token (now (rows .entry)) (now (text .entry)) t ts → overflows (optionsOf (f .options)) t ts (formatterOf f (now (stack .entry))) ≡ false → Does (λ o. arm o (token .index) t ts) (on f (now (stack .entry)) (now (out .entry))) (on r (now (stack .exit)) (now (out .exit)))) ⌝ }
-    ensures stack { λ r. ⌜ length (now (stack .exit)) ≡ length (now (stack .entry)) ⌝ }
 {
     let kind = token.kind;
     match kind {
@@ -103,7 +122,14 @@ fn arm(f: Formatter, out: &mut [u8], stack: &mut [u32], rows: &[u8], text: &[u8]
 }
 
 // The trailing trivia, unless the arm returned early, and the state of `fn`.
-fn end_token(f: Formatter, out: &mut [u8], rows: &[u8], text: &[u8], token: TokenAt, next: usize) -> Formatter
+fn end_token(
+    f: Formatter,
+    out: &mut [u8],
+    rows: &[u8],
+    text: &[u8],
+    token: TokenAt,
+    next: usize,
+) -> Formatter
     requires { ⌜ Part (now rows) (now text) (token .behind) next ⌝ }
     ensures { λ r. ⌜ ((s : List ℕ) → Does (λ o. endToken (token .kind) (triviaIn (now (rows .entry)) (now (text .entry)) (token .behind) (rowCount (token .behind) next))) (on f s (now (out .entry))) (on r s (now (out .exit)))) ⌝ }
 {
