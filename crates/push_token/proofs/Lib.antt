@@ -8,3 +8,5 @@ pub mod Turn
 pub mod Walk
 pub mod Demand3
 pub mod Cases
+pub mod Said
+pub mod Growth

@@ -1,0 +1,7 @@
+pub mod Sink
+pub mod Stack
+pub mod Does
+pub mod Tests
+pub mod Openers
+pub mod Comments
+pub mod Held

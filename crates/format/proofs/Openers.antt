@@ -1,0 +1,121 @@
+-- What the openers go by: the next token's row, what a lookahead says of the rows from the opener on, the block's style, and the signature's depth.
+-- Assumes nothing.
+use mathlib.Core.Bool.{Bool, false, cond}
+use mathlib.Core.List.{List, [], _∷_, _++_, append-nil}
+use mathlib.Core.Path.{_≡_, refl, sym, ap, _∙_}
+use Prim.Native.Nat.{ℕ, zero, suc, _+_, _-_, _≤_, _<_}
+use native.Mathlib.Numerals.{add-one}
+use native.Mathlib.Omega.{arith}
+use lib.Dec.{eqb}
+use lib.ListN.{length, take, drop, length-drop}
+use lib.Seq.{take-all}
+use borrow.Author.Tests.{eq-eqb, ne-eqb}
+use Rattle.report.proofs.Logic.{split}
+use Rattle.rows.specs.Kinds.{Leading, TokenRow, LeftBrace}
+use Rattle.rows.specs.Row.{Row, rowAt, rowsOf}
+use Rattle.rows.specs.Token.{Trivia, triviaOf, Token, tokensFrom, tokensOf}
+use Rattle.rows.specs.Bounds.{InBounds}
+use Rattle.lookahead.proofs.Rests.{here, over}
+use Rattle.push_token.specs.Formatter.{setInlineDepth}
+use Rattle.push_token.specs.Act.{update, _⨾_, run}
+use Rattle.push_token.specs.Emit.{endedBy, openBlockMultiline, pushLexeme}
+use Rattle.push_token.specs.Arms.{nextIs, openBlock, groupOpened, deeper}
+use Rattle.push_token.proofs.Said.{said}
+use Rattle.format.specs.declared.formatter.TokenAt.{TokenAt}
+use Rattle.format.specs.declared.formatter.BraceStyle.the-variants.{SameLine, Allman}
+use Rattle.format.specs.Sink.{Writes}
+use Rattle.format.specs.Pen.{Pen, opts, formatterOf, signatureOf, lone, Stands}
+use Rattle.format.specs.Parts.{innerInlineBytes, openInnerInline, openAllman, openSameLine}
+use Rattle.format.specs.Does.{Does}
+use Rattle.format.proofs.Does.{same-run, does}
+
+-- ---- `next_is`
+
+-- the kind of the next token row
+unfoldable pub nextRowIs : ℕ → List Row → Bool
+nextRowIs k [] = false
+nextRowIs k (r ∷ rs) = cond (eqb (r .what) TokenRow) (eqb (r .kind) k) (nextRowIs k rs)
+
+next-rows : (text : List ℕ) (k : ℕ) (l : List Trivia) (rs : List Row) → nextIs k (tokensFrom text l rs) ≡ nextRowIs k rs
+unfolding tokensFrom nextRowIs
+next-rows text k l [] = refl
+next-rows text k l (r ∷ rs) =
+    split (eqb (r .what) TokenRow) (λ e. rw e) (λ e. rw e (next-rows text k (cond (eqb (r .what) Leading) (l ++ (triviaOf text r ∷ [])) l) rs))
+
+-- the answer is what is said of the rows from `at` on
+pub record Next (rows : List ℕ) (kind at : ℕ) : Type 0 where
+  pub within : at ≤ length rows
+  pub left : nextRowIs kind (rowsOf rows) ≡ nextRowIs kind (rowsOf (drop at rows))
+
+pub next-start : (rows : List ℕ) (kind : ℕ) → Next rows kind 0
+next-start rows kind = record { within = omega arith; left = refl }
+
+module _ {rows : List ℕ} {kind at : ℕ} (α : Next rows kind at) where
+  from-here : (text : List ℕ) {b : Bool} → nextRowIs kind (rowsOf (drop at rows)) ≡ b → b ≡ nextIs kind (tokensOf rows text)
+  unfolding tokensOf
+  from-here text e = sym (next-rows text kind [] (rowsOf rows) ∙ α .left ∙ e)
+
+  module _ {r : Row} (h : 16 ≤ length rows - at) (e : r ≡ rowAt rows at) where
+    pub next-first : r .what ≡ TokenRow → (text : List ℕ) → eqb (r .kind) kind ≡ nextIs kind (tokensOf rows text)
+    unfolding nextRowIs
+    next-first t text = from-here text (rw (here rows at (α .within) h e, eq-eqb (r .what) TokenRow t))
+
+    pub next-more : (r .what ≡ TokenRow → ⊥) → Next rows kind (at + 16)
+    unfolding nextRowIs
+    next-more n = record {
+      within = omega (arith, α .within);
+      left = α .left ∙ rw (here rows at (α .within) h e, ne-eqb (r .what) TokenRow n);
+    }
+
+  pub next-none : length rows - at < 16 → (text : List ℕ) → false ≡ nextIs kind (tokensOf rows text)
+  unfolding nextRowIs
+  next-none h text = from-here text (rw (over rows at (α .within) h))
+
+-- ---- the rows from the opener on
+
+-- a part that goes to the end
+pub part-is : (n : ℕ) (rows : List ℕ) → take (length rows - n) (drop n rows) ≡ drop n rows
+part-is n rows = take-all (length rows - n) (drop n rows) (omega (arith, length-drop n rows))
+
+module _ {token : TokenAt} {rows text : List ℕ} {t : Token} {ts : List Token} (σ : Stands token rows text t ts) where
+  -- a lookahead on that part says it of the token and those behind it
+  pub looked : (f : List Token → Bool) {part : List ℕ} {r : Bool} → part ≡ drop (token .lead) rows → (InBounds text (rowsOf part) → r ≡ f (tokensOf part text)) → r ≡ f (t ∷ ts)
+  looked f e k = k (rw e (σ .bounds)) ∙ ap (λ l. f (tokensOf l text)) e ∙ ap f (σ .ahead)
+
+  -- on the part behind the token's row, of those behind it
+  pub looked-behind : (f : List Token → Bool) {part : List ℕ} {r : Bool} → part ≡ drop (token .behind) rows → r ≡ f (tokensOf part text) → r ≡ f ts
+  looked-behind f e k = k ∙ ap (λ l. f (tokensOf l text)) e ∙ ap f (σ .behind)
+
+  -- only the kind and the lexeme of the token are written
+  pub opened : {p q : Pen} → Does (λ o. pushLexeme o (lone token text) ⨾ update groupOpened) p q → Does (λ o. pushLexeme o t ⨾ update groupOpened) p q
+  opened d = rw (σ .kind, σ .lexeme) d
+
+-- ---- a block over several lines, by its style
+
+module _ {p q : Pen} (i : ℕ) where
+  pub block-same-line : p .form .options .«brace_style» ≡ SameLine → Does (λ o. openSameLine) p q → Does (λ o. openBlock o i) p q
+  unfolding run openBlockMultiline
+  block-same-line e d = same-run {a = λ o. openSameLine} (rw e) d
+
+  pub block-allman : p .form .options .«brace_style» ≡ Allman → Does (λ o. openAllman o i) p q → Does (λ o. openBlock o i) p q
+  unfolding run openBlockMultiline
+  block-allman e d = same-run {a = λ o. openAllman o i} (rw e) d
+
+-- ---- a brace in a one-line block: the indent or a space and the brace, in one write
+
+pub inner-inline : {p q : Pen} → opts q ≡ opts p → endedBy LeftBrace (setInlineDepth (formatterOf (p .form) (p .stack) .inlineDepth + 1) (formatterOf (p .form) (p .stack))) ≡ formatterOf (q .form) (q .stack) → p .form .commas ≡ q .form .commas → Writes (p .buf) (p .form .len) (innerInlineBytes (opts p) (formatterOf (p .form) (p .stack))) (q .buf) (q .form .len) → Does openInnerInline p q
+unfolding run said
+inner-inline {p} {q} o c k w =
+    split (p .form .«at_line_start»)
+    (λ e. does o (rw e c) (rw e k) (rw (e, append-nil) (rw e at w)))
+    (λ e. does o (rw e c) (rw e k) (rw e (rw e at w)))
+
+-- ---- the depth of a broken signature
+
+pub signature-deeper : (d : ℕ) → 0 < d → signatureOf (d + 1) ≡ deeper (signatureOf d)
+signature-deeper zero h = absurd (omega arith)
+signature-deeper (suc d) h = rw (add-one (suc d))
+
+pub signature-none : (d : ℕ) → d ≤ 0 → signatureOf 0 ≡ deeper (signatureOf d)
+signature-none zero h = refl
+signature-none (suc d) h = absurd (omega arith)

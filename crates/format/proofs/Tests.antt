@@ -1,0 +1,88 @@
+-- What the definition's tests come to, by what the code reads. Assumes nothing.
+use mathlib.Core.Bool.{Bool, true, false, _&&_}
+use mathlib.Core.List.{List, [], _∷_}
+use mathlib.Core.Logic.{_⊎_, ⊎-elim}
+use mathlib.Core.Path.{_≡_, refl, sym, ap, _∙_}
+use Prim.Native.Nat.{ℕ, zero, suc, _+_, _-_, _≤_, _<_}
+use native.Mathlib.Omega.{arith}
+use borrow.Author.Tests.{ne-eqb}
+use lib.Dec.{eqb}
+use lib.ListN.{length, take, drop, getD, length-drop}
+use lib.Seq.{take-all}
+use Rattle.rows.specs.Token.{Token, tokensOf}
+use Rattle.lookahead.specs.Measure.{nextHasComment}
+use Rattle.push_token.specs.Emit.{isSome, isAt}
+use Rattle.push_token.specs.Arms.{endsWithTwoFeeds, isEmptyText, shallower}
+use Rattle.format.specs.Pen.{signatureOf}
+
+-- ---- the ways that meet, by which one the code came
+
+pub by-way : {A B C : Type 0} → A ⊎ B → (A → C) → (B → C) → C
+by-way s f g = ⊎-elim f g s
+
+-- ---- the stack
+
+pub getD-past : (k : List ℕ) (i : ℕ) → length k ≤ i → getD k i 0 ≡ 0
+getD-past [] i h = refl
+getD-past (x ∷ k) zero h = absurd (omega arith)
+getD-past (x ∷ k) (suc i) h = getD-past k i (omega arith)
+
+-- ---- the text so far
+
+pub empty-take : (n : ℕ) (l : List ℕ) → n ≤ length l → isEmptyText (take n l) ≡ eqb n 0
+empty-take zero l h = refl
+empty-take (suc n) [] h = absurd (omega arith)
+empty-take (suc n) (x ∷ l) h = sym (ne-eqb (suc n) 0 (λ e. omega arith))
+
+two-at : (n : ℕ) (l : List ℕ) → n + 2 ≤ length l → endsWithTwoFeeds (take (suc (suc n)) l) ≡ eqb (getD l n 0) 10 && eqb (getD l (suc n) 0) 10
+unfolding endsWithTwoFeeds
+two-at n [] h = absurd (omega arith)
+two-at n (a ∷ []) h = absurd (omega arith)
+two-at zero (a ∷ b ∷ l) h = refl
+two-at (suc n) (a ∷ b ∷ []) h = absurd (omega arith)
+two-at (suc n) (a ∷ b ∷ c ∷ l) h = two-at n (b ∷ c ∷ l) (omega arith)
+
+pub ends-short : (n : ℕ) (l : List ℕ) → n < 2 → endsWithTwoFeeds (take n l) ≡ false
+unfolding endsWithTwoFeeds
+ends-short zero l h = refl
+ends-short (suc zero) [] h = refl
+ends-short (suc zero) (a ∷ l) h = refl
+ends-short (suc (suc n)) l h = absurd (omega arith)
+
+pub ends-at : (n : ℕ) (l : List ℕ) → 2 ≤ n → n ≤ length l → endsWithTwoFeeds (take n l) ≡ eqb (getD l (n - 2) 0) 10 && eqb (getD l (n - 1) 0) 10
+ends-at zero l g h = absurd (omega arith)
+ends-at (suc zero) l g h = absurd (omega arith)
+ends-at (suc (suc n)) l g h =
+    let e : suc (suc n) - 2 ≡ n = omega arith in
+    let f : suc (suc n) - 1 ≡ suc n = omega arith in
+    rw (e, f) (two-at n l (omega arith))
+
+-- ---- the depth of a broken signature
+
+pub sig-some : (d : ℕ) → 0 < d → isSome (signatureOf d) ≡ true
+sig-some zero h = absurd (omega arith)
+sig-some (suc d) h = refl
+
+pub sig-none : (d : ℕ) → d ≤ 0 → isSome (signatureOf d) ≡ false
+sig-none zero h = refl
+sig-none (suc d) h = absurd (omega arith)
+
+-- one less, but for the signature's own `)`
+pub sig-less : (d : ℕ) → (d ≡ 1 → ⊥) → shallower (signatureOf d) ≡ signatureOf (d - 1)
+sig-less zero h = refl
+sig-less (suc zero) h = absurd (h refl)
+sig-less (suc (suc d)) h = let e : suc (suc d) - 1 ≡ suc d = omega arith in rw e
+
+pub sig-open : (d : ℕ) → isAt (signatureOf d) 0 ≡ false
+sig-open zero = refl
+sig-open (suc d) = ne-eqb (suc d) 0 (λ e. omega arith)
+
+-- ---- the rows behind a token
+
+-- the rows from n on, which the code lends as a part
+pub rest-part : (n : ℕ) (l : List ℕ) → take (length l - n) (drop n l) ≡ drop n l
+rest-part n l = take-all (length l - n) (drop n l) (omega (arith, length-drop n l))
+
+-- what the test of that part says of the tokens there
+pub led : (n : ℕ) (rows : List ℕ) (text : List ℕ) {ts : List Token} {r v : Bool} → r ≡ nextHasComment (tokensOf (take (length rows - n) (drop n rows)) text) → tokensOf (drop n rows) text ≡ ts → r ≡ v → nextHasComment ts ≡ v
+led n rows text e f g = sym (e ∙ ap (λ (l : List ℕ). nextHasComment (tokensOf l text)) (rest-part n rows) ∙ ap nextHasComment f) ∙ g

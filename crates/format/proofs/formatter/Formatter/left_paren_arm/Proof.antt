@@ -1,0 +1,69 @@
+-- `format::formatter::Formatter::left_paren_arm` meets its contract. Assumes nothing.
+use mathlib.Core.Path.{refl}
+use borrow.Author.Needs.{needs}
+use Rattle.push_token.specs.Arms.{leftParenArm}
+use Rattle.format.proofs.Does.{seq, updated, yes, no, told}
+use Rattle.format.proofs.Sink.{nothing}
+use Rattle.format.proofs.Openers.{opened}
+use Rattle.format.proofs.formatter.Formatter.left_paren_arm.Statement.{statement}
+use Rattle.format.proofs.formatter.Formatter.left_paren_arm.Tie as tie
+
+at-signature-requires : tie.Need-at-signature-requires
+at-signature-requires c κs = search needs
+
+open-signature-requires : tie.Need-open-signature-requires
+open-signature-requires c κs = search needs
+
+same-length : tie.Need-same-length
+same-length c = search needs
+
+returns : tie.Need-returns
+unfolding leftParenArm
+returns c = λ t ts σ room. yes (λ n. told (c .before .before .before .before .before .at-signature .ensures) (c .before .before .before .before .if1 .taken)) (c .before .before .open-signature .ensures _ t ts σ)
+
+breaks-list-requires : tie.Need-breaks-list-requires
+breaks-list-requires c κs = search needs
+
+open-list-requires : tie.Need-open-list-requires
+open-list-requires c κs = search needs
+
+same-length-2 : tie.Need-same-length-2
+same-length-2 c = search needs
+
+same-length-3 : tie.Need-same-length-3
+same-length-3 c = search needs
+
+returns-2 : tie.Need-returns-2
+unfolding leftParenArm
+returns-2 c = λ t ts σ room. no (λ n. told (c .before .before .before .before .before .before .before .before .before .before .at-signature .ensures) (c .before .before .before .before .before .before .before .before .before .if1 .left)) (yes (λ n. told (c .before .before .before .before .before .before .before .before .breaks-list .ensures _ t ts σ) (c .before .before .before .before .before .before .before .if2 .taken)) (rw (σ .kind, σ .lexeme) ((c .before .before .before .before .open-list .ensures) (room (told (c .before .before .before .before .before .before .before .before .before .before .at-signature .ensures) (c .before .before .before .before .before .before .before .before .before .if1 .left)) (told (c .before .before .before .before .before .before .before .before .breaks-list .ensures _ t ts σ) (c .before .before .before .before .before .before .before .if2 .taken))))))
+
+deeper-requires : tie.Need-deeper-requires
+deeper-requires c κs = search needs
+
+open-group-requires : tie.Need-open-group-requires
+open-group-requires c κs = search needs
+
+same-length-4 : tie.Need-same-length-4
+same-length-4 c = search needs
+
+returns-3 : tie.Need-returns-3
+unfolding leftParenArm
+returns-3 c = λ t ts σ room. no (λ n. told (c .before .before .before .before .before .before .before .before .before .at-signature .ensures) (c .before .before .before .before .before .before .before .before .if1 .left)) (no (λ n. told (c .before .before .before .before .before .before .before .breaks-list .ensures _ t ts σ) (c .before .before .before .before .before .before .if2 .left)) (seq (updated refl (rw (c .before .before .before .before .deeper .ensures)) refl nothing) (opened σ (c .before .before .open-group .ensures _))))
+
+pub left-paren-arm-spec : {M : Type 1} → statement M
+left-paren-arm-spec =
+    tie.close
+    (tie.spec
+    at-signature-requires
+    open-signature-requires
+    same-length
+    returns
+    breaks-list-requires
+    open-list-requires
+    same-length-2
+    same-length-3
+    returns-2
+    deeper-requires
+    open-group-requires
+    same-length-4
+    returns-3)

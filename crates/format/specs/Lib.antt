@@ -1,0 +1,5 @@
+pub mod Sink
+pub mod Pen
+pub mod Parts
+pub mod Does
+pub mod Trivia

@@ -1,0 +1,18 @@
+-- Writing into a lent output. The length counts on, by one past the end where the bytes do not fit.
+-- Assumes nothing.
+use mathlib.Core.List.{List, _++_}
+use mathlib.Core.Path.{_≡_}
+use Prim.Native.Nat.{ℕ, _+_, _≤_, _<_}
+use lib.ListN.{length, take, drop}
+
+-- the bytes xs stand at n, and the rest is as it was
+pub record Wrote (l : List ℕ) (n : ℕ) (xs : List ℕ) (m : List ℕ) (r : ℕ) : Type 0 where
+  pub far : r ≡ n + length xs
+  pub text : take r m ≡ take n l ++ xs
+  pub rest : drop r m ≡ drop r l
+
+-- writing xs at n takes the output l to m, and the length n to r
+pub record Writes (l : List ℕ) (n : ℕ) (xs : List ℕ) (m : List ℕ) (r : ℕ) : Type 0 where
+  pub size : length m ≡ length l
+  pub fits : n + length xs ≤ length l → Wrote l n xs m r
+  pub over : length l < n + length xs → length l < r

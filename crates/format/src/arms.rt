@@ -1,0 +1,877 @@
+// The arms of `push_token`, in the order of format.rs.
+use crate::formatter::Before;
+use crate::formatter::BraceStyle;
+use crate::formatter::Formatter;
+use crate::formatter::GroupDepth;
+use crate::formatter::InlineDepth;
+use crate::formatter::NewlineAt;
+use crate::formatter::Prev;
+use crate::formatter::RecordDepth;
+use crate::formatter::SignatureDepth;
+use crate::formatter::Suppressed;
+use crate::formatter::TokenAt;
+use crate::formatter::less;
+use crate::formatter::less32;
+use crate::write::write_byte;
+use crate::write::write_comma;
+use lookahead::block_is_single_line;
+use lookahead::next_has_comment;
+use lookahead::should_break_list;
+use lookahead::should_break_sig;
+use rows::kinds;
+ghost use mathlib.Core.Bool.{Bool, true, false, _&&_, _||_, not, cond};
+ghost use mathlib.Core.List.{List, [], _∷_, _++_};
+ghost use mathlib.Core.Path.{_≡_};
+ghost use Prim.Native.Nat.{ℕ, _+_, _-_, _≤_, _<_};
+ghost use lib.Dec.{eqb};
+ghost use lib.ListN.{length, take, set};
+ghost use Rattle.rows.specs.Token.{Token};
+ghost use Rattle.lookahead.specs.Measure.{nextHasComment, shouldBreakSig, shouldBreakList, blockIsSingleLine};
+ghost use Rattle.push_token.specs.Act.{update, _⨾_};
+ghost use Rattle.push_token.specs.Emit.{openBlockMultiline, pushLexeme};
+ghost use Rattle.push_token.specs.Arms.{inlineCloseGap, endsWithTwoFeeds, groupOpened, groupClosed, atSignature, newlineArm, closeInline, closeRecord, closeBlock, rightBraceArm, nextIs, emptyRecord, openBlock, leftBraceArm, openList, breaksList, leftParenArm, leftBracketArm, closeCall, rightParenArm, closeArray, rightBracketArm, commaArm, elseOnNewLine, elseArm, otherArm, trackRecord};
+ghost use Rattle.push_token.specs.PushToken.{arm};
+ghost use Rattle.format.specs.Sink.{Writes};
+ghost use Rattle.format.specs.Pen.{Roomy, StackRoom, Names, Stands, Ahead, lexemeOf, lone, optionsOf, formatterOf, prevOf, newlineOf, on};
+ghost use Rattle.format.specs.Parts.{ListRoom, breakComma, breakSignature, closeSignatureParen, openInline};
+ghost use Rattle.format.specs.Does.{Does};
+
+impl Formatter {
+    // ---- Newline
+
+    pub fn newline_arm(mut self, out: &mut [u8], rows: &[u8], token: TokenAt) -> Self
+        requires { ⌜ token .behind ≤ length (now rows) ⌝ }
+        ensures { λ r. ⌜ ((s text : List ℕ) (t : Token) (ts : List Token) → Stands token (now (rows .entry)) text t ts → Does (λ o. newlineArm (token .index) ts) (on self s (now (out .entry))) (on r s (now (out .exit)))) ⌝ }
+    {
+        let index = token.index;
+        if self.suppresses(index) {
+            let never = Suppressed {
+                at: NewlineAt::Never,
+            };
+            self.suppress_newline_at = never;
+            return self;
+        }
+        let len = self.len;
+        if len == 0 {
+            let behind = token.behind;
+            if next_has_comment(&rows[behind..]) {
+                return self;
+            }
+        }
+        if self.keeps_lines() {
+            return self;
+        }
+        self.feed_line(out)
+    }
+
+    // A line feed, unless a blank line stands already.
+    fn feed_line(mut self, out: &mut [u8]) -> Self
+        ensures { λ r. ⌜ ((s : List ℕ) → Does (λ o. Rattle.format.specs.Parts.feedLine) (on self s (now (out .entry))) (on r s (now (out .exit)))) ⌝ }
+    {
+        let len = self.len;
+        let newline = Before {
+            kind: Prev::Kind(kinds::NEWLINE),
+        };
+        if self.at_line_start {
+            if ends_with_two_feeds(out, len) {
+                return self;
+            }
+        }
+        let fed = write_byte(out, len, b'\n');
+        self.len = fed;
+        self.at_line_start = true;
+        self.prev = newline;
+        self
+    }
+
+    fn suppresses(self, index: usize) -> bool
+        ensures { λ r. ⌜ r ≡ Rattle.push_token.specs.Emit.isAt (newlineOf (self .«suppress_newline_at» .at)) index ⌝ }
+    {
+        let suppressed = self.suppress_newline_at;
+        let at = suppressed.at;
+        match at {
+            NewlineAt::Never => false,
+            NewlineAt::Index(i) => i == index,
+        }
+    }
+
+    // In a record or a one-line block Newlines are swallowed.
+    fn keeps_lines(self) -> bool
+        ensures { λ r. ⌜ r ≡ (self .«in_record» || Rattle.push_token.specs.Arms.inOneLineBlock (formatterOf self [])) ⌝ }
+    {
+        if self.in_record {
+            return true;
+        }
+        self.in_one_line_block()
+    }
+
+    // ---- RightBrace
+
+    pub fn right_brace_arm(self, out: &mut [u8]) -> Self
+        requires { ⌜ Roomy self ⌝ }
+        ensures { λ r. ⌜ ((s : List ℕ) → Does rightBraceArm (on self s (now (out .entry))) (on r s (now (out .exit)))) ⌝ }
+    {
+        if self.in_one_line_block() {
+            return self.close_inline(out);
+        }
+        if self.at_record_fields() {
+            return self.close_record(out);
+        }
+        self.close_block(out)
+    }
+
+    fn close_inline(mut self, out: &mut [u8]) -> Self
+        ensures { λ r. ⌜ ((s : List ℕ) → Does closeInline (on self s (now (out .entry))) (on r s (now (out .exit)))) ⌝ }
+    {
+        let len = self.len;
+        let gapped = self.write_inline_close_gap(out, len);
+        let closed = write_byte(out, gapped, b'}');
+        let brace = Before {
+            kind: Prev::Kind(kinds::RIGHT_BRACE),
+        };
+        let inline = self.inline_depth;
+        let depth = InlineDepth(less32(inline.0));
+        self.len = closed;
+        self.prev = brace;
+        self.at_line_start = false;
+        self.just_closed_inline = true;
+        self.inline_depth = depth;
+        self
+    }
+
+    fn write_inline_close_gap(self, out: &mut [u8], len: usize) -> usize
+        ensures { λ r. ⌜ Writes (now (out .entry)) len (inlineCloseGap (optionsOf (self .options)) (formatterOf self [])) (now (out .exit)) r ⌝ }
+    {
+        if self.at_line_start {
+            return self.write_indent(out, len);
+        }
+        if self.prev_is(kinds::LEFT_BRACE) {
+            return len;
+        }
+        write_byte(out, len, b' ')
+    }
+
+    fn close_record(mut self, out: &mut [u8]) -> Self
+        requires { ⌜ Roomy self ⌝ }
+        ensures { λ r. ⌜ ((s : List ℕ) → Does closeRecord (on self s (now (out .entry))) (on r s (now (out .exit)))) ⌝ }
+    {
+        let wanted = self.wants_record_comma();
+        self.indent = less32(self.indent);
+        let len = self.len;
+        let listed = write_comma(out, len, wanted);
+        let gapped = self.write_on_new_line(out, listed);
+        let closed = write_byte(out, gapped, b'}');
+        let brace = Before {
+            kind: Prev::Kind(kinds::RIGHT_BRACE),
+        };
+        let depth = RecordDepth(0);
+        self.len = closed;
+        self.commas = self.commas + count_comma(wanted);
+        self.prev = brace;
+        self.at_line_start = false;
+        self.record_depth = depth;
+        self.in_record = false;
+        self
+    }
+
+    // The last kind is neither Comma nor LeftBrace.
+    fn wants_record_comma(self) -> bool
+        ensures { λ r. ⌜ r ≡ not (Rattle.push_token.specs.Emit.prevIs 8 (formatterOf self []) || Rattle.push_token.specs.Emit.prevIs 2 (formatterOf self [])) ⌝ }
+    {
+        if self.prev_is(kinds::COMMA) {
+            return false;
+        }
+        !self.prev_is(kinds::LEFT_BRACE)
+    }
+
+    fn close_block(mut self, out: &mut [u8]) -> Self
+        ensures { λ r. ⌜ ((s : List ℕ) → Does closeBlock (on self s (now (out .entry))) (on r s (now (out .exit)))) ⌝ }
+    {
+        self.indent = less32(self.indent);
+        let len = self.len;
+        let gapped = self.write_on_new_line(out, len);
+        let closed = write_byte(out, gapped, b'}');
+        let brace = Before {
+            kind: Prev::Kind(kinds::RIGHT_BRACE),
+        };
+        let depth = RecordDepth(self.record_depth_inside());
+        self.len = closed;
+        self.prev = brace;
+        self.at_line_start = false;
+        self.record_depth = depth;
+        self
+    }
+
+    // One less in a record.
+    fn record_depth_inside(self) -> u32
+        ensures { λ r. ⌜ r ≡ cond (self .«in_record») (self .«record_depth» .0 - 1) (self .«record_depth» .0) ⌝ }
+    {
+        let depth = self.record_depth;
+        if self.in_record {
+            return less32(depth.0);
+        }
+        depth.0
+    }
+
+    // ---- LeftBrace
+
+    pub fn left_brace_arm(self, out: &mut [u8], rows: &[u8], text: &[u8], token: TokenAt) -> Self
+        requires { ⌜ Roomy self ⌝ }
+        requires { ⌜ Names token (now text) ⌝ }
+        requires { ⌜ Ahead token (now rows) ⌝ }
+        ensures { λ r. ⌜ ((s : List ℕ) (t : Token) (ts : List Token) → Stands token (now (rows .entry)) (now (text .entry)) t ts → Does (λ o. leftBraceArm o (token .index) t ts) (on self s (now (out .entry))) (on r s (now (out .exit)))) ⌝ }
+    {
+        let index = token.index;
+        if self.record_pending {
+            return self.open_record(out, rows, text, token);
+        }
+        if self.in_record {
+            return self.open_inner_record(out, index);
+        }
+        if self.in_one_line_block() {
+            return self.open_inner_inline(out);
+        }
+        let lead = token.lead;
+        if block_is_single_line(&rows[lead..]) {
+            return self.open_inline(out);
+        }
+        self.open_block(out, index)
+    }
+
+    // Behind `record` and its name.
+    fn open_record(mut self, out: &mut [u8], rows: &[u8], text: &[u8], token: TokenAt) -> Self
+        requires { ⌜ Roomy self ⌝ }
+        requires { ⌜ Names token (now text) ⌝ }
+        requires { ⌜ Ahead token (now rows) ⌝ }
+        ensures { λ r. ⌜ ((s : List ℕ) (t : Token) (ts : List Token) → Stands token (now (rows .entry)) (now (text .entry)) t ts → Does (λ o. Rattle.format.specs.Parts.openRecord o (token .index) t ts) (on self s (now (out .entry))) (on r s (now (out .exit)))) ⌝ }
+    {
+        let behind = token.behind;
+        let index = token.index;
+        if next_is(&rows[behind..], kinds::RIGHT_BRACE) {
+            return self.empty_record(out, text, token);
+        }
+        let depth = RecordDepth(1);
+        self.record_pending = false;
+        self.in_record = true;
+        self.record_depth = depth;
+        self.open_block(out, index)
+    }
+
+    // `record E {}`: the `}` is taken along.
+    fn empty_record(self, out: &mut [u8], text: &[u8], token: TokenAt) -> Self
+        requires { ⌜ Names token (now text) ⌝ }
+        ensures { λ r. ⌜ ((s : List ℕ) → Does (λ o. emptyRecord o (lone token (now (text .entry)))) (on self s (now (out .entry))) (on r s (now (out .exit)))) ⌝ }
+    {
+        let mut pushed = self.push_lexeme(out, text, token);
+        let len = pushed.len;
+        let opened = write_byte(out, len, b'{');
+        let closed = write_byte(out, opened, b'}');
+        let brace = Before {
+            kind: Prev::Kind(kinds::RIGHT_BRACE),
+        };
+        pushed.len = closed;
+        pushed.prev = brace;
+        pushed.record_pending = false;
+        pushed.returned = true;
+        pushed.skip_next = true;
+        pushed
+    }
+
+    // A brace in a record.
+    fn open_inner_record(mut self, out: &mut [u8], index: usize) -> Self
+        requires { ⌜ Roomy self ⌝ }
+        requires { ⌜ index < 4294967296 ⌝ }
+        ensures { λ r. ⌜ ((s : List ℕ) → Does (λ o. Rattle.format.specs.Parts.openInnerRecord o index) (on self s (now (out .entry))) (on r s (now (out .exit)))) ⌝ }
+    {
+        let record = self.record_depth;
+        let depth = RecordDepth(record.0 + 1);
+        self.record_depth = depth;
+        self.open_block(out, index)
+    }
+
+    // A brace in a one-line block; at a line's start the Rust writes none.
+    fn open_inner_inline(mut self, out: &mut [u8]) -> Self
+        requires { ⌜ Roomy self ⌝ }
+        ensures { λ r. ⌜ ((s : List ℕ) → Does Rattle.format.specs.Parts.openInnerInline (on self s (now (out .entry))) (on r s (now (out .exit)))) ⌝ }
+    {
+        let len = self.len;
+        let opened = self.write_inner_inline(out, len);
+        let brace = Before {
+            kind: Prev::Kind(kinds::LEFT_BRACE),
+        };
+        let inline = self.inline_depth;
+        let depth = InlineDepth(inline.0 + 1);
+        self.len = opened;
+        self.prev = brace;
+        self.at_line_start = false;
+        self.inline_depth = depth;
+        self
+    }
+
+    fn write_inner_inline(self, out: &mut [u8], len: usize) -> usize
+        ensures { λ r. ⌜ Writes (now (out .entry)) len (Rattle.format.specs.Parts.innerInlineBytes (optionsOf (self .options)) (formatterOf self [])) (now (out .exit)) r ⌝ }
+    {
+        if self.at_line_start {
+            return self.write_indent(out, len);
+        }
+        let gapped = write_byte(out, len, b' ');
+        write_byte(out, gapped, b'{')
+    }
+
+    // The first brace of a one-line block.
+    fn open_inline(mut self, out: &mut [u8]) -> Self
+        ensures { λ r. ⌜ ((s : List ℕ) → Does openInline (on self s (now (out .entry))) (on r s (now (out .exit)))) ⌝ }
+    {
+        let len = self.len;
+        let gapped = self.write_indent_or_space(out, len);
+        let opened = write_byte(out, gapped, b'{');
+        let brace = Before {
+            kind: Prev::Kind(kinds::LEFT_BRACE),
+        };
+        let depth = InlineDepth(1);
+        self.len = opened;
+        self.prev = brace;
+        self.at_line_start = false;
+        self.inline_depth = depth;
+        self
+    }
+
+    // `open_block_multiline`, and the last kind.
+    fn open_block(self, out: &mut [u8], index: usize) -> Self
+        requires { ⌜ self .indent < 4294967295 ⌝ }
+        requires { ⌜ index < 4294967296 ⌝ }
+        ensures { λ r. ⌜ ((s : List ℕ) → Does (λ o. openBlock o index) (on self s (now (out .entry))) (on r s (now (out .exit)))) ⌝ }
+    {
+        let options = self.options;
+        let style = options.brace_style;
+        match style {
+            BraceStyle::SameLine => self.open_block_same_line(out),
+            BraceStyle::Allman => self.open_block_allman(out, index),
+        }
+    }
+
+    fn open_block_same_line(mut self, out: &mut [u8]) -> Self
+        requires { ⌜ self .indent < 4294967295 ⌝ }
+        ensures { λ r. ⌜ ((s : List ℕ) → Does (λ o. Rattle.format.specs.Parts.openSameLine) (on self s (now (out .entry))) (on r s (now (out .exit)))) ⌝ }
+    {
+        let len = self.len;
+        let gapped = write_byte(out, len, b' ');
+        let opened = write_byte(out, gapped, b'{');
+        let brace = Before {
+            kind: Prev::Kind(kinds::LEFT_BRACE),
+        };
+        self.len = opened;
+        self.prev = brace;
+        self.at_line_start = false;
+        self.indent = self.indent + 1;
+        self
+    }
+
+    fn open_block_allman(mut self, out: &mut [u8], index: usize) -> Self
+        requires { ⌜ self .indent < 4294967295 ⌝ }
+        requires { ⌜ index < 4294967296 ⌝ }
+        ensures { λ r. ⌜ ((s : List ℕ) → Does (λ o. Rattle.format.specs.Parts.openAllman o index) (on self s (now (out .entry))) (on r s (now (out .exit)))) ⌝ }
+    {
+        let len = self.len;
+        let gapped = self.write_on_new_line(out, len);
+        let opened = write_byte(out, gapped, b'{');
+        let fed = write_byte(out, opened, b'\n');
+        let brace = Before {
+            kind: Prev::Kind(kinds::LEFT_BRACE),
+        };
+        let next = Suppressed {
+            at: NewlineAt::Index(index + 1),
+        };
+        self.len = fed;
+        self.prev = brace;
+        self.at_line_start = true;
+        self.indent = self.indent + 1;
+        self.suppress_newline_at = next;
+        self
+    }
+
+    // ---- LeftParen and LeftBracket
+
+    pub fn left_paren_arm(
+        mut self,
+        out: &mut [u8],
+        stack: &mut [u32],
+        rows: &[u8],
+        text: &[u8],
+        token: TokenAt,
+    ) -> Self
+        requires { ⌜ Roomy self ⌝ }
+        requires { ⌜ StackRoom self (now stack) ⌝ }
+        requires { ⌜ Names token (now text) ⌝ }
+        requires { ⌜ Ahead token (now rows) ⌝ }
+        ensures { λ r. ⌜ ((t : Token) (ts : List Token) → Stands token (now (rows .entry)) (now (text .entry)) t ts → (atSignature (formatterOf self []) ≡ false → ListRoom (optionsOf (self .options)) t ts (formatterOf self []) (self .«break_count»)) → Does (λ o. leftParenArm o (token .index) t ts) (on self (now (stack .entry)) (now (out .entry))) (on r (now (stack .exit)) (now (out .exit)))) ⌝ }
+    {
+        if self.at_signature() {
+            return self.open_signature(out, rows, text, token);
+        }
+        if self.breaks_list(rows, token) {
+            return self.open_list(out, stack, text, token);
+        }
+        let signature = self.sig_break_depth;
+        let depth = SignatureDepth(deeper(signature.0));
+        self.sig_break_depth = depth;
+        self.open_group(out, text, token)
+    }
+
+    pub fn left_bracket_arm(
+        self,
+        out: &mut [u8],
+        stack: &mut [u32],
+        rows: &[u8],
+        text: &[u8],
+        token: TokenAt,
+    ) -> Self
+        requires { ⌜ Roomy self ⌝ }
+        requires { ⌜ StackRoom self (now stack) ⌝ }
+        requires { ⌜ Names token (now text) ⌝ }
+        requires { ⌜ Ahead token (now rows) ⌝ }
+        ensures { λ r. ⌜ ((t : Token) (ts : List Token) → Stands token (now (rows .entry)) (now (text .entry)) t ts → ListRoom (optionsOf (self .options)) t ts (formatterOf self []) (self .«break_count») → Does (λ o. leftBracketArm o (token .index) t ts) (on self (now (stack .entry)) (now (out .entry))) (on r (now (stack .exit)) (now (out .exit)))) ⌝ }
+    {
+        if self.breaks_list(rows, token) {
+            return self.open_list(out, stack, text, token);
+        }
+        self.open_group(out, text, token)
+    }
+
+    // `fn name (` or `fn (`, outside one-line blocks.
+    pub fn at_signature(self) -> bool
+        ensures { λ r. ⌜ r ≡ atSignature (formatterOf self []) ⌝ }
+    {
+        let inline = self.inline_depth;
+        let depth = inline.0;
+        if depth == 0 {
+            if self.fn_state == 2 {
+                return true;
+            }
+            return self.fn_state == 1;
+        }
+        false
+    }
+
+    // A list that breaks, outside one-line blocks and records.
+    pub fn breaks_list(self, rows: &[u8], token: TokenAt) -> bool
+        requires { ⌜ Ahead token (now rows) ⌝ }
+        ensures { λ r. ⌜ ((text : List ℕ) (t : Token) (ts : List Token) → Stands token (now (rows .entry)) text t ts → r ≡ breaksList (optionsOf (self .options)) t ts (formatterOf self [])) ⌝ }
+    {
+        let inline = self.inline_depth;
+        let depth = inline.0;
+        if depth == 0 {
+            if self.in_record {
+                return false;
+            }
+            let options = self.options;
+            let lead = token.lead;
+            return should_break_list(&rows[lead..], options.list_width);
+        }
+        false
+    }
+
+    fn open_signature(mut self, out: &mut [u8], rows: &[u8], text: &[u8], token: TokenAt) -> Self
+        requires { ⌜ Roomy self ⌝ }
+        requires { ⌜ Names token (now text) ⌝ }
+        requires { ⌜ Ahead token (now rows) ⌝ }
+        ensures { λ r. ⌜ ((s : List ℕ) (t : Token) (ts : List Token) → Stands token (now (rows .entry)) (now (text .entry)) t ts → Does (λ o. Rattle.format.specs.Parts.openSignature o (token .index) t ts) (on self s (now (out .entry))) (on r s (now (out .exit)))) ⌝ }
+    {
+        let options = self.options;
+        let lead = token.lead;
+        let index = token.index;
+        self.fn_state = 0;
+        if should_break_sig(&rows[lead..], options.fn_sig_width) {
+            return self.break_signature(out, index);
+        }
+        self.open_group(out, text, token)
+    }
+
+    fn break_signature(mut self, out: &mut [u8], index: usize) -> Self
+        requires { ⌜ Roomy self ⌝ }
+        requires { ⌜ index < 4294967296 ⌝ }
+        ensures { λ r. ⌜ ((s : List ℕ) → Does (λ o. breakSignature o index) (on self s (now (out .entry))) (on r s (now (out .exit)))) ⌝ }
+    {
+        let len = self.len;
+        let opened = write_byte(out, len, b'(');
+        let fed = write_byte(out, opened, b'\n');
+        self.indent = self.indent + 1;
+        let gapped = self.write_indent(out, fed);
+        let paren = Before {
+            kind: Prev::Kind(kinds::LEFT_PAREN),
+        };
+        let next = Suppressed {
+            at: NewlineAt::Index(index + 1),
+        };
+        let group = self.group_depth;
+        let depth = GroupDepth(group.0 + 1);
+        let signature = SignatureDepth(1);
+        self.len = gapped;
+        self.prev = paren;
+        self.at_line_start = false;
+        self.group_depth = depth;
+        self.sig_break_depth = signature;
+        self.suppress_newline_at = next;
+        self
+    }
+
+    // A lexeme, and one bracket deeper.
+    fn open_group(mut self, out: &mut [u8], text: &[u8], token: TokenAt) -> Self
+        requires { ⌜ self .«group_depth» .0 < 4294967295 ⌝ }
+        requires { ⌜ Names token (now text) ⌝ }
+        ensures { λ r. ⌜ ((s : List ℕ) → Does (λ o. pushLexeme o (lone token (now (text .entry))) ⨾ update groupOpened) (on self s (now (out .entry))) (on r s (now (out .exit)))) ⌝ }
+    {
+        let kind = token.kind;
+        let len = self.write_token(out, text, token);
+        let unary = self.minus_is_unary_after(kind);
+        let prev = Before {
+            kind: Prev::Kind(kind),
+        };
+        let group = self.group_depth;
+        let depth = GroupDepth(group.0 + 1);
+        self.len = len;
+        self.prev_minus_is_unary = unary;
+        self.prev = prev;
+        self.at_line_start = false;
+        self.group_depth = depth;
+        self
+    }
+
+    // A wide list opens: one item a line.
+    fn open_list(mut self, out: &mut [u8], stack: &mut [u32], text: &[u8], token: TokenAt) -> Self
+        requires { ⌜ Roomy self ⌝ }
+        requires { ⌜ StackRoom self (now stack) ⌝ }
+        requires { ⌜ Names token (now text) ⌝ }
+        ensures { λ r. ⌜ (self .«break_count» < 64 → Does (λ o. openList o (token .index) (lone token (now (text .entry)))) (on self (now (stack .entry)) (now (out .entry))) (on r (now (stack .exit)) (now (out .exit)))) ⌝ }
+    {
+        let kind = token.kind;
+        let index = token.index;
+        let written = self.write_token(out, text, token);
+        let fed = write_byte(out, written, b'\n');
+        let count = self.break_count;
+        let group = self.group_depth;
+        let inner = group.0 + 1;
+        push_entry(stack, count, inner);
+        let prev = Before {
+            kind: Prev::Kind(kind),
+        };
+        let next = Suppressed {
+            at: NewlineAt::Index(index + 1),
+        };
+        let depth = GroupDepth(inner);
+        self.len = fed;
+        self.prev = prev;
+        self.at_line_start = true;
+        self.indent = self.indent + 1;
+        self.group_depth = depth;
+        self.break_count = count + 1;
+        self.suppress_newline_at = next;
+        self
+    }
+
+    // ---- RightParen
+
+    pub fn right_paren_arm(
+        mut self,
+        out: &mut [u8],
+        stack: &[u32],
+        text: &[u8],
+        token: TokenAt,
+    ) -> Self
+        requires { ⌜ Names token (now text) ⌝ }
+        ensures { λ r. ⌜ Does (λ o. rightParenArm o (lone token (now (text .entry)))) (on self (now (stack .entry)) (now (out .entry))) (on r (now (stack .entry)) (now (out .exit))) ⌝ }
+    {
+        let signature = self.sig_break_depth;
+        let outer = signature.0;
+        let depth = SignatureDepth(less32(outer));
+        self.sig_break_depth = depth;
+        if outer == 1 {
+            return self.close_signature(out);
+        }
+        if self.in_broken_list(stack) {
+            return self.close_call(out);
+        }
+        self.close_group(out, text, token)
+    }
+
+    // A broken signature's `)`: the indent goes after it.
+    fn close_signature(mut self, out: &mut [u8]) -> Self
+        ensures { λ r. ⌜ ((s : List ℕ) → Does closeSignatureParen (on self s (now (out .entry))) (on r s (now (out .exit)))) ⌝ }
+    {
+        let len = self.len;
+        let gapped = self.write_on_new_line(out, len);
+        let closed = write_byte(out, gapped, b')');
+        let paren = Before {
+            kind: Prev::Kind(kinds::RIGHT_PAREN),
+        };
+        let group = self.group_depth;
+        let depth = GroupDepth(less32(group.0));
+        self.len = closed;
+        self.indent = less32(self.indent);
+        self.prev = paren;
+        self.at_line_start = false;
+        self.group_depth = depth;
+        self.returned = true;
+        self
+    }
+
+    // A broken list's `)`: no comma.
+    fn close_call(mut self, out: &mut [u8]) -> Self
+        ensures { λ r. ⌜ ((s : List ℕ) → Does closeCall (on self s (now (out .entry))) (on r s (now (out .exit)))) ⌝ }
+    {
+        let count = self.break_count;
+        self.break_count = less(count);
+        self.indent = less32(self.indent);
+        let len = self.len;
+        let gapped = self.write_on_new_line(out, len);
+        let closed = write_byte(out, gapped, b')');
+        let paren = Before {
+            kind: Prev::Kind(kinds::RIGHT_PAREN),
+        };
+        let group = self.group_depth;
+        let depth = GroupDepth(less32(group.0));
+        self.len = closed;
+        self.prev = paren;
+        self.at_line_start = false;
+        self.group_depth = depth;
+        self.returned = true;
+        self
+    }
+
+    // A lexeme, and one bracket less deep.
+    fn close_group(self, out: &mut [u8], text: &[u8], token: TokenAt) -> Self
+        requires { ⌜ Names token (now text) ⌝ }
+        ensures { λ r. ⌜ ((s : List ℕ) → Does (λ o. pushLexeme o (lone token (now (text .entry))) ⨾ update groupClosed) (on self s (now (out .entry))) (on r s (now (out .exit)))) ⌝ }
+    {
+        let mut pushed = self.push_lexeme(out, text, token);
+        let group = pushed.group_depth;
+        let depth = GroupDepth(less32(group.0));
+        pushed.group_depth = depth;
+        pushed
+    }
+
+    // ---- RightBracket
+
+    pub fn right_bracket_arm(
+        self,
+        out: &mut [u8],
+        stack: &[u32],
+        text: &[u8],
+        token: TokenAt,
+    ) -> Self
+        requires { ⌜ Roomy self ⌝ }
+        requires { ⌜ Names token (now text) ⌝ }
+        ensures { λ r. ⌜ Does (λ o. rightBracketArm o (lone token (now (text .entry)))) (on self (now (stack .entry)) (now (out .entry))) (on r (now (stack .entry)) (now (out .exit))) ⌝ }
+    {
+        if self.in_broken_list(stack) {
+            return self.close_array(out);
+        }
+        self.close_group(out, text, token)
+    }
+
+    // A broken list's `]`: a comma, unless the last kind is Comma.
+    fn close_array(mut self, out: &mut [u8]) -> Self
+        requires { ⌜ Roomy self ⌝ }
+        ensures { λ r. ⌜ ((s : List ℕ) → Does closeArray (on self s (now (out .entry))) (on r s (now (out .exit)))) ⌝ }
+    {
+        let wanted = !self.prev_is(kinds::COMMA);
+        let count = self.break_count;
+        self.break_count = less(count);
+        self.indent = less32(self.indent);
+        let len = self.len;
+        let listed = write_comma(out, len, wanted);
+        let gapped = self.write_on_new_line(out, listed);
+        let closed = write_byte(out, gapped, b']');
+        let bracket = Before {
+            kind: Prev::Kind(kinds::RIGHT_BRACKET),
+        };
+        let group = self.group_depth;
+        let depth = GroupDepth(less32(group.0));
+        self.len = closed;
+        self.commas = self.commas + count_comma(wanted);
+        self.prev = bracket;
+        self.at_line_start = false;
+        self.group_depth = depth;
+        self.returned = true;
+        self
+    }
+
+    // ---- Comma
+
+    pub fn comma_arm(self, out: &mut [u8], stack: &[u32], text: &[u8], token: TokenAt) -> Self
+        requires { ⌜ Names token (now text) ⌝ }
+        ensures { λ r. ⌜ Does (λ o. commaArm o (token .index) (lone token (now (text .entry)))) (on self (now (stack .entry)) (now (out .entry))) (on r (now (stack .entry)) (now (out .exit))) ⌝ }
+    {
+        let index = token.index;
+        if self.at_record_fields() {
+            return self.break_comma(out, index);
+        }
+        if self.in_broken_list(stack) {
+            return self.break_comma(out, index);
+        }
+        self.push_lexeme(out, text, token)
+    }
+
+    // A comma that ends its line.
+    fn break_comma(mut self, out: &mut [u8], index: usize) -> Self
+        requires { ⌜ index < 4294967296 ⌝ }
+        ensures { λ r. ⌜ ((s : List ℕ) → Does (λ o. breakComma index) (on self s (now (out .entry))) (on r s (now (out .exit)))) ⌝ }
+    {
+        let len = self.len;
+        let listed = write_byte(out, len, b',');
+        let fed = write_byte(out, listed, b'\n');
+        let comma = Before {
+            kind: Prev::Kind(kinds::COMMA),
+        };
+        let next = Suppressed {
+            at: NewlineAt::Index(index + 1),
+        };
+        self.len = fed;
+        self.prev = comma;
+        self.suppress_newline_at = next;
+        self.at_line_start = true;
+        self
+    }
+
+    // ---- Else
+
+    pub fn else_arm(self, out: &mut [u8], text: &[u8], token: TokenAt) -> Self
+        requires { ⌜ Names token (now text) ⌝ }
+        ensures { λ r. ⌜ ((s : List ℕ) → Does (λ o. elseArm o (lone token (now (text .entry)))) (on self s (now (out .entry))) (on r s (now (out .exit)))) ⌝ }
+    {
+        if self.else_on_new_line() {
+            return self.break_else(out);
+        }
+        self.push_lexeme(out, text, token)
+    }
+
+    fn else_on_new_line(self) -> bool
+        ensures { λ r. ⌜ r ≡ elseOnNewLine (formatterOf self []) ⌝ }
+    {
+        let inline = self.inline_depth;
+        let depth = inline.0;
+        if depth == 0 {
+            if self.in_record {
+                return false;
+            }
+            if self.inline_close {
+                return false;
+            }
+            return self.prev_is(kinds::RIGHT_BRACE);
+        }
+        false
+    }
+
+    // `else` on a line of its own.
+    fn break_else(mut self, out: &mut [u8]) -> Self
+        ensures { λ r. ⌜ ((s : List ℕ) → Does Rattle.format.specs.Parts.breakElse (on self s (now (out .entry))) (on r s (now (out .exit)))) ⌝ }
+    {
+        let len = self.len;
+        let fed = write_byte(out, len, b'\n');
+        let gapped = self.write_indent(out, fed);
+        let written = write_else(out, gapped);
+        let word = Before {
+            kind: Prev::Kind(kinds::ELSE),
+        };
+        self.len = written;
+        self.prev = word;
+        self.at_line_start = false;
+        self
+    }
+
+    // ---- all others
+
+    pub fn other_arm(mut self, out: &mut [u8], text: &[u8], token: TokenAt) -> Self
+        requires { ⌜ Names token (now text) ⌝ }
+        ensures { λ r. ⌜ ((s : List ℕ) → Does (λ o. otherArm o (lone token (now (text .entry)))) (on self s (now (out .entry))) (on r s (now (out .exit)))) ⌝ }
+    {
+        let pending = self.record_pending_after(token.kind);
+        self.record_pending = pending;
+        self.push_lexeme(out, text, token)
+    }
+
+    // `record` arms the record layout, a name leaves it armed, anything else disarms it.
+    fn record_pending_after(self, kind: u32) -> bool
+        ensures { λ r. ⌜ r ≡ trackRecord kind (formatterOf self []) .recordPending ⌝ }
+    {
+        if kind == kinds::RECORD {
+            return true;
+        }
+        if kind == kinds::IDENTIFIER {
+            return self.record_pending;
+        }
+        false
+    }
+}
+
+// Whether the text so far ends with two line feeds.
+fn ends_with_two_feeds(out: &[u8], len: usize) -> bool
+    ensures { λ r. ⌜ (len ≤ length (now (out .entry)) → r ≡ endsWithTwoFeeds (take len (now (out .entry)))) ⌝ }
+{
+    if len < 2 {
+        return false;
+    }
+    if out.len() < len {
+        return false;
+    }
+    let last = len - 1;
+    let before = len - 2;
+    if out[before] == b'\n' {
+        return out[last] == b'\n';
+    }
+    false
+}
+
+fn write_else(out: &mut [u8], len: usize) -> usize
+    ensures { λ r. ⌜ Writes (now (out .entry)) len (101 ∷ 108 ∷ 115 ∷ 101 ∷ []) (now (out .exit)) r ⌝ }
+{
+    let e = write_byte(out, len, b'e');
+    let l = write_byte(out, e, b'l');
+    let s = write_byte(out, l, b's');
+    write_byte(out, s, b'e')
+}
+
+fn count_comma(wanted: bool) -> usize
+    ensures { λ r. ⌜ (r ≡ cond wanted 1 0) × (r < 2) ⌝ }
+{
+    if wanted {
+        return 1;
+    }
+    0
+}
+
+// One more, but 0 of 0: the depth of a broken signature, if there is one.
+fn deeper(depth: u32) -> u32
+    requires { ⌜ depth < 4294967295 ⌝ }
+    ensures { λ r. ⌜ Rattle.format.specs.Pen.signatureOf r ≡ Rattle.push_token.specs.Arms.deeper (Rattle.format.specs.Pen.signatureOf depth) ⌝ }
+{
+    if 0 < depth {
+        return depth + 1;
+    }
+    0
+}
+
+// Whether the next token, behind trailing rows and its own leading rows, is of a kind.
+fn next_is(rows: &[u8], kind: u32) -> bool
+    ensures { λ r. ⌜ ((text : List ℕ) → r ≡ nextIs kind (Rattle.rows.specs.Token.tokensOf (now (rows .entry)) text)) ⌝ }
+{
+    let mut at = 0;
+    while rows::ROW_BYTES <= rows.len() - at {
+        let row = rows::row_at(rows, at);
+        if row.what == kinds::TOKEN {
+            return row.kind == kind;
+        }
+        at += rows::ROW_BYTES;
+    }
+    false
+}
+
+// Puts a depth on the stack at `count`, where it has room.
+fn push_entry(stack: &mut [u32], count: usize, depth: u32)
+    ensures { λ r. ⌜ (count < length (now (stack .entry)) → now (stack .exit) ≡ set (now (stack .entry)) count depth) ⌝ }
+    ensures size { λ r. ⌜ length (now (stack .exit)) ≡ length (now (stack .entry)) ⌝ }
+{
+    if count < stack.len() {
+        stack[count] = depth;
+    }
+}

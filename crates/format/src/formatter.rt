@@ -1,0 +1,318 @@
+// The formatter's state, under the names of format.rs. It goes in and comes back by value; the output and the
+// broken-group stack are lent beside it, so that no array is copied.
+use crate::write::write_byte;
+use crate::write::write_part;
+use crate::write::write_spaces;
+use lookahead::is_value_kind;
+use lookahead::space_between;
+use rows::kinds;
+ghost use mathlib.Core.Bool.{_&&_, _||_, not, cond};
+ghost use mathlib.Core.List.{List, [], _∷_, _++_};
+ghost use mathlib.Core.Path.{_≡_};
+ghost use Prim.Native.Nat.{ℕ, _+_, _-_, _*_, _<_};
+ghost use lib.Dec.{eqb};
+ghost use lib.ListN.{length, take};
+ghost use Rattle.push_token.specs.Act.{update};
+ghost use Rattle.push_token.specs.Emit.{isAt, prevIs, indentStr, indentOrSpace, onNewLine, trackFnState, spaceAfter, tokenGap, trackMinus, pushLexeme};
+ghost use Rattle.push_token.specs.Arms.{atRecordFields, inBrokenList, inOneLineBlock, inlineCloseGap, endsWithTwoFeeds, groupClosed};
+ghost use Rattle.format.specs.Sink.{Writes};
+ghost use Rattle.format.specs.Pen.{Names, lexemeOf, lone, optionsOf, formatterOf, prevOf, newlineOf, on};
+ghost use Rattle.format.specs.Does.{Does};
+
+// `prev`: an Option in format.rs.
+pub enum Prev {
+    Nothing,
+    Kind(u32),
+}
+
+pub struct Before {
+    pub kind: Prev,
+}
+
+// `suppress_newline_at`: an Option in format.rs.
+pub enum NewlineAt {
+    Never,
+    Index(usize),
+}
+
+pub struct Suppressed {
+    pub at: NewlineAt,
+}
+
+pub enum BraceStyle {
+    SameLine,
+    Allman,
+}
+
+// Four separate counts.
+pub struct GroupDepth(pub u32);
+
+pub struct InlineDepth(pub u32);
+
+pub struct RecordDepth(pub u32);
+
+// `sig_break_depth`, 0 where it is None.
+pub struct SignatureDepth(pub u32);
+
+pub struct Options {
+    pub indent_width: u32,
+    pub fn_sig_width: u32,
+    pub list_width: u32,
+    pub brace_style: BraceStyle,
+}
+
+// The hot fields come first: their order is measured. `len` is the length of the text, or one past the output's end
+// once it is full; `break_count` is the number of entries of the broken-group stack; `too_deep` is 0, or one more than
+// the index at which refusal 4 holds. The last four fields but it are locals and results of `push_token`.
+pub struct Formatter {
+    pub len: usize,
+    pub options: Options,
+    pub indent: u32,
+    pub prev: Before,
+    pub at_line_start: bool,
+    pub prev_minus_is_unary: bool,
+    pub group_depth: GroupDepth,
+    pub inline_depth: InlineDepth,
+    pub record_depth: RecordDepth,
+    pub sig_break_depth: SignatureDepth,
+    pub suppress_newline_at: Suppressed,
+    pub break_count: usize,
+    pub commas: usize,
+    pub too_deep: usize,
+    pub fn_state: u8,
+    pub in_record: bool,
+    pub record_pending: bool,
+    pub just_closed_inline: bool,
+    pub inline_close: bool,
+    pub returned: bool,
+    pub skip_next: bool,
+}
+
+// A token's place: its kind and lexeme, its index among the tokens, where its leading rows start and where the rows
+// behind its own row do.
+pub struct TokenAt {
+    pub kind: u32,
+    pub start: usize,
+    pub end: usize,
+    pub index: usize,
+    pub lead: usize,
+    pub behind: usize,
+}
+
+// One less, and 0 of 0.
+pub fn less(n: usize) -> usize
+    ensures { λ r. ⌜ r ≡ n - 1 ⌝ }
+{
+    if 0 < n {
+        return n - 1;
+    }
+    0
+}
+
+pub fn less32(n: u32) -> u32
+    ensures { λ r. ⌜ r ≡ n - 1 ⌝ }
+{
+    if 0 < n {
+        return n - 1;
+    }
+    0
+}
+
+// How many spaces indent a line.
+pub fn indent_size(width: u32, indent: u32) -> usize
+    ensures { λ r. ⌜ r ≡ width * indent ⌝ }
+{
+    (width as usize) * (indent as usize)
+}
+
+impl Formatter {
+    // ---- tests
+
+    pub fn prev_is(self, kind: u32) -> bool
+        ensures { λ r. ⌜ r ≡ isAt (prevOf (self .prev .kind)) kind ⌝ }
+    {
+        let before = self.prev;
+        let prev = before.kind;
+        match prev {
+            Prev::Nothing => false,
+            Prev::Kind(k) => k == kind,
+        }
+    }
+
+    pub fn in_one_line_block(self) -> bool
+        ensures { λ r. ⌜ r ≡ inOneLineBlock (formatterOf self []) ⌝ }
+    {
+        let depth = self.inline_depth;
+        0 < depth.0
+    }
+
+    // Directly in a record.
+    pub fn at_record_fields(self) -> bool
+        ensures { λ r. ⌜ r ≡ atRecordFields (formatterOf self []) ⌝ }
+    {
+        let depth = self.record_depth;
+        self.in_record && depth.0 == 1
+    }
+
+    // Directly in the innermost broken list.
+    pub fn in_broken_list(self, stack: &[u32]) -> bool
+        ensures { λ r. ⌜ r ≡ inBrokenList (formatterOf self (now (stack .entry))) ⌝ }
+    {
+        let count = self.break_count;
+        let group = self.group_depth;
+        let depth = group.0;
+        if 0 < count {
+            let top = count - 1;
+            if top < stack.len() {
+                return stack[top] == depth;
+            }
+            return 0 == depth;
+        }
+        false
+    }
+
+    // Whether a space stands before a token of the kind: none behind a unary `-`.
+    pub fn space_before(self, kind: u32) -> bool
+        ensures { λ r. ⌜ r ≡ spaceAfter (prevOf (self .prev .kind)) (self .«prev_minus_is_unary») kind ⌝ }
+    {
+        let before = self.prev;
+        let prev = before.kind;
+        match prev {
+            Prev::Nothing => false,
+            Prev::Kind(k) => {
+                if k == kinds::MINUS {
+                    if self.prev_minus_is_unary {
+                        return false;
+                    }
+                    return space_between(k, kind);
+                }
+                space_between(k, kind)
+            }
+        }
+    }
+
+    // Whether the last `-` is unary, once a token of the kind has come.
+    pub fn minus_is_unary_after(self, kind: u32) -> bool
+        ensures { λ r. ⌜ r ≡ trackMinus kind (formatterOf self []) .prevMinusIsUnary ⌝ }
+    {
+        if kind == kinds::MINUS {
+            let before = self.prev;
+            let prev = before.kind;
+            match prev {
+                Prev::Nothing => true,
+                Prev::Kind(k) => !is_value_kind(k),
+            }
+        } else {
+            self.prev_minus_is_unary
+        }
+    }
+
+    // ---- gaps: each answers the length behind it
+
+    pub fn write_indent(self, out: &mut [u8], len: usize) -> usize
+        ensures { λ r. ⌜ Writes (now (out .entry)) len (indentStr (optionsOf (self .options)) (formatterOf self [])) (now (out .exit)) r ⌝ }
+    {
+        let options = self.options;
+        let size = indent_size(options.indent_width, self.indent);
+        write_spaces(out, len, size)
+    }
+
+    // The indent, on a line of its own.
+    pub fn write_on_new_line(self, out: &mut [u8], len: usize) -> usize
+        ensures { λ r. ⌜ Writes (now (out .entry)) len (onNewLine (optionsOf (self .options)) (formatterOf self [])) (now (out .exit)) r ⌝ }
+    {
+        if self.at_line_start {
+            return self.write_indent(out, len);
+        }
+        let fed = write_byte(out, len, b'\n');
+        self.write_indent(out, fed)
+    }
+
+    // `push_trivia_gap`: the indent at a line's start, else a space.
+    pub fn write_indent_or_space(self, out: &mut [u8], len: usize) -> usize
+        ensures { λ r. ⌜ Writes (now (out .entry)) len (indentOrSpace (optionsOf (self .options)) (formatterOf self [])) (now (out .exit)) r ⌝ }
+    {
+        if self.at_line_start {
+            return self.write_indent(out, len);
+        }
+        write_byte(out, len, b' ')
+    }
+
+    pub fn write_token_gap(self, out: &mut [u8], len: usize, kind: u32) -> usize
+        ensures { λ r. ⌜ Writes (now (out .entry)) len (tokenGap (optionsOf (self .options)) kind (formatterOf self [])) (now (out .exit)) r ⌝ }
+    {
+        if self.at_line_start {
+            return self.write_indent(out, len);
+        }
+        if self.space_before(kind) {
+            return write_byte(out, len, b' ');
+        }
+        len
+    }
+
+    // The gap of a token, and its lexeme.
+    pub fn write_token(self, out: &mut [u8], text: &[u8], token: TokenAt) -> usize
+        requires { ⌜ Names token (now text) ⌝ }
+        ensures { λ r. ⌜ Writes (now (out .entry)) (self .len) (tokenGap (optionsOf (self .options)) (token .kind) (formatterOf self []) ++ lexemeOf token (now (text .entry))) (now (out .exit)) r ⌝ }
+    {
+        let len = self.len;
+        let kind = token.kind;
+        let start = token.start;
+        let end = token.end;
+        let gapped = self.write_token_gap(out, len, kind);
+        write_part(out, gapped, text, start, end)
+    }
+
+    // ---- `push_lexeme`
+
+    pub fn push_lexeme(mut self, out: &mut [u8], text: &[u8], token: TokenAt) -> Self
+        requires { ⌜ Names token (now text) ⌝ }
+        ensures { λ r. ⌜ ((s : List ℕ) → Does (λ o. pushLexeme o (lone token (now (text .entry)))) (on self s (now (out .entry))) (on r s (now (out .exit)))) ⌝ }
+    {
+        let kind = token.kind;
+        let len = self.write_token(out, text, token);
+        let unary = self.minus_is_unary_after(kind);
+        let prev = Before {
+            kind: Prev::Kind(kind),
+        };
+        self.len = len;
+        self.prev_minus_is_unary = unary;
+        self.prev = prev;
+        self.at_line_start = false;
+        self
+    }
+
+    // ---- `track_fn_state`
+
+    pub fn track_fn_state(mut self, kind: u32) -> Self
+        ensures { λ r. ⌜ ((s l : List ℕ) → Does (λ o. update (trackFnState kind)) (on self s l) (on r s l)) ⌝ }
+    {
+        let next = self.fn_state_after(kind);
+        self.fn_state = next;
+        self
+    }
+
+    pub fn fn_state_after(self, kind: u32) -> u8
+        ensures { λ r. ⌜ r ≡ trackFnState kind (formatterOf self []) .fnState ⌝ }
+    {
+        let signature = self.sig_break_depth;
+        let depth = signature.0;
+        let state = self.fn_state;
+        if 0 < depth {
+            return state;
+        }
+        if kind == kinds::FN {
+            return 1;
+        }
+        if kind == kinds::IDENTIFIER {
+            if state == 1 {
+                return 2;
+            }
+            return 0;
+        }
+        if kind == kinds::NEWLINE {
+            return state;
+        }
+        0
+    }
+}

@@ -1,0 +1,7 @@
+pub mod Runs
+pub mod Place
+pub mod Going
+pub mod ByKind
+pub mod Ends
+pub mod Bare
+pub mod Pushed

@@ -1,0 +1,111 @@
+// The walk over checked rows: `push_token` for each token, and how it ends.
+use crate::token::push_token;
+use format::formatter::Formatter;
+use format::formatter::TokenAt;
+use rows::ROW_BYTES;
+use rows::kinds;
+use rows::row_at;
+ghost use mathlib.Core.List.{List};
+ghost use mathlib.Core.Path.{_≡_};
+ghost use Prim.Native.Nat.{ℕ, _+_, _*_, _≤_, _<_};
+ghost use lib.ListN.{length, drop};
+ghost use Rattle.rows.specs.Row.{rowsOf};
+ghost use Rattle.rows.specs.Token.{Token};
+ghost use Rattle.push_token.specs.PushToken.{turn};
+ghost use Rattle.format.specs.Pen.{Roomy, StackRoom, Stands, on};
+ghost use Rattle.format.specs.Does.{Does};
+ghost use Rattle.walk.specs.Walk.{Fresh, runRows, TokenAtRow, TokenRows, Trivial, Walks, Laid};
+
+mod token;
+
+// How a walk ends: with the length of the text and the number of inserted commas, or with refusal 4 or 5 at a token.
+pub enum Walked {
+    Finished(usize, usize),
+    Deep(usize),
+    Full(usize),
+}
+
+// `format`: lays out all tokens of checked rows.
+pub fn walk(new: Formatter, out: &mut [u8], stack: &mut [u32], rows: &[u8], text: &[u8]) -> Walked
+    requires { ⌜ Fresh new (now stack) ⌝ }
+    requires { ⌜ Walks (now rows) (now text) ⌝ }
+    ensures { λ r. ⌜ Laid (now (rows .entry)) (now (text .entry)) (on new (now (stack .entry)) (now (out .entry))) r (now (out .exit)) ⌝ }
+{
+    let mut f = new;
+    let mut at = 0;
+    let mut index = 0;
+    while at < rows.len() {
+        let row = rows_end(rows, at, kinds::LEADING);
+        let next = rows_end(rows, row + ROW_BYTES, kinds::TRAILING);
+        let token = token_at(rows, at, row, index);
+        f = turn(f, out, stack, rows, text, token, next);
+        let len = f.len;
+        if out.len() < len {
+            return Walked::Full(index);
+        }
+        let deep = f.too_deep;
+        if 0 < deep {
+            return Walked::Deep(index);
+        }
+        at = next;
+        index += 1;
+    }
+    let len = f.len;
+    let commas = f.commas;
+    Walked::Finished(len, commas)
+}
+
+// One token of the walk: nothing for one that was taken along.
+fn turn(
+    mut f: Formatter,
+    out: &mut [u8],
+    stack: &mut [u32],
+    rows: &[u8],
+    text: &[u8],
+    token: TokenAt,
+    next: usize,
+) -> Formatter
+    requires { ⌜ Roomy f ⌝ }
+    requires { ⌜ StackRoom f (now stack) ⌝ }
+    requires { ⌜ TokenRows token (now rows) (now text) next ⌝ }
+    requires { ⌜ f .«too_deep» ≡ 0 ⌝ }
+    ensures { λ r. ⌜ ((t : Token) (ts : List Token) → Stands token (now (rows .entry)) (now (text .entry)) t ts → Trivial token next (now (rows .entry)) (now (text .entry)) t → Does (λ o. turn o (token .index) t ts) (on f (now (stack .entry)) (now (out .entry))) (on r (now (stack .exit)) (now (out .exit)))) ⌝ }
+{
+    if f.skip_next {
+        f.skip_next = false;
+        return f;
+    }
+    push_token(f, out, stack, rows, text, token, next)
+}
+
+// Where the rows of a what end that start at `at`.
+fn rows_end(rows: &[u8], at: usize, what: u32) -> usize
+    requires { ⌜ at ≤ length (now rows) ⌝ }
+    ensures { λ r. ⌜ r ≡ at + 16 * runRows what (rowsOf (drop at (now (rows .entry)))) ⌝ }
+{
+    let mut end = at;
+    while ROW_BYTES <= rows.len() - end {
+        let row = row_at(rows, end);
+        if row.what != what {
+            return end;
+        }
+        end += ROW_BYTES;
+    }
+    end
+}
+
+// The token whose row stands at `row`, behind leading rows from `lead` on.
+fn token_at(rows: &[u8], lead: usize, row: usize, index: usize) -> TokenAt
+    requires { ⌜ row + 16 ≤ length (now rows) ⌝ }
+    ensures { λ r. ⌜ TokenAtRow (now (rows .entry)) lead row index r ⌝ }
+{
+    let found = row_at(rows, row);
+    TokenAt {
+        kind: found.kind,
+        start: found.start as usize,
+        end: found.end as usize,
+        index,
+        lead,
+        behind: row + ROW_BYTES,
+    }
+}

@@ -1,0 +1,143 @@
+// `push_token`: leading trivia, the arm, trailing trivia, the state of `fn`.
+use format::formatter::Formatter;
+use format::formatter::TokenAt;
+use rows::ROW_BYTES;
+use rows::kinds;
+ghost use mathlib.Core.Bool.{false};
+ghost use mathlib.Core.List.{List};
+ghost use mathlib.Core.Option.{some};
+ghost use mathlib.Core.Path.{_≡_};
+ghost use Prim.Native.Nat.{ℕ, _+_, _-_, _<_};
+ghost use lib.ListN.{length};
+ghost use Rattle.rows.specs.Token.{Token};
+ghost use Rattle.push_token.specs.Formatter.{setTooDeep};
+ghost use Rattle.push_token.specs.Act.{update};
+ghost use Rattle.push_token.specs.PushToken.{takeInlineClose, arm, overflows, pushToken};
+ghost use Rattle.format.specs.Pen.{Held, Roomy, StackRoom, Names, Ahead, Stands, optionsOf, formatterOf, on};
+ghost use Rattle.format.specs.Trivia.{Part, triviaIn};
+ghost use Rattle.format.specs.Does.{Does};
+ghost use Rattle.walk.specs.Walk.{TokenRows, Trivial, endToken, rowCount};
+
+// The rows from `token.lead` on are its leading rows, its own, and trailing ones up to `next`.
+pub fn push_token(
+    f: Formatter,
+    out: &mut [u8],
+    stack: &mut [u32],
+    rows: &[u8],
+    text: &[u8],
+    token: TokenAt,
+    next: usize,
+) -> Formatter
+    requires { ⌜ Roomy f ⌝ }
+    requires { ⌜ StackRoom f (now stack) ⌝ }
+    requires { ⌜ TokenRows token (now rows) (now text) next ⌝ }
+    ensures { λ r. ⌜ ((t : Token) (ts : List Token) → Stands token (now (rows .entry)) (now (text .entry)) t ts → Trivial token next (now (rows .entry)) (now (text .entry)) t → Does (λ o. pushToken o (token .index) t ts) (on f (now (stack .entry)) (now (out .entry))) (on r (now (stack .exit)) (now (out .exit)))) ⌝ }
+{
+    let lead = token.lead;
+    let behind = token.behind;
+    let row = behind - ROW_BYTES;
+    let led = f.push_leading(out, rows, text, lead, row);
+    let taken = take_inline_close(led, lead == row);
+    if overflows(taken, rows, token) {
+        return refuse(taken, token);
+    }
+    let armed = arm(taken, out, stack, rows, text, token);
+    end_token(armed, out, rows, text, token, next)
+}
+
+// The mark of a one-line block's `}`; where trivia was seen it stays.
+fn take_inline_close(mut f: Formatter, bare: bool) -> Formatter
+    ensures does { λ r. ⌜ ((s l : List ℕ) → Does (λ o. update (takeInlineClose bare)) (on f s l) (on r s l)) ⌝ }
+    ensures held { λ r. ⌜ Held f r ⌝ }
+{
+    f.returned = false;
+    if bare {
+        let closed = f.just_closed_inline;
+        f.inline_close = closed;
+        f.just_closed_inline = false;
+        return f;
+    }
+    f.inline_close = false;
+    f
+}
+
+// Refusal 4: the stack is full, and the token would open one more broken list.
+fn overflows(f: Formatter, rows: &[u8], token: TokenAt) -> bool
+    requires { ⌜ Ahead token (now rows) ⌝ }
+    ensures { λ r. ⌜ ((s text : List ℕ) (t : Token) (ts : List Token) → Stands token (now (rows .entry)) text t ts → r ≡ overflows (optionsOf (f .options)) t ts (formatterOf f s)) ⌝ }
+{
+    if f.break_count < 64 {
+        return false;
+    }
+    let kind = token.kind;
+    if kind == kinds::LEFT_PAREN {
+        if f.at_signature() {
+            return false;
+        }
+        return f.breaks_list(rows, token);
+    }
+    if kind == kinds::LEFT_BRACKET {
+        return f.breaks_list(rows, token);
+    }
+    false
+}
+
+fn refuse(mut f: Formatter, token: TokenAt) -> Formatter
+    requires { ⌜ token .index < 4294967296 ⌝ }
+    ensures { λ r. ⌜ ((s l : List ℕ) → Does (λ o. update (setTooDeep (some (token .index)))) (on f s l) (on r s l)) ⌝ }
+{
+    let index = token.index;
+    f.too_deep = index + 1;
+    f
+}
+
+// The arm of the token's kind.
+fn arm(
+    f: Formatter,
+    out: &mut [u8],
+    stack: &mut [u32],
+    rows: &[u8],
+    text: &[u8],
+    token: TokenAt,
+) -> Formatter
+    requires { ⌜ Roomy f ⌝ }
+    requires { ⌜ StackRoom f (now stack) ⌝ }
+    requires { ⌜ (Names token (now text)) × (Ahead token (now rows)) ⌝ }
+    ensures { λ r. ⌜ ((t : Token) (ts : List Token) → Stands token (now (rows .entry)) (now (text .entry)) t ts → overflows (optionsOf (f .options)) t ts (formatterOf f (now (stack .entry))) ≡ false → Does (λ o. arm o (token .index) t ts) (on f (now (stack .entry)) (now (out .entry))) (on r (now (stack .exit)) (now (out .exit)))) ⌝ }
+{
+    let kind = token.kind;
+    match kind {
+        kinds::EOF => f,
+        kinds::NEWLINE => f.newline_arm(out, rows, token),
+        kinds::RIGHT_BRACE => f.right_brace_arm(out),
+        kinds::LEFT_BRACE => f.left_brace_arm(out, rows, text, token),
+        kinds::LEFT_PAREN => f.left_paren_arm(out, stack, rows, text, token),
+        kinds::LEFT_BRACKET => f.left_bracket_arm(out, stack, rows, text, token),
+        kinds::RIGHT_PAREN => f.right_paren_arm(out, stack, text, token),
+        kinds::RIGHT_BRACKET => f.right_bracket_arm(out, stack, text, token),
+        kinds::COMMA => f.comma_arm(out, stack, text, token),
+        kinds::ELSE => f.else_arm(out, text, token),
+        _ => f.other_arm(out, text, token),
+    }
+}
+
+// The trailing trivia, unless the arm returned early, and the state of `fn`.
+fn end_token(
+    f: Formatter,
+    out: &mut [u8],
+    rows: &[u8],
+    text: &[u8],
+    token: TokenAt,
+    next: usize,
+) -> Formatter
+    requires { ⌜ Part (now rows) (now text) (token .behind) next ⌝ }
+    ensures { λ r. ⌜ ((s : List ℕ) → Does (λ o. endToken (token .kind) (triviaIn (now (rows .entry)) (now (text .entry)) (token .behind) (rowCount (token .behind) next))) (on f s (now (out .entry))) (on r s (now (out .exit)))) ⌝ }
+{
+    let kind = token.kind;
+    let behind = token.behind;
+    if f.returned {
+        return f.track_fn_state(kind);
+    }
+    let trailed = f.push_trailing(out, rows, text, behind, next);
+    trailed.track_fn_state(kind)
+}
