@@ -1,0 +1,154 @@
+-- The layout's answer, from the checks and the walk. Assumes nothing.
+use mathlib.Core.Bool.{Bool, true, false, cond, _||_}
+use mathlib.Core.List.{List, [], _∷_, _++_}
+use mathlib.Core.Option.{Option, none, some}
+use mathlib.Core.Path.{_≡_, refl, sym, ap, subst, _∙_}
+use Prim.Native.Nat.{ℕ, _+_, _%_, _/_, _≤_}
+use native.Mathlib.Omega.{arith}
+use lib.Dec.{eqb, ltb}
+use lib.ListN.{length, drop, replicate}
+use borrow.Author.Tests.{eqb-true}
+use Rattle.report.specs.Report.{Report, success, refuse, zeroed, option, raggedRows, badRow, deep, full}
+use Rattle.report.proofs.Logic.{split, impossible}
+use Rattle.rows.specs.Row.{rowsOf}
+use Rattle.rows.specs.Options.{Options, optionsOf, badOption, orElse}
+use Rattle.rows.specs.Checks.{ragged, atStart, badFrom}
+use Rattle.rows.specs.Answer.{refuseOr, eachRowReport, rowsReport, checkReport}
+use Rattle.rows.specs.Token.{Token, tokensOf}
+use Rattle.rows.proofs.Passed.{Passed, passed, whole-rows, few-rows}
+use Rattle.push_token.specs.Act.{State, run}
+use Rattle.push_token.specs.Emit.{isSome}
+use Rattle.push_token.specs.PushToken.{turn, begun}
+use Rattle.push_token.specs.Plain.{plain}
+use Rattle.push_token.specs.Layout.{Layout, bit, Ended, finished, stopped, checked, andThen, layFrom, lay, laidOut, unless, layout}
+use Rattle.format.specs.declared.formatter.Formatter.{Formatter}
+use Rattle.format.specs.declared.formatter.Options as Declared
+use Rattle.format.specs.Pen
+use Rattle.format.specs.Pen.{on}
+use Rattle.walk.specs.declared.Walked.{Walked}
+use Rattle.walk.specs.declared.Walked.the-variants.{Finished, Deep, Full}
+use Rattle.walk.specs.Walk.{Walks, walkedOf, Laid}
+use Rattle.format_tokens.specs.Answer.{afterChecks}
+
+-- ---- the checks
+
+module _ (style indent signature list : ℕ) (rows text out : List ℕ) where
+  pub refused-layout : (checkReport style indent signature list rows (length text) .refusal ≡ 0 → ⊥)
+      → layout style indent signature list rows text out ≡ record { report = checkReport style indent signature list rows (length text); out = out }
+  unfolding layout checkReport rowsReport eachRowReport
+  refused-layout n = options (badOption style indent signature list) (ragged rows) (badFrom (length text) atStart 0 (rowsOf rows)) n
+    where
+      options : (a : Option ℕ) (b : Bool) (c : Option ℕ)
+          → (refuseOr option a (cond b (refuse raggedRows 0) (refuseOr badRow c (success 0 0 0))) .refusal ≡ 0 → ⊥)
+          → unless option a out (unless raggedRows (orElse b 0 none) out (unless badRow c out (afterChecks (optionsOf style indent signature list) rows text out)))
+          ≡ record { report = refuseOr option a (cond b (refuse raggedRows 0) (refuseOr badRow c (success 0 0 0))); out = out }
+      options (some i) b c n = refl
+      options none true c n = refl
+      options none false (some i) n = refl
+      options none false none n = absurd (n refl)
+
+  module _ (π : Passed style indent signature list rows (length text)) where
+    pub passed-layout : layout style indent signature list rows text out ≡ afterChecks (optionsOf style indent signature list) rows text out
+    unfolding layout
+    passed-layout = rw (π .options, π .even, π .each)
+
+    pub passed-walks : Walks rows text
+    passed-walks = record { whole = let w = whole-rows π in omega arith; few = few-rows π; good = π .each }
+
+-- ---- the walk's end: 4 and 5 are the only refusals
+
+abbrev pub sane : Ended → Bool
+sane (finished s) = true
+sane (stopped n i) = eqb n deep || eqb n full
+
+sane-then : (e : Ended) (f : State → Ended) → ((s : State) → sane (f s) ≡ true) → sane e ≡ true → sane (andThen e f) ≡ true
+sane-then (finished s) f g h = g s
+sane-then (stopped n i) f g h = h
+
+sane-checked : (size i : ℕ) (s : State) → sane (checked size i s) ≡ true
+sane-checked size i s =
+    split (ltb size (length (s .out)))
+    (λ e. rw e)
+    (λ e. split (isSome (s .formatter .tooDeep)) (λ d. rw (e, d)) (λ d. rw (e, d)))
+
+sane-lay : (o : Options) (size : ℕ) (e : Ended) (i : ℕ) (ts : List Token) → sane e ≡ true → sane (layFrom o size e i ts) ≡ true
+unfolding layFrom
+sane-lay o size e i [] h = h
+sane-lay o size e i (t ∷ ts) h =
+    sane-lay o size (andThen e (λ s. checked size i (run (turn o i t ts) s))) (i + 1) ts
+    (sane-then e (λ s. checked size i (run (turn o i t ts) s)) (λ s. sane-checked size i (run (turn o i t ts) s)) h)
+
+pub record Answers (e : Ended) (mark : Bool) (out : List ℕ) (report : Report) (after : List ℕ) : Type 0 where
+  pub answer : report ≡ laidOut e mark out .report
+  pub output : after ≡ laidOut e mark out .out
+
+pub finished-answers : (e : Ended) (mark : Bool) (out : List ℕ) {n c : ℕ} {m : List ℕ} → Finished n c ≡ walkedOf e → ((s : State) → e ≡ finished s → m ≡ s .out ++ drop (length (s .out)) out) → Answers e mark out (success n c (bit mark)) m
+finished-answers (finished s) mark out w f =
+    let a = size-of w in
+    let b = commas-of w in
+    record { answer = rw (a, b); output = f s refl }
+  where
+    size-of : {n c k d : ℕ} → Finished n c ≡ Finished k d → n ≡ k
+    size-of e = cc
+
+    commas-of : {n c k d : ℕ} → Finished n c ≡ Finished k d → c ≡ d
+    commas-of e = cc
+finished-answers (stopped k i) mark out w f =
+    split (eqb k deep)
+    (λ d. let y : _≡_ {A = ℕ} 0 1 = cc (rw d at w) in absurd (omega arith))
+    (λ d. let y : _≡_ {A = ℕ} 0 1 = cc (rw d at w) in absurd (omega arith))
+
+pub deep-answers : (e : Ended) (mark : Bool) (out : List ℕ) {i : ℕ} → sane e ≡ true → Deep i ≡ walkedOf e → Answers e mark out (refuse deep i) (zeroed out)
+deep-answers (finished s) mark out h w = let y : _≡_ {A = ℕ} 0 1 = cc in absurd (omega arith)
+deep-answers (stopped k i) mark out h w =
+    split (eqb k deep)
+    (λ d. let e = eqb-true k deep d in let p = place-of (rw d at w) in record { answer = rw (e, p); output = refl })
+    (λ d. let y : _≡_ {A = ℕ} 0 1 = cc (rw d at w) in absurd (omega arith))
+  where
+    place-of : {i j : ℕ} → Deep i ≡ Deep j → i ≡ j
+    place-of e = cc
+
+pub full-answers : (e : Ended) (mark : Bool) (out : List ℕ) {i : ℕ} → sane e ≡ true → Full i ≡ walkedOf e → Answers e mark out (refuse full i) (zeroed out)
+full-answers (finished s) mark out h w = let y : _≡_ {A = ℕ} 0 1 = cc in absurd (omega arith)
+full-answers (stopped k i) mark out h w =
+    split (eqb k deep)
+    (λ d. let y : _≡_ {A = ℕ} 0 1 = cc (rw d at w) in absurd (omega arith))
+    (λ d. let e : k ≡ full = eqb-true k full (rw d at h) in let p = place-of (rw d at w) in record { answer = rw (e, p); output = refl })
+  where
+    place-of : {i j : ℕ} → Full i ≡ Full j → i ≡ j
+    place-of e = cc
+
+pub lay-sane : (o : Options) (size : ℕ) (ts : List Token) → sane (lay o size ts) ≡ true
+lay-sane o size ts = sane-lay o size (finished begun) 0 ts refl
+
+-- ---- the code's walk
+
+module _ (rows text out : List ℕ) {f : Formatter} {stack : List ℕ} {o : Declared.Options} (e : f .options ≡ o) {r : Walked} {m : List ℕ} (λ₀ : Laid rows text (on f stack out) r m) where
+  held : {report : Report} {after : List ℕ} → Answers (lay (Pen.optionsOf (f .options)) (length out) (tokensOf rows text)) (plain (tokensOf rows text)) out report after → Answers (lay (Pen.optionsOf o) (length out) (tokensOf rows text)) (plain (tokensOf rows text)) out report after
+  held {report} {after} α = subst (λ x. Answers (lay (Pen.optionsOf x) (length out) (tokensOf rows text)) (plain (tokensOf rows text)) out report after) e α
+
+  pub text-answers : {n c : ℕ} {mark : Bool} → r ≡ Finished n c → mark ≡ plain (tokensOf rows text) → Answers (lay (Pen.optionsOf o) (length out) (tokensOf rows text)) (plain (tokensOf rows text)) out (success n c (bit mark)) m
+  text-answers {n} {c} q k =
+      subst (λ b. Answers (lay (Pen.optionsOf o) (length out) (tokensOf rows text)) (plain (tokensOf rows text)) out (success n c (bit b)) m) (sym k)
+      (held (finished-answers (lay (Pen.optionsOf (f .options)) (length out) (tokensOf rows text)) (plain (tokensOf rows text)) out (sym q ∙ λ₀ .answer) (λ₀ .output)))
+
+  zeroes : {m′ : List ℕ} → m′ ≡ zeroed m → m′ ≡ zeroed out
+  zeroes z = z ∙ ap (λ n. replicate n 0) (λ₀ .size)
+
+  pub deep-out : {i : ℕ} {m′ : List ℕ} → r ≡ Deep i → m′ ≡ zeroed m → Answers (lay (Pen.optionsOf o) (length out) (tokensOf rows text)) (plain (tokensOf rows text)) out (refuse deep i) m′
+  deep-out {i} q z =
+      subst (λ l. Answers (lay (Pen.optionsOf o) (length out) (tokensOf rows text)) (plain (tokensOf rows text)) out (refuse deep i) l) (sym (zeroes z))
+      (held (deep-answers (lay (Pen.optionsOf (f .options)) (length out) (tokensOf rows text)) (plain (tokensOf rows text)) out (lay-sane (Pen.optionsOf (f .options)) (length out) (tokensOf rows text)) (sym q ∙ λ₀ .answer)))
+
+  pub full-out : {i : ℕ} {m′ : List ℕ} → r ≡ Full i → m′ ≡ zeroed m → Answers (lay (Pen.optionsOf o) (length out) (tokensOf rows text)) (plain (tokensOf rows text)) out (refuse full i) m′
+  full-out {i} q z =
+      subst (λ l. Answers (lay (Pen.optionsOf o) (length out) (tokensOf rows text)) (plain (tokensOf rows text)) out (refuse full i) l) (sym (zeroes z))
+      (held (full-answers (lay (Pen.optionsOf (f .options)) (length out) (tokensOf rows text)) (plain (tokensOf rows text)) out (lay-sane (Pen.optionsOf (f .options)) (length out) (tokensOf rows text)) (sym q ∙ λ₀ .answer)))
+
+-- ---- the code's checks
+
+pub refused-answers : (style indent signature list : ℕ) (rows text out : List ℕ) (rep : Report) → rep ≡ checkReport style indent signature list rows (length text) → (rep .refusal ≡ 0 → ⊥)
+    → (rep ≡ layout style indent signature list rows text out .report) × (out ≡ layout style indent signature list rows text out .out)
+refused-answers style indent signature list rows text out rep e n =
+    let l = refused-layout style indent signature list rows text out (λ z. n (ap (λ x. x .refusal) e ∙ z)) in
+    (e ∙ ap (λ x. x .report) (sym l), ap (λ x. x .out) (sym l))

@@ -1,0 +1,136 @@
+// The layout of rl source text (document 01): token rows in, text out.
+use format::formatter::Before;
+use format::formatter::BraceStyle;
+use format::formatter::Formatter;
+use format::formatter::GroupDepth;
+use format::formatter::InlineDepth;
+use format::formatter::NewlineAt;
+use format::formatter::Options;
+use format::formatter::Prev;
+use format::formatter::RecordDepth;
+use format::formatter::SignatureDepth;
+use format::formatter::Suppressed;
+use plain::plain_mark;
+use report::clear_bytes;
+use rows::Checked;
+use rows::check;
+use walk::Walked;
+use walk::walk;
+ghost use mathlib.Core.List.{List};
+ghost use mathlib.Core.Path.{_≡_};
+ghost use Prim.Native.Nat.{ℕ, _≤_};
+ghost use lib.ListN.{length};
+ghost use Rattle.rows.specs.Options;
+ghost use Rattle.push_token.specs.Layout.{layout};
+ghost use Rattle.format.specs.Pen.{optionsOf};
+ghost use Rattle.walk.specs.Walk.{Walks, Fresh};
+ghost use Rattle.format_tokens.specs.Answer.{reported, afterChecks};
+
+// What a layout answers: length, inserted commas and plain, or a refusal with its place.
+pub enum Answer {
+    Text(usize, usize, bool),
+    BadOption(usize),
+    RaggedRows,
+    BadRow(usize),
+    Deep(usize),
+    Full(usize),
+}
+
+// Lays out the tokens that `rows` name in `text`; the text goes first into `out`. Style 0 is SameLine, 1 Allman.
+pub fn format_tokens_with(
+    style: u32,
+    indent_width: u32,
+    signature_width: u32,
+    list_width: u32,
+    rows: &[u8],
+    text: &[u8],
+    out: &mut [u8],
+) -> Answer
+    ensures answer { λ r. ⌜ reported r ≡ layout style «indent_width» «signature_width» «list_width» (now (rows .entry)) (now (text .entry)) (now (out .entry)) .report ⌝ }
+    ensures output { λ r. ⌜ now (out .exit) ≡ layout style «indent_width» «signature_width» «list_width» (now (rows .entry)) (now (text .entry)) (now (out .entry)) .out ⌝ }
+{
+    match check(style, indent_width, signature_width, list_width, rows, text) {
+        Checked::BadOption(place) => Answer::BadOption(place),
+        Checked::Ragged => Answer::RaggedRows,
+        Checked::BadRow(place) => Answer::BadRow(place),
+        Checked::Good => lay_out(
+            options_of(style, indent_width, signature_width, list_width),
+            rows,
+            text,
+            out,
+        ),
+    }
+}
+
+// The walk over checked rows, and the plain mark; after refusals 4 and 5 every place of the output is 0.
+fn lay_out(options: Options, rows: &[u8], text: &[u8], out: &mut [u8]) -> Answer
+    requires { ⌜ Walks (now rows) (now text) ⌝ }
+    ensures answer { λ r. ⌜ reported r ≡ afterChecks (optionsOf options) (now (rows .entry)) (now (text .entry)) (now (out .entry)) .report ⌝ }
+    ensures output { λ r. ⌜ now (out .exit) ≡ afterChecks (optionsOf options) (now (rows .entry)) (now (text .entry)) (now (out .entry)) .out ⌝ }
+{
+    let mut stack = [0; 64];
+    match walk(formatter(options), out, &mut stack, rows, text) {
+        Walked::Finished(len, commas) => Answer::Text(len, commas, plain_mark(rows, text)),
+        Walked::Deep(index) => {
+            clear_bytes(out);
+            Answer::Deep(index)
+        }
+        Walked::Full(index) => {
+            clear_bytes(out);
+            Answer::Full(index)
+        }
+    }
+}
+
+fn options_of(style: u32, indent_width: u32, signature_width: u32, list_width: u32) -> Options
+    ensures { λ r. ⌜ optionsOf r ≡ Rattle.rows.specs.Options.optionsOf style «indent_width» «signature_width» «list_width» ⌝ }
+{
+    if style == 0 {
+        return Options {
+            indent_width,
+            fn_sig_width: signature_width,
+            list_width,
+            brace_style: BraceStyle::SameLine,
+        };
+    }
+    Options {
+        indent_width,
+        fn_sig_width: signature_width,
+        list_width,
+        brace_style: BraceStyle::Allman,
+    }
+}
+
+// `Formatter::new`
+fn formatter(options: Options) -> Formatter
+    ensures fresh { λ r. ⌜ ((stack : List ℕ) → 64 ≤ length stack → Fresh r stack) ⌝ }
+    ensures options { λ r. ⌜ r .options ≡ options ⌝ }
+{
+    Formatter {
+        len: 0,
+        options,
+        indent: 0,
+        prev: Before {
+            kind: Prev::Nothing,
+        },
+        at_line_start: true,
+        prev_minus_is_unary: false,
+        group_depth: GroupDepth(0),
+        inline_depth: InlineDepth(0),
+        record_depth: RecordDepth(0),
+        sig_break_depth: SignatureDepth(0),
+        suppress_newline_at: Suppressed {
+            at: NewlineAt::Never,
+        },
+        break_count: 0,
+        commas: 0,
+        too_deep: 0,
+        fn_state: 0,
+        in_record: false,
+        record_pending: false,
+        just_closed_inline: false,
+        inline_close: false,
+        returned: false,
+        skip_next: false,
+    }
+}
