@@ -158,4 +158,5 @@ def main():
         print("%d lists: the Rust's texts, by the definition; %d bear the plain mark" % (compared, marks), flush=True)
 
 
-main()
+if __name__ == "__main__":
+    main()
