@@ -5,9 +5,25 @@ use crate::fill::success;
 use crate::refusals;
 ghost use mathlib.Core.Path.{_≡_};
 ghost use Rattle.doors.specs.Bytes.{reportOf};
+ghost use Rattle.format_tokens.specs.Answer.{reported as layoutReported};
 ghost use Rattle.sheet.specs.Answer.{reported as sheetReported};
 ghost use Rattle.pieces.specs.Answer.{reported as piecesReported};
 ghost use Rattle.lookahead.specs.Answer.{reported as spaceReported};
+
+pub fn of_layout(answer: format_tokens::Answer) -> Report
+    ensures { λ r. ⌜ reportOf r ≡ layoutReported answer ⌝ }
+{
+    match answer {
+        format_tokens::Answer::Text(len, commas, plain) => {
+            success(len as u64, commas as u64, plain as u64)
+        }
+        format_tokens::Answer::BadOption(place) => refuse(refusals::OPTION, place),
+        format_tokens::Answer::RaggedRows => refuse(refusals::RAGGED_ROWS, 0),
+        format_tokens::Answer::BadRow(row) => refuse(refusals::BAD_ROW, row),
+        format_tokens::Answer::Deep(index) => refuse(refusals::DEEP, index),
+        format_tokens::Answer::Full(index) => refuse(refusals::FULL, index),
+    }
+}
 
 pub fn of_sheet(answer: sheet::Answer) -> Report
     ensures { λ r. ⌜ reportOf r ≡ sheetReported answer ⌝ }

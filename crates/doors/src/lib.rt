@@ -1,11 +1,13 @@
 // The C doors (document 01, 'Around the call'): each returns the refusal or 0, and fills a 24-byte report.
 use crate::fill::REPORT_BYTES;
 use crate::fill::put_report;
+use format_tokens::format_tokens_with;
 use lookahead::needs_space;
 use pieces::read_pieces;
 use sheet::read_sheet;
 ghost use mathlib.Core.Path.{_≡_};
 ghost use lib.ListN.{length};
+ghost use Rattle.push_token.specs.Layout.{layout};
 ghost use Rattle.sheet.specs.Answer.{sheetAnswer, sheetRows, sheetText};
 ghost use Rattle.pieces.specs.Answer.{readAnswer, readSlots};
 ghost use Rattle.lookahead.specs.Answer.{spaceReport};
@@ -14,6 +16,37 @@ ghost use Rattle.doors.specs.Door.{doorRefusal, doorReport, doorSlice};
 mod answers;
 mod fill;
 mod refusals;
+
+// Lays out the tokens that `rows` name in `text` (style 0 SameLine, 1 Allman). Reports the length, the inserted commas and plain.
+#[no_mangle]
+pub extern "C" fn rl_layout(
+    style: u32,
+    indent_width: u32,
+    signature_width: u32,
+    list_width: u32,
+    rows: &[u8],
+    text: &[u8],
+    out: &mut [u8],
+    report: &mut [u8],
+) -> u32
+    ensures refusal { λ r. ⌜ r ≡ doorRefusal (now (report .entry)) (layout style «indent_width» «signature_width» «list_width» (now (rows .entry)) (now (text .entry)) (now (out .entry)) .report) ⌝ }
+    ensures report { λ r. ⌜ now (report .exit) ≡ doorReport (now (report .entry)) (layout style «indent_width» «signature_width» «list_width» (now (rows .entry)) (now (text .entry)) (now (out .entry)) .report) ⌝ }
+    ensures out { λ r. ⌜ now (out .exit) ≡ doorSlice (now (report .entry)) (now (out .entry)) (layout style «indent_width» «signature_width» «list_width» (now (rows .entry)) (now (text .entry)) (now (out .entry)) .out) ⌝ }
+{
+    if report.len() != REPORT_BYTES {
+        return refusals::REPORT;
+    }
+    let laid = format_tokens_with(
+        style,
+        indent_width,
+        signature_width,
+        list_width,
+        rows,
+        text,
+        out,
+    );
+    put_report(report, answers::of_layout(laid))
+}
 
 // Reads `sheet` into rows and their texts. Reports the rows, the texts' bytes and 0.
 #[no_mangle]

@@ -1,5 +1,13 @@
 // The refusals' numbers in document 01's table, as in crates/report/specs/Report.antt.
+pub const OPTION: u32 = 1;
+
+pub const RAGGED_ROWS: u32 = 2;
+
 pub const BAD_ROW: u32 = 3;
+
+pub const DEEP: u32 = 4;
+
+pub const FULL: u32 = 5;
 
 pub const NO_NAMES: u32 = 6;
 
