@@ -45,7 +45,7 @@ pub fn format_and_read_back(
     ReadBack { laid, read }
 }
 
-// Reads the text that a layout left in `out`.
+// Reads the text that a layout left in `out`; after a refusal, nothing.
 fn read_laid(laid: format_tokens::Answer, out: &[u8], pieces: &mut [u32]) -> pieces::Answer
     requires { ⌜ Fits (seen laid (now out)) ⌝ }
     ensures answer { λ r. ⌜ Read.reported r ≡ readBackAnswer (seen laid (now (out .entry))) (length (now (pieces .entry))) ⌝ }

@@ -8,7 +8,7 @@ format-tokens-with-requires : tie.Need-format-tokens-with-requires
 format-tokens-with-requires c κs = search needs
 
 read-laid-requires : tie.Need-read-laid-requires
-read-laid-requires c κs = let a = c .before .before .before .before .before .before .before .before .before .before .args in let e = c .before .before .before .before .format-tokens-with .ensures in seen-fits (a .style) (a .indent-width) (a .signature-width) (a .list-width) (a .rows .now) (a .text .now) (a .out .now) (c .before .before .before .before .format-tokens-with .result) (e .0) (e .1)
+read-laid-requires c κs = search (needs, seen-fits)
 
 same-length : tie.Need-same-length
 same-length c = search needs

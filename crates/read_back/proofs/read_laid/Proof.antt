@@ -1,5 +1,4 @@
 -- `read_back::read_laid` meets its contract. Assumes nothing.
-use mathlib.Core.Path.{sym}
 use lib.Seq.{length-take-le}
 use borrow.Author.Needs.{needs}
 use Rattle.read_back.specs.ReadBack.{readBackAnswer, readBackSlots}
@@ -15,7 +14,7 @@ unfolding readBackAnswer readBackSlots
 returns c = let a = refused (c .before .before .before .args .laid) (c .match .keys2) in (rw a, rw a)
 
 slice-aggregate-read-pieces : tie.Need-slice-aggregate-read-pieces
-slice-aggregate-read-pieces c = sym (length-take-le _ _ (fits-text (c .before .before .before .before .before .before .args .out .now) (c .before .before .laid .given .1) (c .before .before .before .before .before .before .pre)))
+slice-aggregate-read-pieces c = search (needs, length-take-le, fits-text)
 
 read-pieces-requires : tie.Need-read-pieces-requires
 read-pieces-requires c κs = search needs
