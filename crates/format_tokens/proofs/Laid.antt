@@ -1,26 +1,25 @@
 -- The layout's answer, from the checks and the walk. Assumes nothing.
-use mathlib.Core.Bool.{Bool, true, false, cond, _||_}
-use mathlib.Core.List.{List, [], _∷_, _++_}
+use mathlib.Core.Bool.{Bool, true, false, cond}
+use mathlib.Core.List.{List, _++_}
 use mathlib.Core.Option.{Option, none, some}
 use mathlib.Core.Path.{_≡_, refl, sym, ap, subst, _∙_}
-use Prim.Native.Nat.{ℕ, _+_, _%_, _/_, _≤_}
+use Prim.Native.Nat.{ℕ}
 use native.Mathlib.Omega.{arith}
-use lib.Dec.{eqb, ltb}
+use lib.Dec.{eqb}
 use lib.ListN.{length, drop, replicate}
 use borrow.Author.Tests.{eqb-true}
 use Rattle.report.specs.Report.{Report, success, refuse, zeroed, option, raggedRows, badRow, deep, full}
-use Rattle.report.proofs.Logic.{split, impossible}
+use Rattle.report.proofs.Logic.{split}
 use Rattle.rows.specs.Row.{rowsOf}
-use Rattle.rows.specs.Options.{Options, optionsOf, badOption, orElse}
+use Rattle.rows.specs.Options.{optionsOf, badOption, orElse}
 use Rattle.rows.specs.Checks.{ragged, atStart, badFrom}
 use Rattle.rows.specs.Answer.{refuseOr, eachRowReport, rowsReport, checkReport}
-use Rattle.rows.specs.Token.{Token, tokensOf}
+use Rattle.rows.specs.Token.{tokensOf}
 use Rattle.rows.proofs.Passed.{Passed, passed, whole-rows, few-rows}
-use Rattle.push_token.specs.Act.{State, run}
-use Rattle.push_token.specs.Emit.{isSome}
-use Rattle.push_token.specs.PushToken.{turn, begun}
+use Rattle.push_token.specs.Act.{State}
 use Rattle.push_token.specs.Plain.{plain}
-use Rattle.push_token.specs.Layout.{Layout, bit, Ended, finished, stopped, checked, andThen, layFrom, lay, laidOut, unless, layout}
+use Rattle.push_token.specs.Layout.{Layout, bit, Ended, finished, stopped, lay, laidOut, unless, layout}
+use Rattle.push_token.proofs.Laid.{sane, lay-sane}
 use Rattle.format.specs.declared.formatter.Formatter.{Formatter}
 use Rattle.format.specs.declared.formatter.Options as Declared
 use Rattle.format.specs.Pen
@@ -55,28 +54,7 @@ module _ (style indent signature list : ℕ) (rows text out : List ℕ) where
     pub passed-walks : Walks rows text
     passed-walks = record { whole = let w = whole-rows π in omega arith; few = few-rows π; good = π .each }
 
--- ---- the walk's end: 4 and 5 are the only refusals
-
-abbrev pub sane : Ended → Bool
-sane (finished s) = true
-sane (stopped n i) = eqb n deep || eqb n full
-
-sane-then : (e : Ended) (f : State → Ended) → ((s : State) → sane (f s) ≡ true) → sane e ≡ true → sane (andThen e f) ≡ true
-sane-then (finished s) f g h = g s
-sane-then (stopped n i) f g h = h
-
-sane-checked : (size i : ℕ) (s : State) → sane (checked size i s) ≡ true
-sane-checked size i s =
-    split (ltb size (length (s .out)))
-    (λ e. rw e)
-    (λ e. split (isSome (s .formatter .tooDeep)) (λ d. rw (e, d)) (λ d. rw (e, d)))
-
-sane-lay : (o : Options) (size : ℕ) (e : Ended) (i : ℕ) (ts : List Token) → sane e ≡ true → sane (layFrom o size e i ts) ≡ true
-unfolding layFrom
-sane-lay o size e i [] h = h
-sane-lay o size e i (t ∷ ts) h =
-    sane-lay o size (andThen e (λ s. checked size i (run (turn o i t ts) s))) (i + 1) ts
-    (sane-then e (λ s. checked size i (run (turn o i t ts) s)) (λ s. sane-checked size i (run (turn o i t ts) s)) h)
+-- ---- the walk's end
 
 pub record Answers (e : Ended) (mark : Bool) (out : List ℕ) (report : Report) (after : List ℕ) : Type 0 where
   pub answer : report ≡ laidOut e mark out .report
@@ -98,7 +76,7 @@ finished-answers (stopped k i) mark out w f =
     (λ d. let y : _≡_ {A = ℕ} 0 1 = cc (rw d at w) in absurd (omega arith))
     (λ d. let y : _≡_ {A = ℕ} 0 1 = cc (rw d at w) in absurd (omega arith))
 
-pub deep-answers : (e : Ended) (mark : Bool) (out : List ℕ) {i : ℕ} → sane e ≡ true → Deep i ≡ walkedOf e → Answers e mark out (refuse deep i) (zeroed out)
+pub deep-answers : (e : Ended) (mark : Bool) (out : List ℕ) {i : ℕ} → sane (length out) e ≡ true → Deep i ≡ walkedOf e → Answers e mark out (refuse deep i) (zeroed out)
 deep-answers (finished s) mark out h w = let y : _≡_ {A = ℕ} 0 1 = cc in absurd (omega arith)
 deep-answers (stopped k i) mark out h w =
     split (eqb k deep)
@@ -108,7 +86,7 @@ deep-answers (stopped k i) mark out h w =
     place-of : {i j : ℕ} → Deep i ≡ Deep j → i ≡ j
     place-of e = cc
 
-pub full-answers : (e : Ended) (mark : Bool) (out : List ℕ) {i : ℕ} → sane e ≡ true → Full i ≡ walkedOf e → Answers e mark out (refuse full i) (zeroed out)
+pub full-answers : (e : Ended) (mark : Bool) (out : List ℕ) {i : ℕ} → sane (length out) e ≡ true → Full i ≡ walkedOf e → Answers e mark out (refuse full i) (zeroed out)
 full-answers (finished s) mark out h w = let y : _≡_ {A = ℕ} 0 1 = cc in absurd (omega arith)
 full-answers (stopped k i) mark out h w =
     split (eqb k deep)
@@ -117,9 +95,6 @@ full-answers (stopped k i) mark out h w =
   where
     place-of : {i j : ℕ} → Full i ≡ Full j → i ≡ j
     place-of e = cc
-
-pub lay-sane : (o : Options) (size : ℕ) (ts : List Token) → sane (lay o size ts) ≡ true
-lay-sane o size ts = sane-lay o size (finished begun) 0 ts refl
 
 -- ---- the code's walk
 

@@ -6,6 +6,7 @@ pub mod Arms
 pub mod Braces
 pub mod Turn
 pub mod Walk
+pub mod Laid
 pub mod Demand3
 pub mod Cases
 pub mod Said
