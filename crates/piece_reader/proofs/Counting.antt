@@ -11,7 +11,7 @@ use Rattle.pieces.specs.Answer.{reported, answerFrom, readAnswer}
 use Rattle.pieces.specs.Reading.{Reading, done, refused, piece, reading, readFrom}
 use Rattle.pieces.specs.Next.{next}
 use Rattle.pieces.proofs.Resume.{First, next-first}
-use Rattle.piece_reader.specs.Walk.{endOf, pieceEnd, counted, countFrom, countAnswer}
+use Rattle.piece_reader.specs.Reader.{endOf, pieceEnd, counted, countFrom, countAnswer}
 
 -- n pieces were counted, and the text is read from `at` on
 pub record Counts (text : List ℕ) (at n : ℕ) : Type 0 where
@@ -27,27 +27,27 @@ first : (text : List ℕ) (at : ℕ) {s e : ℕ} {r : Reading} → readFrom text
 first text at h = next-first text at (sym (ap next h))
 
 module _ (text : List ℕ) (at n : ℕ) (σ : Counts text at n) where
-  abbrev End : Reading → ℕ
-  End r = endOf at (next r)
+  abbrev ending : Reading → ℕ
+  ending r = endOf at (next r)
 
   pub end-within : pieceEnd text at ≤ length text
   end-within = go (readFrom text at) refl
     where
       go : (r : Reading) → readFrom text at ≡ r → pieceEnd text at ≤ length text
-      go done h = omega (arith, σ .within, ap End h)
-      go (refused i) h = omega (arith, σ .within, ap End h)
-      go (piece s e r) h = omega (arith, first text at h .within, ap End h)
+      go done h = omega (arith, σ .within, ap ending h)
+      go (refused i) h = omega (arith, σ .within, ap ending h)
+      go (piece s e r) h = omega (arith, first text at h .within, ap ending h)
 
   pub more : at < pieceEnd text at → Counts text (pieceEnd text at) (n + 1)
   unfolding countFrom
   more less = go (readFrom text at) refl
     where
       go : (r : Reading) → readFrom text at ≡ r → Counts text (pieceEnd text at) (n + 1)
-      go done h = absurd (omega (arith, less, ap End h))
-      go (refused i) h = absurd (omega (arith, less, ap End h))
+      go done h = absurd (omega (arith, less, ap ending h))
+      go (refused i) h = absurd (omega (arith, less, ap ending h))
       go (piece s e r) h =
           let φ = first text at h in
-          subst (λ i. Counts text i (n + 1)) (sym (ap End h))
+          subst (λ i. Counts text i (n + 1)) (sym (ap ending h))
           (record { answer = σ .answer ∙ rw (φ .reads, add-one); few = omega (arith, σ .few, φ .after, φ .some); within = φ .within })
 
   pub over : (at < pieceEnd text at → ⊥) → reported (counted n (next (readFrom text at))) ≡ countAnswer text
@@ -57,7 +57,7 @@ module _ (text : List ℕ) (at n : ℕ) (σ : Counts text at n) where
       go : (r : Reading) → readFrom text at ≡ r → countFrom n (readFrom text at) ≡ reported (counted n (next (readFrom text at)))
       go done h = rw h
       go (refused i) h = rw h
-      go (piece s e r) h = let φ = first text at h in absurd (none (omega (arith, φ .after, φ .some, ap End h)))
+      go (piece s e r) h = let φ = first text at h in absurd (none (omega (arith, φ .after, φ .some, ap ending h)))
 
 -- n is at least what was counted already
 least : (r : Reading) (k n : ℕ) → countFrom k r ≡ success n 0 0 → k ≤ n

@@ -44,7 +44,7 @@ laws κs = R′.the-laws (namedLft 1 0 tt κs)
 -- A reader's fields, passed in their order.
 pub apart : {M : Type 1} (𝓤 : URA M) (H : Heap 𝓤) (A : Atoms 𝓤) (W : Given 𝓤 H A) (κs : Lfts 1) (d : PieceReader)
     → ent 𝓤 (sem 𝓤 H A (reader κs .own d (R′.lowered d ∷ [])))
-      (sem 𝓤 H A (owns (ShrSlice (named 0) (κs .0) u8 ∷ usize ∷ []) (d .text, (d .at, tt)) (sliceVal (d .text .ptr) (length (d .text .now)) ∷ [], (vint w64 (d .at) ∷ [], tt))))
+    (sem 𝓤 H A (owns (ShrSlice (named 0) (κs .0) u8 ∷ usize ∷ []) (d .text, (d .at, tt)) (sliceVal (d .text .ptr) (length (d .text .now)) ∷ [], (vint w64 (d .at) ∷ [], tt))))
 apart 𝓤 H A W κs d =
     qed W (‵ (reader κs .own d (R′.lowered d ∷ [])) ∷ []) ∵
     use1 W (given (R′.lowered d ∷ [] ≡ R′.lowered d ∷ []) (‵ (all-own (type κs .parts) (laws κs) (d .text, (d .at, tt))))) (own-open 𝓤 H A W (type κs) (laws κs) (d .text, (d .at, tt)) (R′.lowered d)) $ learn ! (λ _. done !)

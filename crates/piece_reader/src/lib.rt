@@ -4,7 +4,7 @@ use pieces::Next;
 use pieces::next_piece;
 ghost use mathlib.Core.Path.{_≡_};
 ghost use Rattle.pieces.specs.Answer.{reported};
-ghost use Rattle.piece_reader.specs.Walk.{found, advanced, pieceEnd, counted, countAnswer};
+ghost use Rattle.piece_reader.specs.Reader.{found, advanced, pieceEnd, counted, countAnswer};
 
 // Counts the pieces of `text`, or says where it is unreadable.
 pub fn count_pieces(text: &[u8]) -> Answer
@@ -39,7 +39,10 @@ impl<'a> PieceReader<'a> {
     pub fn advance(self) -> PieceReader<'a>
         ensures { λ r. ⌜ r ≡ advanced (self .entry) ⌝ }
     {
-        PieceReader { text: self.text, at: piece_end(self.text, self.at) }
+        PieceReader {
+            text: self.text,
+            at: piece_end(self.text, self.at),
+        }
     }
 }
 

@@ -1,7 +1,7 @@
 -- `piece_reader::piece_end` meets its contract. Assumes nothing.
 use mathlib.Core.Path.{sym, ap, _∙_}
 use borrow.Author.Needs.{needs}
-use Rattle.piece_reader.specs.Walk.{endOf}
+use Rattle.piece_reader.specs.Reader.{endOf}
 use Rattle.piece_reader.proofs.piece_end.Statement.{statement}
 use Rattle.piece_reader.proofs.piece_end.Tie as tie
 

@@ -11,7 +11,7 @@ use base.Fml.{Lft, Share}
 use prog.Memory.{Memory}
 use prog.Routine.{Routine}
 use prog.Wp.{Heap, WpFn, Tables}
-use ghost.Atoms.{Atoms, sem}
+use ghost.Atoms.{Atoms}
 use contract.Monad.{Fun}
 use contract.Running.{givenOf, tables, tablesOf}
 use types.Kit.{Given, ‵, raw, ⋆, _$_, _∵_, !, qed, by, move, use1, join, fsplit, fjoin, suffices, frame, done}
@@ -38,7 +38,7 @@ use Rattle.pieces.proofs.next_piece as next-piece
 use Rattle.pieces.proofs.next_piece.Symbol as next-piece-def
 use Rattle.pieces.proofs.next_piece.Met as next-piece-thm
 use Rattle.pieces.specs.declared.Next.{Next}
-use Rattle.piece_reader.specs.Walk.{found}
+use Rattle.piece_reader.specs.Reader.{found}
 use Rattle.piece_reader.specs.declared.PieceReader.{PieceReader}
 use Rattle.piece_reader.proofs.Held.{reader, type, laws, apart, told}
 use Rattle.piece_reader.proofs.PieceReader.Laws.{lowered}
