@@ -1,5 +1,5 @@
 #!/usr/bin/env python3
-"""Makes crates/replay_pieces/stdin and stdout: texts, and what reading them back must answer.
+"""Makes crates/replay_pieces/stdin and stdout: texts, and what reading them back and counting must answer.
 
     python3 tests/make_replay_pieces.py
 
@@ -39,6 +39,11 @@ def read(text, slots):
             return (10, at), [0] * slots
         numbers += [at, found.end()]
         at = found.end()
+
+
+def count(text):
+    """What counting answers: reading, with space for a piece at each byte."""
+    return read(text, 2 * len(text))[0]
 
 
 def texts():
@@ -82,4 +87,4 @@ with open(os.path.join(FOLDER, "stdin"), "wb") as stdin, open(os.path.join(FOLDE
     for slots, text in cases():
         stdin.write(b"%03d %03d\n" % (slots, len(text)) + text + b"\n")
         (refusal, value), numbers = read(text, slots)
-        stdout.write("%d %d:%s\n" % (refusal, value, "".join(" %d" % n for n in numbers)))
+        stdout.write("%d %d, %d %d:%s\n" % (refusal, value, *count(text), "".join(" %d" % n for n in numbers)))

@@ -1,4 +1,4 @@
-// Reads stored texts back and writes each answer with the slice after it.
+// Reads stored texts back and writes each answer, the count of pieces and the slice after the call.
 // tests/make_replay_pieces.py makes the texts and, by its own reading of document 01, what is expected.
 use libc::STDIN_FILENO;
 use libc::STDOUT_FILENO;
@@ -67,6 +67,8 @@ fn read_back(text: &[u8], slots: usize) {
 
 fn read_into(text: &[u8], numbers: &mut [u32]) {
     print_answer(pieces::read_pieces(text, numbers));
+    io::write_all(STDOUT_FILENO, b", ");
+    print_answer(piece_reader::count_pieces(text));
     io::write_all(STDOUT_FILENO, b":");
     print_slots(numbers);
     io::write_all(STDOUT_FILENO, b"\n");

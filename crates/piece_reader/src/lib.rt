@@ -1,0 +1,69 @@
+// The reader of pieces (document 01, 'Reading back') in its reference form, and the number of a text's pieces.
+use pieces::Answer;
+use pieces::Next;
+use pieces::next_piece;
+ghost use mathlib.Core.Path.{_≡_};
+ghost use Rattle.pieces.specs.Answer.{reported};
+ghost use Rattle.piece_reader.specs.Reader.{found, advanced, pieceEnd, counted, countAnswer};
+
+// Counts the pieces of `text`, or says where it is unreadable.
+pub fn count_pieces(text: &[u8]) -> Answer
+    ensures { λ r. ⌜ reported r ≡ countAnswer (now (text .entry)) ⌝ }
+{
+    let mut reader = PieceReader { text, at: 0 };
+    let mut behind = reader.advance();
+    let mut n = 0;
+    while reader.at < behind.at {
+        reader = behind;
+        n += 1;
+        behind = reader.advance();
+    }
+    counted(n, reader.peek())
+}
+
+// A text, and the index of the next byte.
+pub struct PieceReader<'a> {
+    pub text: &'a [u8],
+    pub at: usize,
+}
+
+impl<'a> PieceReader<'a> {
+    // What stands next.
+    pub fn peek(self) -> Next
+        ensures { λ r. ⌜ r ≡ found (self .entry) ⌝ }
+    {
+        next_piece(self.text, self.at)
+    }
+
+    // The reader behind the next piece; where no piece is next, the same.
+    pub fn advance(self) -> PieceReader<'a>
+        ensures { λ r. ⌜ r ≡ advanced (self .entry) ⌝ }
+    {
+        PieceReader {
+            text: self.text,
+            at: piece_end(self.text, self.at),
+        }
+    }
+}
+
+// Where the next piece ends, or `at` where no piece is next.
+fn piece_end(text: &[u8], at: usize) -> usize
+    ensures { λ r. ⌜ r ≡ pieceEnd (now (text .entry)) at ⌝ }
+{
+    match next_piece(text, at) {
+        Next::Piece(_, end) => end,
+        Next::End => at,
+        Next::Unreadable(_) => at,
+    }
+}
+
+// The answer where `n` pieces were read and no further one is next.
+fn counted(n: usize, next: Next) -> Answer
+    ensures { λ r. ⌜ r ≡ counted n next ⌝ }
+{
+    match next {
+        Next::Piece(_, _) => Answer::Pieces(n),
+        Next::End => Answer::Pieces(n),
+        Next::Unreadable(i) => Answer::Unreadable(i),
+    }
+}
