@@ -98,7 +98,8 @@ fn put_first(line: &[u8], answer: Answer, out: &mut [u8]) -> Answer
     ensures answer { λ r. ⌜ reported r ≡ putFirst (now (line .entry) ++ lineFeed ∷ []) (record { report = reported answer; out = drop (length (now (line .entry)) + 1) (now (out .entry)) }) (now (out .entry)) .report ⌝ }
     ensures output { λ r. ⌜ now (out .exit) ≡ putFirst (now (line .entry) ++ lineFeed ∷ []) (record { report = reported answer; out = drop (length (now (line .entry)) + 1) (now (out .entry)) }) (now (out .entry)) .out ⌝ }
 {
-    if out.len() <= line.len() {
+    let start = line.len() + 1;
+    if out.len() < start {
         clear_bytes(out);
         return Answer::Full(0);
     }
@@ -107,7 +108,6 @@ fn put_first(line: &[u8], answer: Answer, out: &mut [u8]) -> Answer
         return answer;
     };
     put_line(line, out);
-    let start = line.len() + 1;
     let end = start + len;
     Answer::Text(end, commas, false)
 }

@@ -6,6 +6,9 @@ use Rattle.format_source.proofs.Behind.{no-text, no-room, refused, text
 use Rattle.format_source.proofs.put_first.Statement.{statement}
 use Rattle.format_source.proofs.put_first.Tie as tie
 
+add-start : tie.Need-add-start
+add-start c = search needs
+
 clear-bytes-requires : tie.Need-clear-bytes-requires
 clear-bytes-requires c κs = search needs
 
@@ -30,9 +33,6 @@ returns-2 c = let μ = refused (c .before .before .before .before .before .befor
 put-line-requires : tie.Need-put-line-requires
 put-line-requires c κs = search needs
 
-add-start : tie.Need-add-start
-add-start c = search needs
-
 add-end : tie.Need-add-end
 add-end c = let e = ap reported (c .before .before .before .before .before .answer .given .1) in let w = c .before .before .before .before .before .before .before .before .before .before .pre (ap (λ r. r .refusal) e) in let q = ap (λ r. r .first) e in search needs
 
@@ -46,6 +46,7 @@ pub put-first-spec : {M : Type 1} → statement M
 put-first-spec =
     tie.close
     (tie.spec
+    add-start
     clear-bytes-requires
     same-length
     returns
@@ -54,7 +55,6 @@ put-first-spec =
     same-length-2
     returns-2
     put-line-requires
-    add-start
     add-end
     same-length-3
     returns-3)
