@@ -11,6 +11,7 @@ ghost use Rattle.format_source.specs.Source.{lineFeed, firstLine, isSheb
 
 // Lays out the tokens that `rows` name in `text` with the default options: Allman, 4, 40, 40. Where the first line of
 // `source` begins `#!` and not `#![`, that line and a line feed come first: they count in the length, and plain is false.
+// Where they don't fit `out`, the answer is Full(0); a Deep or Full of the layout has the token's index, as without them.
 pub fn format_source_with_shebang(source: &[u8], rows: &[u8], text: &[u8], out: &mut [u8]) -> Answer
     ensures answer { λ r. ⌜ reported r ≡ layoutSource (now (source .entry)) (now (rows .entry)) (now (text .entry)) (now (out .entry)) .report ⌝ }
     ensures output { λ r. ⌜ now (out .exit) ≡ layoutSource (now (source .entry)) (now (rows .entry)) (now (text .entry)) (now (out .entry)) .out ⌝ }
@@ -112,6 +113,7 @@ fn put_first(line: &[u8], answer: Answer, out: &mut [u8]) -> Answer
     Answer::Text(end, commas, false)
 }
 
+// Writes the line and a line feed into the first places of `out`.
 fn put_line(line: &[u8], out: &mut [u8])
     requires { ⌜ length (now line) < length (now out) ⌝ }
     ensures { λ r. ⌜ now (out .exit) ≡ (now (line .entry) ++ lineFeed ∷ []) ++ drop (length (now (line .entry)) + 1) (now (out .entry)) ⌝ }
