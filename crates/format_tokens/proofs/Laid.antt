@@ -15,10 +15,10 @@ use Rattle.rows.specs.Options.{optionsOf, badOption, orElse}
 use Rattle.rows.specs.Checks.{ragged, atStart, badFrom}
 use Rattle.rows.specs.Answer.{refuseOr, eachRowReport, rowsReport, checkReport}
 use Rattle.rows.specs.Token.{tokensOf}
-use Rattle.rows.proofs.Passed.{Passed, passed, whole-rows, few-rows}
+use Rattle.rows.proofs.Passed.{Passed, whole-rows, few-rows}
 use Rattle.push_token.specs.Act.{State}
 use Rattle.push_token.specs.Plain.{plain}
-use Rattle.push_token.specs.Layout.{Layout, bit, Ended, finished, stopped, lay, laidOut, unless, layout}
+use Rattle.push_token.specs.Layout.{bit, Ended, finished, stopped, lay, laidOut, unless, layout}
 use Rattle.push_token.proofs.Laid.{sane, lay-sane}
 use Rattle.format.specs.declared.formatter.Formatter.{Formatter}
 use Rattle.format.specs.declared.formatter.Options as Declared

@@ -1,12 +1,12 @@
 -- What every layout call keeps to: its output's length, a text that fits, and which refusals leave the output unchanged. Assumes nothing.
-use mathlib.Core.Bool.{Bool, true, false, _||_}
-use mathlib.Core.List.{List, [], _∷_, _++_}
+use mathlib.Core.Bool.{Bool, true, _||_}
+use mathlib.Core.List.{List, [], _∷_}
 use mathlib.Core.Option.{Option, none, some}
 use mathlib.Core.Path.{_≡_, refl}
 use Prim.Native.Nat.{ℕ, _+_, _≤_, _<_}
 use native.Mathlib.Omega.{arith}
 use lib.Dec.{eqb, leb, ltb}
-use lib.ListN.{length, drop, length-append, length-drop, length-replicate}
+use lib.ListN.{length, length-append, length-drop, length-replicate}
 use borrow.Author.Tests.{ltb-false, leb-true, le-leb, eqb-true}
 use Rattle.report.specs.Report.{option, raggedRows, badRow, deep, full}
 use Rattle.report.proofs.Logic.{split, or-cases}

@@ -1,0 +1,76 @@
+-- `format_source::format_source_with_shebang` meets its contract. Assumes nothing.
+use mathlib.Core.Path.{sym, _∙_}
+use lib.Seq.{length-take-le}
+use borrow.Author.Needs.{needs}
+use Rattle.format_source.proofs.Behind.{within-source, without-line, rows-refused, text-fits, with-line}
+use Rattle.format_source.proofs.format_source_with_shebang.Statement.{statement}
+use Rattle.format_source.proofs.format_source_with_shebang.Tie as tie
+
+shebang-len-requires : tie.Need-shebang-len-requires
+shebang-len-requires c κs = search needs
+
+smaller-requires : tie.Need-smaller-requires
+smaller-requires c κs = search needs
+
+sub-format-tokens-with : tie.Need-sub-format-tokens-with
+sub-format-tokens-with c = search needs
+
+part-format-tokens-with-start : tie.Need-part-format-tokens-with-start
+part-format-tokens-with-start c = search needs
+
+part-format-tokens-with-end : tie.Need-part-format-tokens-with-end
+part-format-tokens-with-end c = search needs
+
+format-tokens-with-requires : tie.Need-format-tokens-with-requires
+format-tokens-with-requires c κs = search needs
+
+same-length : tie.Need-same-length
+same-length c = search needs
+
+returns : tie.Need-returns
+returns c = let μ = without-line (c .before .before .before .before .before .before .before .before .before .before .before .args .source .now) (c .before .before .before .before .before .before .before .before .before .before .before .args .rows .now) (c .before .before .before .before .before .before .before .before .before .before .before .args .text .now) (c .before .before .before .before .before .before .before .before .before .before .before .args .out .now) (c .before .before .before .before .before .before .shebang-len .ensures) (c .before .before .before .before .before .smaller .ensures) (record { answer = c .before .before .before .format-tokens-with .ensures .0; output = c .before .before .before .format-tokens-with .ensures .1 }) (c .if1 .taken) in (μ .answer, μ .output)
+
+before-walk-requires : tie.Need-before-walk-requires
+before-walk-requires c κs = search needs
+
+same-length-2 : tie.Need-same-length-2
+same-length-2 c = search needs
+
+returns-2 : tie.Need-returns-2
+returns-2 c = let μ = rows-refused (c .before .before .before .before .before .before .before .before .before .before .before .before .before .args .source .now) (c .before .before .before .before .before .before .before .before .before .before .before .before .before .args .rows .now) (c .before .before .before .before .before .before .before .before .before .before .before .before .before .args .text .now) (c .before .before .before .before .before .before .before .before .before .before .before .before .before .args .out .now) (c .before .before .before .before .before .before .before .before .shebang-len .ensures) (c .before .before .before .before .before .before .before .smaller .ensures) (record { answer = c .before .before .before .before .before .format-tokens-with .ensures .0; output = c .before .before .before .before .before .format-tokens-with .ensures .1 }) (c .before .before .if1 .left) (sym (c .before .before-walk .ensures) ∙ c .if2 .taken) in (μ .answer, μ .output)
+
+sub-end : tie.Need-sub-end
+sub-end c = search needs
+
+slice-aggregate-put-first : tie.Need-slice-aggregate-put-first
+slice-aggregate-put-first c = sym (length-take-le _ _ (within-source (c .before .before .before .before .before .before .before .before .before .before .before .before .before .before .args .source .now) (c .before .before .before .before .before .before .before .before .before .shebang-len .ensures) (c .before .before .before .if1 .left)))
+
+put-first-requires : tie.Need-put-first-requires
+put-first-requires c κs = text-fits (c .before .before .before .before .before .before .before .before .before .before .before .before .before .before .before .args .source .now) (c .before .before .before .before .before .before .before .before .before .before .before .before .before .before .before .args .rows .now) (c .before .before .before .before .before .before .before .before .before .before .before .before .before .before .before .args .text .now) (c .before .before .before .before .before .before .before .before .before .before .before .before .before .before .before .args .out .now) (c .before .before .before .before .before .before .before .before .before .before .shebang-len .ensures) (c .before .before .before .before .before .before .before .before .before .smaller .ensures) (record { answer = c .before .before .before .before .before .before .before .format-tokens-with .ensures .0; output = c .before .before .before .before .before .before .before .format-tokens-with .ensures .1 }) (c .before .before .before .before .if1 .left)
+
+same-length-3 : tie.Need-same-length-3
+same-length-3 c = search needs
+
+returns-3 : tie.Need-returns-3
+returns-3 c = let μ = with-line (c .before .before .before .before .before .before .before .before .before .before .before .before .before .before .before .before .before .before .args .source .now) (c .before .before .before .before .before .before .before .before .before .before .before .before .before .before .before .before .before .before .args .rows .now) (c .before .before .before .before .before .before .before .before .before .before .before .before .before .before .before .before .before .before .args .text .now) (c .before .before .before .before .before .before .before .before .before .before .before .before .before .before .before .before .before .before .args .out .now) (c .before .before .before .before .before .before .before .before .before .before .before .before .before .shebang-len .ensures) (c .before .before .before .before .before .before .before .before .before .before .before .before .smaller .ensures) (record { answer = c .before .before .before .before .before .before .before .before .before .before .format-tokens-with .ensures .0; output = c .before .before .before .before .before .before .before .before .before .before .format-tokens-with .ensures .1 }) (c .before .before .before .before .before .before .before .if1 .left) (sym (c .before .before .before .before .before .before .before-walk .ensures) ∙ c .before .before .before .before .before .if2 .left) (record { answer = c .before .before .put-first .ensures .0; output = c .before .before .put-first .ensures .1 }) in (μ .answer, μ .output)
+
+pub format-source-with-shebang-spec : {M : Type 1} → statement M
+format-source-with-shebang-spec =
+    tie.close
+    (tie.spec
+    shebang-len-requires
+    smaller-requires
+    sub-format-tokens-with
+    part-format-tokens-with-start
+    part-format-tokens-with-end
+    format-tokens-with-requires
+    same-length
+    returns
+    before-walk-requires
+    same-length-2
+    returns-2
+    sub-end
+    slice-aggregate-put-first
+    put-first-requires
+    same-length-3
+    returns-3)
