@@ -64,31 +64,39 @@ def plain(tokens):
         j = i - 1
         while j >= 0 and kinds[j] == 0:
             j -= 1
-        return kinds[i] == 2 and j >= 0 and kinds[j] == 8
+        return j >= 0 and kinds[j] == 8
     def empty_record(i):
         after = [j for j in range(i + 1, len(kinds)) if kinds[j] == 2]
-        return kinds[i] == 21 and bool(after) and after[0] + 1 < len(kinds) and kinds[after[0] + 1] == 3
+        return bool(after) and after[0] + 1 < len(kinds) and kinds[after[0] + 1] == 3
     return (all(not lead and not trail for _, _, lead, trail in tokens)
             and all(k not in FIXED or w == FIXED[k] for k, w in written) and all(all(c in OPERATOR for c in w) for k, w in written if k == 17)
             and all(whole(w) for _, w in written)
             and not any(v[-1:] and v[-1] in OPERATOR and w[:1] and w[0] in OPERATOR and (k in (12, 13, 14, 15, 16, 17, 18) or j in (12, 13, 14, 9)) for (k, v), (j, w) in pairs)
             and not any(v[:1].isdigit() and j == 12 for (_, v), (j, _) in pairs)
-            and not any(brace_after_comma(i) for i in range(len(kinds)))
-            and not any(empty_record(i) for i in range(len(kinds))))
+            and not any(brace_after_comma(i) for i, k in enumerate(kinds) if k == 2)
+            and not any(empty_record(i) for i, k in enumerate(kinds) if k == 21))
 
 
 # ---- both sides
 
-def rust(lists):
+def line(options, tokens):
+    """A list as the program `lay` reads it."""
+    words = [str(n) for n in options]
+    for kind, lexeme, lead, trail in tokens:
+        words += ["L%d:%s" % (k, c.hex()) for k, c in lead] + ["%d:%s" % (kind, lexeme.hex())] + ["R%d:%s" % (k, c.hex()) for k, c in trail]
+    return " ".join(words)
+
+
+def lay(lines, *words):
+    """What the program `lay`, run with these words, writes of each line."""
     subprocess.run(["cargo", "build", "--release", "--offline", "--quiet"], cwd=os.path.join(ROOT, "harness"), check=True)
-    lines = []
-    for options, tokens in lists:
-        words = [str(n) for n in options]
-        for kind, lexeme, lead, trail in tokens:
-            words += ["L%d:%s" % (k, c.hex()) for k, c in lead] + ["%d:%s" % (kind, lexeme.hex())] + ["R%d:%s" % (k, c.hex()) for k, c in trail]
-        lines.append(" ".join(words))
-    out = subprocess.run([os.path.join(ROOT, "harness", "target", "release", "lay")], input="\n".join(lines) + "\n", text=True, capture_output=True, check=True).stdout
-    return [bytes.fromhex(line) for line in out.split("\n")[:-1]]
+    program = os.path.join(ROOT, "harness", "target", "release", "lay")
+    out = subprocess.run([program, *words], input="\n".join(lines) + "\n", text=True, capture_output=True, check=True).stdout
+    return out.split("\n")[:-1]
+
+
+def rust(lists):
+    return [bytes.fromhex(text) for text in lay(line(options, tokens) for options, tokens in lists)]
 
 
 def antt_bytes(w):

@@ -248,15 +248,20 @@ def look_cases():
                         yield (1, 4, limit, limit), rows
 
 
-with open(os.path.join(FOLDER, "stdin"), "wb") as stdin, open(os.path.join(FOLDER, "stdout"), "w") as stdout:
-    for first in range(37):
-        stdout.write("".join(" %d %d;" % space(first, second) for second in range(37)) + "\n")
-    cases = [(options, data, size, []) for options, data, size in check_cases()]
-    cases += [(options, pack(rows), 8, list(calls_of(rows))) for options, rows in look_cases()]
-    for options, data, size, calls in cases:
-        stdin.write(struct.pack("<7I", *options, size, len(data), len(calls)) + data + b"".join(struct.pack("<2I", *c) for c in calls))
-        stdout.write(" %d %d;" % check(options, data, size))
-        for which, at in calls:
-            rows = list(struct.iter_unpack("<4I", data))[at:]
-            stdout.write("".join(" %d" % n for n in look(which, rows, options[2], options[3])) + ";")
-        stdout.write("\n")
+def main():
+    with open(os.path.join(FOLDER, "stdin"), "wb") as stdin, open(os.path.join(FOLDER, "stdout"), "w") as stdout:
+        for first in range(37):
+            stdout.write("".join(" %d %d;" % space(first, second) for second in range(37)) + "\n")
+        cases = [(options, data, size, []) for options, data, size in check_cases()]
+        cases += [(options, pack(rows), 8, list(calls_of(rows))) for options, rows in look_cases()]
+        for options, data, size, calls in cases:
+            stdin.write(struct.pack("<7I", *options, size, len(data), len(calls)) + data + b"".join(struct.pack("<2I", *c) for c in calls))
+            stdout.write(" %d %d;" % check(options, data, size))
+            for which, at in calls:
+                rows = list(struct.iter_unpack("<4I", data))[at:]
+                stdout.write("".join(" %d" % n for n in look(which, rows, options[2], options[3])) + ";")
+            stdout.write("\n")
+
+
+if __name__ == "__main__":
+    main()
