@@ -79,9 +79,9 @@ def plain(tokens):
 
 # ---- both sides
 
-def line(options, tokens):
+def line(options, tokens, source=None):
     """A list as the program `lay` reads it."""
-    words = [str(n) for n in options]
+    words = [str(n) for n in options] + ([] if source is None else ["S:" + source.hex()])
     for kind, lexeme, lead, trail in tokens:
         words += ["L%d:%s" % (k, c.hex()) for k, c in lead] + ["%d:%s" % (kind, lexeme.hex())] + ["R%d:%s" % (k, c.hex()) for k, c in trail]
     return " ".join(words)
