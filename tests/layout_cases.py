@@ -78,7 +78,7 @@ def widths(signature, list_width, style=1, indent=4):
 
 # ---- document 01, 'Sheets on paper'
 
-def paper():
+def sheets_on_paper():
     said = [  # the list, the options, the text, and of the commas and the plain mark what document 01 says
         ("log ( a , b )", DEFAULTS, "log(a, b)", 0, 1),
         ("log ( a , b )", widths(40, 8), "log(a, b)", None, None),
@@ -450,5 +450,5 @@ def random_lists():
         yield of_tokens(tokens_of_words(" ".join(words)), (1, 1, rng.randrange(12), rng.randrange(12)), rooms=(1,))
 
 
-SORTS = [paper, readings_that_fail, differences, programs, brackets, braces, signatures, pairs, operators, eofs, plain_mark, trivia, hostile, single_bytes, options, widest, ragged,
+SORTS = [sheets_on_paper, readings_that_fail, differences, programs, brackets, braces, signatures, pairs, operators, eofs, plain_mark, trivia, hostile, single_bytes, options, widest, ragged,
          most_rows, bad_rows, deep, sizes, shebang, random_lists]

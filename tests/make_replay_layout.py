@@ -12,7 +12,7 @@ It needs cargo and format.rs, as tests/definition_beside_rust.py does. Where eac
 - refusal 4: the first step behind which the stack of format.rs has more than 64 entries, unless that token's leading trivia does not fit the
   output: its length is what an Eof with the same leading trivia writes;
 - the commas: the steps at which `]` or `}` takes a byte more than it would behind a Comma. Where only Comma tokens have a comma byte,
-  this is held to the text's commas less the Comma tokens;
+  this is compared with the text's commas less the Comma tokens;
 - the plain mark: `plain` of definition_beside_rust.py, a model of document 01's list;
 - the shebang line: what the text of `format_source_with_shebang` has more than its walk wrote; where it does not fit, refusal 5 at 0, and where
   there is one, plain 0;
@@ -31,7 +31,7 @@ from make_replay_rows import check, pack
 
 # How many cases there are of each sort.
 COUNTS = {
-    "paper": 14,  # document 01, 'Sheets on paper', the nine marked P too; the first is its sheet
+    "sheets_on_paper": 14,  # document 01, 'Sheets on paper', the nine marked P too; the first is its sheet
     "readings_that_fail": 11,  # that part's last sentence: a list for each wrong reading, whose text is not the wrong one
     "differences": 82,  # the lists of docs/DIFFERENCES.md
     "programs": 96,  # as engineers write them
@@ -157,7 +157,7 @@ def sizes(case, length):
     return [max(0, length + room) for room in case.rooms] + ([] if case.size is None else [case.size])
 
 
-def hold_to_paper(case, laid):
+def compare_with_document(case, laid):
     """Document 01's own words on the case, if there are any."""
     if case.said is not None:
         (_, _, *numbers), text = walk(*laid, len(laid[1]))
@@ -181,7 +181,7 @@ def main():
     given, expected, by_sort, by_refusal = b"", b"", Counter(), Counter()
     for n, (sort, case) in enumerate(cases):
         if n in laid:
-            hold_to_paper(case, laid[n])
+            compare_with_document(case, laid[n])
         for size, answer, out in answers(case, laid.get(n)):
             given += stored(case, size)
             expected += b"%d %d %d %d\n" % answer + out + b"\n"
