@@ -39,110 +39,154 @@ static int reports(const uint8_t *report, uint64_t first, uint64_t second, uint6
     return 1;
 }
 
-static void put_rows(uint8_t *bytes, const uint32_t (*rows)[4], size_t n)
+static void put_row(uint8_t *bytes, const uint32_t numbers[4])
 {
-    for (size_t i = 0; i < 16 * n; i++)
-        bytes[i] = (uint8_t)(rows[i / 16][i / 4 % 4] >> (8 * (i % 4)));
+    for (int i = 0; i < 16; i++)
+        bytes[i] = (uint8_t)(numbers[i / 4] >> (8 * (i % 4)));
 }
 
 /* ---- the layout */
 
-enum { ROWS = 6 };
+enum { TOKENS = 8 };
+
+struct token {
+    uint32_t kind;
+    const char *lexeme;
+};
 
 struct layout_case {
-    const char *source; /* NULL: rl_layout with the options, else rl_layout_source */
+    const char *source; /* of rl_layout_source; else NULL */
     uint32_t options[4];
-    const char *text;
-    size_t rows_len, out_len;
-    uint32_t rows[ROWS][4];
+    struct token tokens[TOKENS];
+    size_t out_len;
     uint32_t refusal;
-    uint64_t first, second, third; /* length, commas and plain, or the place */
+    uint64_t first, second, third; /* length, commas, plain, or the place */
     const char *out;
 };
 
 #define DEFAULTS {1, 4, 40, 40}
-#define LOG {{1, 22, 0, 3}, {1, 4, 3, 4}, {1, 22, 4, 5}, {1, 8, 5, 6}, {1, 22, 6, 7}, {1, 5, 7, 8}}
-#define LIST {{1, 22, 0, 1}, {1, 6, 1, 2}, {1, 22, 2, 3}, {1, 8, 3, 4}, {1, 22, 4, 5}, {1, 7, 5, 6}}
-#define BLOCK {{1, 22, 0, 1}, {1, 2, 1, 2}, {1, 1, 2, 2}, {1, 22, 2, 3}, {1, 3, 3, 4}}
-#define SIGNATURE {{1, 20, 0, 2}, {1, 22, 2, 3}, {1, 4, 3, 4}, {1, 5, 4, 5}}
+#define LOG {{22, "log"}, {4, "("}, {22, "a"}, {8, ","}, {22, "b"}, {5, ")"}}
+#define LIST {{22, "x"}, {6, "["}, {22, "a"}, {8, ","}, {22, "b"}, {7, "]"}}
+#define FN {{20, "F"}, {22, "f"}, {4, "("}, {5, ")"}}
+#define BLOCK {{22, "a"}, {2, "{"}, {1, ""}, {22, "b"}, {3, "}"}}
+#define BAD_ROW {{22, "x"}, {35, "["}}
 
 static const struct layout_case LAYOUTS[] = {
-    {NULL, DEFAULTS, "log(a,b)", 96, 9, LOG, 0, 9, 0, 1, "log(a, b)"},
-    {NULL, {0, 16, 65535, 8}, "log(a,b)", 96, 64, LOG, 0, 9, 0, 1, "log(a, b)"},
-    {NULL, {1, 4, 40, 7}, "log(a,b)", 96, 64, LOG, 0, 19, 0, 1, "log(\n    a,\n    b\n)"},
-    {NULL, {1, 4, 40, 7}, "x[a,b]", 96, 64, LIST, 0, 18, 1, 1, "x[\n    a,\n    b,\n]"},
-    {NULL, DEFAULTS, "a{b}", 80, 64, BLOCK, 0, 11, 0, 1, "a\n{\n    b\n}"},
-    {NULL, {0, 2, 40, 40}, "a{b}", 80, 64, BLOCK, 0, 9, 0, 1, "a {\n  b\n}"},
-    {NULL, {1, 4, 2, 40}, "fnf()", 64, 64, SIGNATURE, 0, 6, 0, 1, "fn f()"},
-    {NULL, {1, 4, 1, 40}, "fnf()", 64, 64, SIGNATURE, 0, 16, 0, 1, "fn f(\n    \n    )"},
-    {NULL, DEFAULTS, "ca", 32, 64, {{0, 0, 0, 1}, {1, 22, 1, 2}}, 0, 6, 0, 0, "// c\na"},
-    {NULL, DEFAULTS, "", 0, 0, {{0}}, 0, 0, 0, 1, ""},
-
-    {NULL, {2, 17, 65536, 65536}, "log(a,b)", 95, 64, LOG, 1, 0, 0, 0, ""},
-    {NULL, {1, 17, 65536, 65536}, "log(a,b)", 96, 64, LOG, 1, 1, 0, 0, ""},
-    {NULL, {1, 16, 65536, 65536}, "log(a,b)", 96, 64, LOG, 1, 2, 0, 0, ""},
-    {NULL, {1, 16, 65535, 65536}, "log(a,b)", 96, 64, LOG, 1, 3, 0, 0, ""},
-    {NULL, DEFAULTS, "log(a,b)", 95, 64, LOG, 2, 0, 0, 0, ""},
-    {NULL, DEFAULTS, "log(a,", 96, 64, LOG, 3, 4, 0, 0, ""}, /* ends past the text */
-    {NULL, DEFAULTS, "ab", 32, 64, {{1, 22, 0, 1}, {1, 35, 1, 2}}, 3, 1, 0, 0, ""},
-    {NULL, DEFAULTS, "ab", 32, 64, {{3, 0, 0, 0}, {1, 22, 1, 2}}, 3, 0, 0, 0, ""},
-    {NULL, DEFAULTS, "ab", 16, 64, {{1, 22, 2, 1}}, 3, 0, 0, 0, ""},
-    {NULL, DEFAULTS, "ab", 32, 64, {{2, 3, 0, 0}, {1, 22, 0, 1}}, 3, 0, 0, 0, ""},
-    {NULL, DEFAULTS, "ab", 48, 64, {{1, 22, 0, 1}, {0, 3, 0, 0}, {0, 3, 0, 0}}, 3, 2, 0, 0, ""},
-    {NULL, DEFAULTS, "log(a,b)", 96, 8, LOG, 5, 5, 0, 0, ""},
-    {NULL, DEFAULTS, "log(a,b)", 96, 7, LOG, 5, 4, 0, 0, ""},
-    {NULL, DEFAULTS, "log(a,b)", 96, 0, LOG, 5, 0, 0, 0, ""},
-
-    {"#!/rl\nlog", DEFAULTS, "log(a,b)", 96, 64, LOG, 0, 15, 0, 0, "#!/rl\nlog(a, b)"},
-    {"#!", DEFAULTS, "log(a,b)", 96, 12, LOG, 0, 12, 0, 0, "#!\nlog(a, b)"},
-    {"#![x]\n", DEFAULTS, "log(a,b)", 96, 64, LOG, 0, 9, 0, 1, "log(a, b)"},
-    {"", DEFAULTS, "log(a,b)", 96, 64, LOG, 0, 9, 0, 1, "log(a, b)"},
-    {"#!/rl\n", DEFAULTS, "log(a,b)", 95, 5, LOG, 2, 0, 0, 0, ""},
-    {"#!/rl\n", DEFAULTS, "log(a,b", 96, 5, LOG, 3, 5, 0, 0, ""},
-    {"#!/rl\n", DEFAULTS, "log(a,b)", 96, 5, LOG, 5, 0, 0, 0, ""},
-    {"#!/rl\n", DEFAULTS, "log(a,b)", 96, 14, LOG, 5, 5, 0, 0, ""},
+    {NULL, DEFAULTS, LOG, 40, 0, 9, 0, 1, "log(a, b)"},
+    {NULL, DEFAULTS, LOG, 9, 0, 9, 0, 1, "log(a, b)"},
+    {NULL, {1, 4, 40, 8}, LOG, 40, 0, 9, 0, 1, "log(a, b)"},
+    {NULL, {1, 4, 40, 7}, LOG, 40, 0, 19, 0, 1, "log(\n    a,\n    b\n)"},
+    {NULL, {1, 4, 40, 7}, LIST, 40, 0, 18, 1, 1, "x[\n    a,\n    b,\n]"},
+    {NULL, {1, 4, 2, 40}, FN, 40, 0, 5, 0, 1, "F f()"},
+    {NULL, {1, 4, 1, 40}, FN, 40, 0, 15, 0, 1, "F f(\n    \n    )"},
+    {NULL, {1, 2, 1, 40}, FN, 40, 0, 11, 0, 1, "F f(\n  \n  )"},
+    {NULL, DEFAULTS, BLOCK, 40, 0, 11, 0, 1, "a\n{\n    b\n}"},
+    {NULL, {0, 2, 40, 40}, BLOCK, 40, 0, 9, 0, 1, "a {\n  b\n}"},
+    {NULL, DEFAULTS, {{0, NULL}}, 0, 0, 0, 0, 1, ""},
+    {NULL, {2, 4, 40, 40}, LOG, 40, 1, 0, 0, 0, ""},
+    {NULL, {1, 17, 40, 40}, LOG, 40, 1, 1, 0, 0, ""},
+    {NULL, {1, 4, 65536, 40}, LOG, 40, 1, 2, 0, 0, ""},
+    {NULL, {1, 4, 40, 65536}, LOG, 40, 1, 3, 0, 0, ""},
+    {NULL, DEFAULTS, BAD_ROW, 40, 3, 1, 0, 0, ""},
+    {NULL, DEFAULTS, LOG, 8, 5, 5, 0, 0, ""},
+    {NULL, DEFAULTS, LOG, 3, 5, 1, 0, 0, ""},
+    {NULL, DEFAULTS, LOG, 0, 5, 0, 0, 0, ""},
+    {"log(a, b)", DEFAULTS, LOG, 40, 0, 9, 0, 1, "log(a, b)"},
+    {"#![x]\nlog(a, b)", DEFAULTS, LOG, 40, 0, 9, 0, 1, "log(a, b)"},
+    {"#!/bin/rl\nlog(a, b)", DEFAULTS, LOG, 40, 0, 19, 0, 0, "#!/bin/rl\nlog(a, b)"},
+    {"#!", DEFAULTS, LIST, 40, 0, 10, 0, 0, "#!\nx[a, b]"},
+    {"#!/bin/rl\n", DEFAULTS, BAD_ROW, 9, 3, 1, 0, 0, ""},
+    {"#!/bin/rl\n", DEFAULTS, LOG, 9, 5, 0, 0, 0, ""},
+    {"#!/bin/rl\n", DEFAULTS, LOG, 18, 5, 5, 0, 0, ""},
 };
 
-static const size_t N_LAYOUTS = sizeof LAYOUTS / sizeof *LAYOUTS;
-
-static uint32_t lay(const struct layout_case *c, uint8_t *out, uint8_t *report, size_t report_len)
+/* Writes the tokens' rows and their lexemes, and returns how many tokens there are. */
+static size_t put_tokens(const struct token *tokens, uint8_t *rows, char *text)
 {
-    uint8_t rows[16 * ROWS];
-    const uint8_t *text = (const uint8_t *)c->text, *source = (const uint8_t *)c->source;
+    size_t n = 0;
+    *text = 0;
+    for (; n < TOKENS && tokens[n].lexeme; n++) {
+        uint32_t start = strlen(text), end = start + strlen(tokens[n].lexeme);
+        uint32_t numbers[4] = {1, tokens[n].kind, start, end};
+        strcpy(text + start, tokens[n].lexeme);
+        put_row(rows + 16 * n, numbers);
+    }
+    return n;
+}
+
+static uint32_t call_layout(const struct layout_case *c, uint8_t *out, uint8_t *report)
+{
+    uint8_t rows[16 * TOKENS];
+    char text[SPACE];
+    size_t rows_len = 16 * put_tokens(c->tokens, rows, text);
+    const uint8_t *bytes = (const uint8_t *)text, *source = (const uint8_t *)c->source;
     const uint32_t *o = c->options;
-    put_rows(rows, c->rows, ROWS);
-    if (source)
-        return rl_layout_source(source, strlen(c->source), rows, c->rows_len, text, strlen(c->text), out, c->out_len,
-                                report, report_len);
-    return rl_layout(o[0], o[1], o[2], o[3], rows, c->rows_len, text, strlen(c->text), out, c->out_len, report,
-                     report_len);
+    if (!source)
+        return rl_layout(o[0], o[1], o[2], o[3], rows, rows_len, bytes, strlen(text), out, c->out_len, report, REPORT);
+    return rl_layout_source(source, strlen(c->source), rows, rows_len, bytes, strlen(text), out, c->out_len, report,
+                            REPORT);
 }
 
 static void check_layout(const struct layout_case *c)
 {
     uint8_t out[SPACE], report[REPORT];
     fill(out, SPACE), fill(report, REPORT);
-    uint32_t refusal = lay(c, out, report, REPORT);
+    uint32_t refusal = call_layout(c, out, report);
     size_t length = refusal == 0 ? c->first : 0;
-    uint8_t left = refusal == 4 || refusal == 5 ? 0 : UNTOUCHED;
-    expect(c->text, refusal == c->refusal);
-    expect(c->text, reports(report, c->first, c->second, c->third));
-    expect(c->text, memcmp(out, c->out, length) == 0);
-    expect(c->text, all(out + length, c->out_len - length, left));
-    expect(c->text, all(out + c->out_len, SPACE - c->out_len, UNTOUCHED));
+    uint8_t left = refusal == 5 ? 0 : UNTOUCHED;
+    expect("layout", refusal == c->refusal);
+    expect("layout", reports(report, c->first, c->second, c->third));
+    expect(c->out, memcmp(out, c->out, length) == 0);
+    expect(c->out, all(out + length, c->out_len - length, left));
+    expect(c->out, all(out + c->out_len, SPACE - c->out_len, UNTOUCHED));
+}
+
+/* ---- rows that no token list has, for the text `ab`; refusals 2 and 3 come before the shebang line's own 5 */
+
+static const struct {
+    size_t rows_len;
+    uint32_t rows[3][4], refusal, place;
+} ROWS[] = {
+    {15, {{1, 22, 0, 1}}, 2, 0},
+    {47, {{3, 0, 0, 0}, {1, 22, 0, 1}, {1, 22, 0, 1}}, 2, 0},
+    {48, {{1, 22, 0, 1}, {3, 0, 0, 0}, {4, 0, 0, 0}}, 3, 1},
+    {32, {{1, 22, 0, 1}, {2, 4, 0, 0}}, 3, 1},
+    {16, {{1, 22, 2, 1}}, 3, 0},
+    {32, {{1, 22, 1, 2}, {1, 22, 1, 3}}, 3, 1},
+    {32, {{2, 3, 0, 0}, {1, 22, 0, 1}}, 3, 0},
+    {48, {{1, 22, 0, 1}, {0, 3, 0, 0}, {2, 3, 0, 0}}, 3, 2},
+    {48, {{1, 22, 0, 1}, {0, 3, 0, 0}, {0, 3, 0, 0}}, 3, 2},
+};
+
+static void check_rows(void)
+{
+    static const uint8_t text[] = "ab", shebang[] = "#!";
+    for (size_t i = 0; i < sizeof ROWS / sizeof *ROWS; i++) {
+        uint8_t rows[48], out[SPACE], report[REPORT];
+        size_t rows_len = ROWS[i].rows_len;
+        for (int j = 0; j < 3; j++)
+            put_row(rows + 16 * j, ROWS[i].rows[j]);
+        fill(out, SPACE), fill(report, REPORT);
+        expect("rows", rl_layout(1, 4, 40, 40, rows, rows_len, text, 2, out, SPACE, report, REPORT) == ROWS[i].refusal);
+        expect("rows", reports(report, ROWS[i].place, 0, 0));
+        expect("rows", rl_layout_source(shebang, 2, rows, rows_len, text, 2, out, 1, report, REPORT) == ROWS[i].refusal);
+        expect("rows", reports(report, ROWS[i].place, 0, 0));
+        expect("rows", rl_layout(1, 17, 40, 40, rows, rows_len, text, 2, out, SPACE, report, REPORT) == 1);
+        expect("rows", reports(report, 1, 0, 0) && all(out, SPACE, UNTOUCHED));
+    }
 }
 
 /* `(,` again and again, with list width 0: each opens a group that breaks. */
 static void check_depth(size_t groups, uint32_t refusal, uint64_t first, uint64_t third)
 {
     enum { MOST = 65 };
-    static const uint32_t pair[2][4] = {{1, 4, 0, 1}, {1, 8, 1, 2}};
+    static const uint32_t opener[4] = {1, 4, 0, 1}, comma[4] = {1, 8, 1, 2};
+    static const uint8_t text[] = "(,";
     uint8_t rows[32 * MOST], out[4 * MOST], report[REPORT];
     for (size_t i = 0; i < groups; i++)
-        put_rows(rows + 32 * i, pair, 2);
+        put_row(rows + 32 * i, opener), put_row(rows + 32 * i + 16, comma);
     fill(out, sizeof out), fill(report, REPORT);
-    expect("depth", rl_layout(1, 0, 40, 0, rows, 32 * groups, (const uint8_t *)"(,", 2, out, sizeof out, report,
-                              REPORT) == refusal);
+    expect("depth", rl_layout(1, 0, 40, 0, rows, 32 * groups, text, 2, out, sizeof out, report, REPORT) == refusal);
     expect("depth", reports(report, first, 0, third));
     for (size_t i = 0; i < sizeof out; i++)
         expect("depth", out[i] == (refusal ? 0 : i < first ? "(\n,\n"[i % 4] : UNTOUCHED));
@@ -262,12 +306,13 @@ static void check_spaces(void)
 
 static void check_report(size_t report_len)
 {
-    static const uint8_t sheet[] = NAMES "T 35 a\n";
+    static const uint8_t sheet[] = NAMES "T 35 a\n", shebang[] = "#!";
+    static const uint8_t row[16] = {[0] = 1, [4] = 22, [12] = 1};
     uint8_t rows[SPACE], text[SPACE], report[SPACE];
     uint32_t pieces[SPACE];
     fill(rows, SPACE), fill(text, SPACE), fill(report, SPACE), fill(pieces, sizeof pieces);
-    for (size_t i = 0; i < N_LAYOUTS; i++)
-        expect("report", lay(&LAYOUTS[i], text, report, report_len) == 11);
+    expect("report", rl_layout(1, 4, 40, 40, row, 16, sheet, 1, text, SPACE, report, report_len) == 11);
+    expect("report", rl_layout_source(shebang, 2, row, 16, sheet, 1, text, SPACE, report, report_len) == 11);
     expect("report", rl_read_sheet(sheet, sizeof sheet - 1, rows, SPACE, text, SPACE, report, report_len) == 11);
     expect("report", rl_read_pieces(sheet, sizeof sheet - 1, pieces, SPACE, report, report_len) == 11);
     expect("report", rl_needs_space(35, 35, report, report_len) == 11);
@@ -277,8 +322,9 @@ static void check_report(size_t report_len)
 
 int main(void)
 {
-    for (size_t i = 0; i < N_LAYOUTS; i++)
+    for (size_t i = 0; i < sizeof LAYOUTS / sizeof *LAYOUTS; i++)
         check_layout(&LAYOUTS[i]);
+    check_rows();
     check_depth(64, 0, 256, 1);
     check_depth(65, 4, 128, 0);
     for (size_t i = 0; i < sizeof SHEETS / sizeof *SHEETS; i++)
