@@ -164,12 +164,13 @@ static void check_rows(void)
     for (size_t i = 0; i < sizeof ROWS / sizeof *ROWS; i++) {
         uint8_t rows[48], out[SPACE], report[REPORT];
         size_t rows_len = ROWS[i].rows_len;
+        uint32_t refusal = ROWS[i].refusal;
         for (int j = 0; j < 3; j++)
             put_row(rows + 16 * j, ROWS[i].rows[j]);
         fill(out, SPACE), fill(report, REPORT);
-        expect("rows", rl_layout(1, 4, 40, 40, rows, rows_len, text, 2, out, SPACE, report, REPORT) == ROWS[i].refusal);
+        expect("rows", rl_layout(1, 4, 40, 40, rows, rows_len, text, 2, out, SPACE, report, REPORT) == refusal);
         expect("rows", reports(report, ROWS[i].place, 0, 0));
-        expect("rows", rl_layout_source(shebang, 2, rows, rows_len, text, 2, out, 1, report, REPORT) == ROWS[i].refusal);
+        expect("rows", rl_layout_source(shebang, 2, rows, rows_len, text, 2, out, 1, report, REPORT) == refusal);
         expect("rows", reports(report, ROWS[i].place, 0, 0));
         expect("rows", rl_layout(1, 17, 40, 40, rows, rows_len, text, 2, out, SPACE, report, REPORT) == 1);
         expect("rows", reports(report, 1, 0, 0) && all(out, SPACE, UNTOUCHED));

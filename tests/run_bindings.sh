@@ -5,7 +5,9 @@ set -e
 cd "$(dirname "${BASH_SOURCE[0]}")/.."
 rt staticlib doors > /dev/null
 cd bindings/furzewrench
-# where the library is not found, the build script names the command that makes it
-FURZEWRENCH_LIB_DIR=/nowhere cargo build --quiet 2>&1 | grep --quiet 'Run `rt staticlib doors`'
+if ! FURZEWRENCH_LIB_DIR=/nowhere cargo build --quiet 2>&1 | grep --quiet 'Run `rt staticlib doors`'; then
+    echo 'without the library, the build script does not name the command that makes it'
+    exit 1
+fi
 unset FURZEWRENCH_LIB_DIR
 RUSTFLAGS='-D warnings' cargo test --quiet
