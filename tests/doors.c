@@ -39,6 +39,12 @@ static int reports(const uint8_t *report, uint64_t first, uint64_t second, uint6
     return 1;
 }
 
+static void put_row(uint8_t *bytes, const uint32_t numbers[4])
+{
+    for (int i = 0; i < 16; i++)
+        bytes[i] = (uint8_t)(numbers[i / 4] >> (8 * (i % 4)));
+}
+
 /* ---- the layout */
 
 enum { TOKENS = 8 };
@@ -62,6 +68,7 @@ struct layout_case {
 #define LOG {{22, "log"}, {4, "("}, {22, "a"}, {8, ","}, {22, "b"}, {5, ")"}}
 #define LIST {{22, "x"}, {6, "["}, {22, "a"}, {8, ","}, {22, "b"}, {7, "]"}}
 #define FN {{20, "F"}, {22, "f"}, {4, "("}, {5, ")"}}
+#define BLOCK {{22, "a"}, {2, "{"}, {1, ""}, {22, "b"}, {3, "}"}}
 #define BAD_ROW {{22, "x"}, {35, "["}}
 
 static const struct layout_case LAYOUTS[] = {
@@ -73,6 +80,8 @@ static const struct layout_case LAYOUTS[] = {
     {NULL, {1, 4, 2, 40}, FN, 40, 0, 5, 0, 1, "F f()"},
     {NULL, {1, 4, 1, 40}, FN, 40, 0, 15, 0, 1, "F f(\n    \n    )"},
     {NULL, {1, 2, 1, 40}, FN, 40, 0, 11, 0, 1, "F f(\n  \n  )"},
+    {NULL, DEFAULTS, BLOCK, 40, 0, 11, 0, 1, "a\n{\n    b\n}"},
+    {NULL, {0, 2, 40, 40}, BLOCK, 40, 0, 9, 0, 1, "a {\n  b\n}"},
     {NULL, DEFAULTS, {{0, NULL}}, 0, 0, 0, 0, 1, ""},
     {NULL, {2, 4, 40, 40}, LOG, 40, 1, 0, 0, 0, ""},
     {NULL, {1, 17, 40, 40}, LOG, 40, 1, 1, 0, 0, ""},
@@ -81,6 +90,7 @@ static const struct layout_case LAYOUTS[] = {
     {NULL, DEFAULTS, BAD_ROW, 40, 3, 1, 0, 0, ""},
     {NULL, DEFAULTS, LOG, 8, 5, 5, 0, 0, ""},
     {NULL, DEFAULTS, LOG, 3, 5, 1, 0, 0, ""},
+    {NULL, DEFAULTS, LOG, 0, 5, 0, 0, 0, ""},
     {"log(a, b)", DEFAULTS, LOG, 40, 0, 9, 0, 1, "log(a, b)"},
     {"#![x]\nlog(a, b)", DEFAULTS, LOG, 40, 0, 9, 0, 1, "log(a, b)"},
     {"#!/bin/rl\nlog(a, b)", DEFAULTS, LOG, 40, 0, 19, 0, 0, "#!/bin/rl\nlog(a, b)"},
@@ -99,8 +109,7 @@ static size_t put_tokens(const struct token *tokens, uint8_t *rows, char *text)
         uint32_t start = strlen(text), end = start + strlen(tokens[n].lexeme);
         uint32_t numbers[4] = {1, tokens[n].kind, start, end};
         strcpy(text + start, tokens[n].lexeme);
-        for (int i = 0; i < 16; i++)
-            rows[16 * n + i] = (uint8_t)(numbers[i / 4] >> (8 * (i % 4)));
+        put_row(rows + 16 * n, numbers);
     }
     return n;
 }
@@ -130,6 +139,58 @@ static void check_layout(const struct layout_case *c)
     expect(c->out, memcmp(out, c->out, length) == 0);
     expect(c->out, all(out + length, c->out_len - length, left));
     expect(c->out, all(out + c->out_len, SPACE - c->out_len, UNTOUCHED));
+}
+
+/* ---- rows that no token list has, for the text `ab`; refusals 2 and 3 come before the shebang line's own 5 */
+
+static const struct {
+    size_t rows_len;
+    uint32_t rows[3][4], refusal, place;
+} ROWS[] = {
+    {15, {{1, 22, 0, 1}}, 2, 0},
+    {47, {{3, 0, 0, 0}, {1, 22, 0, 1}, {1, 22, 0, 1}}, 2, 0},
+    {48, {{1, 22, 0, 1}, {3, 0, 0, 0}, {4, 0, 0, 0}}, 3, 1},
+    {32, {{1, 22, 0, 1}, {2, 4, 0, 0}}, 3, 1},
+    {16, {{1, 22, 2, 1}}, 3, 0},
+    {32, {{1, 22, 1, 2}, {1, 22, 1, 3}}, 3, 1},
+    {32, {{2, 3, 0, 0}, {1, 22, 0, 1}}, 3, 0},
+    {48, {{1, 22, 0, 1}, {0, 3, 0, 0}, {2, 3, 0, 0}}, 3, 2},
+    {48, {{1, 22, 0, 1}, {0, 3, 0, 0}, {0, 3, 0, 0}}, 3, 2},
+};
+
+static void check_rows(void)
+{
+    static const uint8_t text[] = "ab", shebang[] = "#!";
+    for (size_t i = 0; i < sizeof ROWS / sizeof *ROWS; i++) {
+        uint8_t rows[48], out[SPACE], report[REPORT];
+        size_t rows_len = ROWS[i].rows_len;
+        uint32_t refusal = ROWS[i].refusal;
+        for (int j = 0; j < 3; j++)
+            put_row(rows + 16 * j, ROWS[i].rows[j]);
+        fill(out, SPACE), fill(report, REPORT);
+        expect("rows", rl_layout(1, 4, 40, 40, rows, rows_len, text, 2, out, SPACE, report, REPORT) == refusal);
+        expect("rows", reports(report, ROWS[i].place, 0, 0));
+        expect("rows", rl_layout_source(shebang, 2, rows, rows_len, text, 2, out, 1, report, REPORT) == refusal);
+        expect("rows", reports(report, ROWS[i].place, 0, 0));
+        expect("rows", rl_layout(1, 17, 40, 40, rows, rows_len, text, 2, out, SPACE, report, REPORT) == 1);
+        expect("rows", reports(report, 1, 0, 0) && all(out, SPACE, UNTOUCHED));
+    }
+}
+
+/* `(,` again and again, with list width 0: each opens a group that breaks. */
+static void check_depth(size_t groups, uint32_t refusal, uint64_t first, uint64_t third)
+{
+    enum { MOST = 65 };
+    static const uint32_t opener[4] = {1, 4, 0, 1}, comma[4] = {1, 8, 1, 2};
+    static const uint8_t text[] = "(,";
+    uint8_t rows[32 * MOST], out[4 * MOST], report[REPORT];
+    for (size_t i = 0; i < groups; i++)
+        put_row(rows + 32 * i, opener), put_row(rows + 32 * i + 16, comma);
+    fill(out, sizeof out), fill(report, REPORT);
+    expect("depth", rl_layout(1, 0, 40, 0, rows, 32 * groups, text, 2, out, sizeof out, report, REPORT) == refusal);
+    expect("depth", reports(report, first, 0, third));
+    for (size_t i = 0; i < sizeof out; i++)
+        expect("depth", out[i] == (refusal ? 0 : i < first ? "(\n,\n"[i % 4] : UNTOUCHED));
 }
 
 /* ---- the sheet reader */
@@ -264,6 +325,9 @@ int main(void)
 {
     for (size_t i = 0; i < sizeof LAYOUTS / sizeof *LAYOUTS; i++)
         check_layout(&LAYOUTS[i]);
+    check_rows();
+    check_depth(64, 0, 256, 1);
+    check_depth(65, 4, 128, 0);
     for (size_t i = 0; i < sizeof SHEETS / sizeof *SHEETS; i++)
         check_sheet(&SHEETS[i]);
     for (size_t i = 0; i < sizeof TEXTS / sizeof *TEXTS; i++)
