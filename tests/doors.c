@@ -39,6 +39,99 @@ static int reports(const uint8_t *report, uint64_t first, uint64_t second, uint6
     return 1;
 }
 
+/* ---- the layout */
+
+enum { TOKENS = 8 };
+
+struct token {
+    uint32_t kind;
+    const char *lexeme;
+};
+
+struct layout_case {
+    const char *source; /* of rl_layout_source; else NULL */
+    uint32_t options[4];
+    struct token tokens[TOKENS];
+    size_t out_len;
+    uint32_t refusal;
+    uint64_t first, second, third; /* length, commas, plain, or the place */
+    const char *out;
+};
+
+#define DEFAULTS {1, 4, 40, 40}
+#define LOG {{22, "log"}, {4, "("}, {22, "a"}, {8, ","}, {22, "b"}, {5, ")"}}
+#define LIST {{22, "x"}, {6, "["}, {22, "a"}, {8, ","}, {22, "b"}, {7, "]"}}
+#define FN {{20, "F"}, {22, "f"}, {4, "("}, {5, ")"}}
+#define BAD_ROW {{22, "x"}, {35, "["}}
+
+static const struct layout_case LAYOUTS[] = {
+    {NULL, DEFAULTS, LOG, 40, 0, 9, 0, 1, "log(a, b)"},
+    {NULL, DEFAULTS, LOG, 9, 0, 9, 0, 1, "log(a, b)"},
+    {NULL, {1, 4, 40, 8}, LOG, 40, 0, 9, 0, 1, "log(a, b)"},
+    {NULL, {1, 4, 40, 7}, LOG, 40, 0, 19, 0, 1, "log(\n    a,\n    b\n)"},
+    {NULL, {1, 4, 40, 7}, LIST, 40, 0, 18, 1, 1, "x[\n    a,\n    b,\n]"},
+    {NULL, {1, 4, 2, 40}, FN, 40, 0, 5, 0, 1, "F f()"},
+    {NULL, {1, 4, 1, 40}, FN, 40, 0, 15, 0, 1, "F f(\n    \n    )"},
+    {NULL, {1, 2, 1, 40}, FN, 40, 0, 11, 0, 1, "F f(\n  \n  )"},
+    {NULL, DEFAULTS, {{0, NULL}}, 0, 0, 0, 0, 1, ""},
+    {NULL, {2, 4, 40, 40}, LOG, 40, 1, 0, 0, 0, ""},
+    {NULL, {1, 17, 40, 40}, LOG, 40, 1, 1, 0, 0, ""},
+    {NULL, {1, 4, 65536, 40}, LOG, 40, 1, 2, 0, 0, ""},
+    {NULL, {1, 4, 40, 65536}, LOG, 40, 1, 3, 0, 0, ""},
+    {NULL, DEFAULTS, BAD_ROW, 40, 3, 1, 0, 0, ""},
+    {NULL, DEFAULTS, LOG, 8, 5, 5, 0, 0, ""},
+    {NULL, DEFAULTS, LOG, 3, 5, 1, 0, 0, ""},
+    {"log(a, b)", DEFAULTS, LOG, 40, 0, 9, 0, 1, "log(a, b)"},
+    {"#![x]\nlog(a, b)", DEFAULTS, LOG, 40, 0, 9, 0, 1, "log(a, b)"},
+    {"#!/bin/rl\nlog(a, b)", DEFAULTS, LOG, 40, 0, 19, 0, 0, "#!/bin/rl\nlog(a, b)"},
+    {"#!", DEFAULTS, LIST, 40, 0, 10, 0, 0, "#!\nx[a, b]"},
+    {"#!/bin/rl\n", DEFAULTS, BAD_ROW, 9, 3, 1, 0, 0, ""},
+    {"#!/bin/rl\n", DEFAULTS, LOG, 9, 5, 0, 0, 0, ""},
+    {"#!/bin/rl\n", DEFAULTS, LOG, 18, 5, 5, 0, 0, ""},
+};
+
+/* Writes the tokens' rows and their lexemes, and returns how many tokens there are. */
+static size_t put_tokens(const struct token *tokens, uint8_t *rows, char *text)
+{
+    size_t n = 0;
+    *text = 0;
+    for (; n < TOKENS && tokens[n].lexeme; n++) {
+        uint32_t start = strlen(text), end = start + strlen(tokens[n].lexeme);
+        uint32_t numbers[4] = {1, tokens[n].kind, start, end};
+        strcpy(text + start, tokens[n].lexeme);
+        for (int i = 0; i < 16; i++)
+            rows[16 * n + i] = (uint8_t)(numbers[i / 4] >> (8 * (i % 4)));
+    }
+    return n;
+}
+
+static uint32_t call_layout(const struct layout_case *c, uint8_t *out, uint8_t *report)
+{
+    uint8_t rows[16 * TOKENS];
+    char text[SPACE];
+    size_t rows_len = 16 * put_tokens(c->tokens, rows, text);
+    const uint8_t *bytes = (const uint8_t *)text, *source = (const uint8_t *)c->source;
+    const uint32_t *o = c->options;
+    if (!source)
+        return rl_layout(o[0], o[1], o[2], o[3], rows, rows_len, bytes, strlen(text), out, c->out_len, report, REPORT);
+    return rl_layout_source(source, strlen(c->source), rows, rows_len, bytes, strlen(text), out, c->out_len, report,
+                            REPORT);
+}
+
+static void check_layout(const struct layout_case *c)
+{
+    uint8_t out[SPACE], report[REPORT];
+    fill(out, SPACE), fill(report, REPORT);
+    uint32_t refusal = call_layout(c, out, report);
+    size_t length = refusal == 0 ? c->first : 0;
+    uint8_t left = refusal == 5 ? 0 : UNTOUCHED;
+    expect("layout", refusal == c->refusal);
+    expect("layout", reports(report, c->first, c->second, c->third));
+    expect(c->out, memcmp(out, c->out, length) == 0);
+    expect(c->out, all(out + length, c->out_len - length, left));
+    expect(c->out, all(out + c->out_len, SPACE - c->out_len, UNTOUCHED));
+}
+
 /* ---- the sheet reader */
 
 #define NAMES "what kind text\n"
@@ -153,10 +246,13 @@ static void check_spaces(void)
 
 static void check_report(size_t report_len)
 {
-    static const uint8_t sheet[] = NAMES "T 35 a\n";
+    static const uint8_t sheet[] = NAMES "T 35 a\n", shebang[] = "#!";
+    static const uint8_t row[16] = {[0] = 1, [4] = 22, [12] = 1};
     uint8_t rows[SPACE], text[SPACE], report[SPACE];
     uint32_t pieces[SPACE];
     fill(rows, SPACE), fill(text, SPACE), fill(report, SPACE), fill(pieces, sizeof pieces);
+    expect("report", rl_layout(1, 4, 40, 40, row, 16, sheet, 1, text, SPACE, report, report_len) == 11);
+    expect("report", rl_layout_source(shebang, 2, row, 16, sheet, 1, text, SPACE, report, report_len) == 11);
     expect("report", rl_read_sheet(sheet, sizeof sheet - 1, rows, SPACE, text, SPACE, report, report_len) == 11);
     expect("report", rl_read_pieces(sheet, sizeof sheet - 1, pieces, SPACE, report, report_len) == 11);
     expect("report", rl_needs_space(35, 35, report, report_len) == 11);
@@ -166,6 +262,8 @@ static void check_report(size_t report_len)
 
 int main(void)
 {
+    for (size_t i = 0; i < sizeof LAYOUTS / sizeof *LAYOUTS; i++)
+        check_layout(&LAYOUTS[i]);
     for (size_t i = 0; i < sizeof SHEETS / sizeof *SHEETS; i++)
         check_sheet(&SHEETS[i]);
     for (size_t i = 0; i < sizeof TEXTS / sizeof *TEXTS; i++)

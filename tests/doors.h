@@ -6,6 +6,16 @@
 #include <stddef.h>
 #include <stdint.h>
 
+/* length, inserted commas, plain; style 0 SameLine, 1 Allman */
+uint32_t rl_layout(uint32_t style, uint32_t indent_width, uint32_t signature_width, uint32_t list_width,
+                   const uint8_t *rows, size_t rows_len, const uint8_t *text, size_t text_len, uint8_t *out,
+                   size_t out_len, uint8_t *report, size_t report_len);
+
+/* the same, by the default options and behind the shebang line of `source` */
+uint32_t rl_layout_source(const uint8_t *source, size_t source_len, const uint8_t *rows, size_t rows_len,
+                          const uint8_t *text, size_t text_len, uint8_t *out, size_t out_len, uint8_t *report,
+                          size_t report_len);
+
 /* rows, text bytes, 0 */
 uint32_t rl_read_sheet(const uint8_t *sheet, size_t sheet_len, uint8_t *rows, size_t rows_len, uint8_t *text,
                        size_t text_len, uint8_t *report, size_t report_len);

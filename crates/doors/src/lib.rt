@@ -1,6 +1,7 @@
 // The C doors (document 01, 'Around the call'): each returns the refusal or 0, and fills a 24-byte report.
 use crate::fill::REPORT_BYTES;
 use crate::fill::put_report;
+use format_source::format_source_with_shebang;
 use format_tokens::format_tokens_with;
 use lookahead::needs_space;
 use pieces::read_pieces;
@@ -8,6 +9,7 @@ use sheet::read_sheet;
 ghost use mathlib.Core.Path.{_≡_};
 ghost use lib.ListN.{length};
 ghost use Rattle.push_token.specs.Layout.{layout};
+ghost use Rattle.format_source.specs.Source.{layoutSource};
 ghost use Rattle.sheet.specs.Answer.{sheetAnswer, sheetRows, sheetText};
 ghost use Rattle.pieces.specs.Answer.{readAnswer, readSlots};
 ghost use Rattle.lookahead.specs.Answer.{spaceReport};
@@ -45,6 +47,26 @@ pub extern "C" fn rl_layout(
         text,
         out,
     );
+    put_report(report, answers::of_layout(laid))
+}
+
+// Lays out the tokens with the default options, behind the shebang line of `source` where it has one. Reports as `rl_layout`.
+#[no_mangle]
+pub extern "C" fn rl_layout_source(
+    source: &[u8],
+    rows: &[u8],
+    text: &[u8],
+    out: &mut [u8],
+    report: &mut [u8],
+) -> u32
+    ensures refusal { λ r. ⌜ r ≡ doorRefusal (now (report .entry)) (layoutSource (now (source .entry)) (now (rows .entry)) (now (text .entry)) (now (out .entry)) .report) ⌝ }
+    ensures report { λ r. ⌜ now (report .exit) ≡ doorReport (now (report .entry)) (layoutSource (now (source .entry)) (now (rows .entry)) (now (text .entry)) (now (out .entry)) .report) ⌝ }
+    ensures out { λ r. ⌜ now (out .exit) ≡ doorSlice (now (report .entry)) (now (out .entry)) (layoutSource (now (source .entry)) (now (rows .entry)) (now (text .entry)) (now (out .entry)) .out) ⌝ }
+{
+    if report.len() != REPORT_BYTES {
+        return refusals::REPORT;
+    }
+    let laid = format_source_with_shebang(source, rows, text, out);
     put_report(report, answers::of_layout(laid))
 }
 
