@@ -1,4 +1,5 @@
 pub mod Sink
+pub mod Gaps
 pub mod Stack
 pub mod Does
 pub mod Tests
