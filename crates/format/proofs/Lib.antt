@@ -5,3 +5,4 @@ pub mod Tests
 pub mod Openers
 pub mod Comments
 pub mod Held
+pub mod Due
