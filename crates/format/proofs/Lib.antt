@@ -6,3 +6,4 @@ pub mod Tests
 pub mod Openers
 pub mod Comments
 pub mod Held
+pub mod Due

@@ -24,8 +24,8 @@ write-indent-requires c κs = search needs
 add-t20 : tie.Need-add-t20
 add-t20 c = search needs
 
-add-t22 : tie.Need-add-t22
-add-t22 c = search needs
+add-t20-2 : tie.Need-add-t20-2
+add-t20-2 c = search needs
 
 same-length : tie.Need-same-length
 same-length c = search needs
@@ -43,6 +43,6 @@ break-signature-spec =
     add-self
     write-indent-requires
     add-t20
-    add-t22
+    add-t20-2
     same-length
     returns)
