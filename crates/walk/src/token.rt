@@ -87,7 +87,7 @@ fn overflows(f: Formatter, rows: &[u8], token: TokenAt) -> bool
 }
 
 fn refuse(mut f: Formatter, token: TokenAt) -> Formatter
-    requires { ⌜ token .index < 4294967296 ⌝ }
+    requires { ⌜ token .index < 4294967295 ⌝ }
     ensures { λ r. ⌜ ((s l : List ℕ) → Does (λ o. update (setTooDeep (some (token .index)))) (on f s l) (on r s l)) ⌝ }
 {
     let index = token.index;
