@@ -3,5 +3,7 @@ pub mod Stack
 pub mod Does
 pub mod Tests
 pub mod Openers
+pub mod Newlines
+pub mod Braces
 pub mod Comments
 pub mod Held
