@@ -4,6 +4,8 @@ pub mod Stack
 pub mod Does
 pub mod Tests
 pub mod Openers
+pub mod Newlines
+pub mod Braces
 pub mod Comments
 pub mod Held
 pub mod Due

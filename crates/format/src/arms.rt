@@ -239,6 +239,7 @@ impl Formatter {
         requires { ⌜ Roomy self ⌝ }
         requires { ⌜ Names token (now text) ⌝ }
         requires { ⌜ Ahead token (now rows) ⌝ }
+        requires { ⌜ token .kind ≡ 2 ⌝ }
         ensures { λ r. ⌜ ((s : List ℕ) (t : Token) (ts : List Token) → Stands token (now (rows .entry)) (now (text .entry)) t ts → Does (λ o. leftBraceArm o (token .index) t ts) (on self s (now (out .entry))) (on r s (now (out .exit)))) ⌝ }
     {
         if self.empties_record(rows, token) {

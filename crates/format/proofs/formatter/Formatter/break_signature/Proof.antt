@@ -3,9 +3,9 @@ use mathlib.Core.List.{append-nil}
 use mathlib.Core.Path.{refl}
 use borrow.Author.Needs.{needs}
 use Rattle.push_token.specs.Act.{run}
+use Rattle.push_token.proofs.Said.{said}
 use Rattle.format.proofs.Does.{does}
 use Rattle.format.proofs.Sink.{andThen}
-use Rattle.push_token.proofs.Said.{said}
 use Rattle.format.proofs.formatter.Formatter.break_signature.Statement.{statement}
 use Rattle.format.proofs.formatter.Formatter.break_signature.Tie as tie
 
