@@ -1,6 +1,7 @@
 -- The arm of a kind, and refusal 4's test kind by kind. Assumes nothing.
 use mathlib.Core.Bool.{Bool, true, false, _||_}
 use mathlib.Core.List.{List, []}
+use mathlib.Core.Logic.{_⊎_, inl, inr}
 use mathlib.Core.Path.{_≡_, refl, sym, ap, _∙_}
 use Prim.Native.Nat.{ℕ, zero, suc, _<_, _≤_}
 use native.Mathlib.Omega.{arith}
@@ -11,6 +12,7 @@ use Rattle.report.proofs.Logic.{split, impossible}
 use Rattle.rows.specs.Kinds.{Eof, Newline, LeftBrace, RightBrace, LeftParen, RightParen, LeftBracket, RightBracket, Comma, Else}
 use Rattle.rows.specs.Options.{Options}
 use Rattle.rows.specs.Token.{Token}
+use Rattle.push_token.specs.Formatter
 use Rattle.push_token.specs.Act.{Act, nothing, run}
 use Rattle.push_token.specs.Arms.{newlineArm, rightBraceArm, leftBraceArm, breaksList, atSignature, rightParenArm, rightBracketArm, commaArm, elseArm, otherArm}
 use Rattle.push_token.specs.PushToken.{arm, overflows}
@@ -64,6 +66,12 @@ module _ (i : ℕ) (t : Token) (ts : List Token) {p q : Pen} where
       no (λ n. rw e (ne-eqb k Eof a)) (no (λ n. rw e (ne-eqb k Newline b)) (no (λ n. rw e (ne-eqb k RightBrace c)) (no (λ n. rw e (ne-eqb k LeftBrace f)) (no (λ n. rw e (ne-eqb k LeftParen g))
       (no (λ n. rw e (ne-eqb k LeftBracket h)) (no (λ n. rw e (ne-eqb k RightParen j)) (no (λ n. rw e (ne-eqb k RightBracket l)) (no (λ n. rw e (ne-eqb k Comma m)) (no (λ n. rw e (ne-eqb k Else x)) d)))))))))
 
+-- ---- the openers
+
+pub an-opener : {k : ℕ} → (k ≡ LeftParen) ⊎ (k ≡ LeftBracket) → isOpener k ≡ true
+an-opener (inl e) = rw e
+an-opener (inr e) = rw e
+
 -- ---- an arm that may leave the lexeme due
 
 -- where what it leads to comes to another act
@@ -71,6 +79,12 @@ pub leading-to : {a b : Options → Act} {k : Token} {p q : Pen} → ((z : Pen) 
 leading-to f l = record { done = λ z d. f z (l .done z d) }
 
 module _ {token : TokenAt} {rows text : List ℕ} {t : Token} {ts : List Token} (σ : Stands token rows text t ts) where
+  pub its-opener : (token .kind ≡ LeftParen) ⊎ (token .kind ≡ LeftBracket) → isOpener (t .kind) ≡ true
+  its-opener e = rw (σ .kind) (an-opener e)
+
+  pub its-test : (f : Formatter.Formatter) {b : Bool} → opensSignature (token .kind) f ≡ b → opensSignature (t .kind) f ≡ b
+  its-test f e = rw (σ .kind) e
+
   -- the lexeme of the token's rows is the token's
   pub its-lexeme : {a : Options → Act} {p q : Pen} → Leads a t p q → Leads a (lone token text) p q
   its-lexeme {a} {p} {q} l = record { done = λ z d. l .done z (rw (σ .kind, σ .lexeme) d) }

@@ -41,11 +41,13 @@ pub fn walk(new: Formatter, out: &mut [u8], stack: &mut [u32], rows: &[u8], text
         f = turn(f, out, stack, rows, text, token, next);
         let len = f.len;
         if out.len() < len {
-            return Walked::Full(index as usize);
+            let full = index as usize;
+            return Walked::Full(full);
         }
         let deep = f.too_deep;
         if 0 < deep {
-            return Walked::Deep(index as usize);
+            let refused = index as usize;
+            return Walked::Deep(refused);
         }
         at = next;
         index += 1;

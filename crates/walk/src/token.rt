@@ -17,7 +17,7 @@ ghost use Rattle.format.specs.Pen.{Held, Roomy, StackRoom, Names, Ahead, Stands
 ghost use Rattle.format.specs.Trivia.{Part, triviaIn};
 ghost use Rattle.format.specs.Does.{Does};
 ghost use Rattle.format.specs.Due.{Leads};
-ghost use Rattle.walk.specs.Walk.{TokenRows, Trivial, endToken, rowCount};
+ghost use Rattle.walk.specs.Walk.{TokenRows, Trivial, trailToken, rowCount};
 
 // The rows from `token.lead` on are its leading rows, its own, and trailing ones up to `next`.
 pub fn push_token(
@@ -44,7 +44,8 @@ pub fn push_token(
     } else {
         f = arm(f, out, stack, rows, text, token);
         f = f.push_due(out, text, token);
-        f = end_token(f, out, rows, text, token, next);
+        f = trail(f, out, rows, text, token, next);
+        f = f.track_fn_state(token.kind);
     }
     f
 }
@@ -109,7 +110,8 @@ fn arm(
     requires { ⌜ (Names token (now text)) × (Ahead token (now rows)) ⌝ }
     ensures { λ r. ⌜ ((t : Token) (ts : List Token) → Stands token (now (rows .entry)) (now (text .entry)) t ts → overflows (optionsOf (f .options)) t ts (formatterOf f (now (stack .entry))) ≡ false → Leads (λ o. arm o (token .index) t ts) (lone token (now (text .entry))) (on f (now (stack .entry)) (now (out .entry))) (on r (now (stack .exit)) (now (out .exit)))) ⌝ }
 {
-    match token.kind {
+    let kind = token.kind;
+    match kind {
         kinds::EOF => {
             f.lexeme_due = false;
         }
@@ -141,14 +143,14 @@ fn arm(
             f = f.else_arm(out);
         }
         _ => {
-            f = f.other_arm(token.kind);
+            f = f.other_arm(kind);
         }
     }
     f
 }
 
-// The trailing trivia, unless the arm returned early, and the state of `fn`.
-fn end_token(
+// The trailing trivia, unless the arm returned early.
+fn trail(
     mut f: Formatter,
     out: &mut [u8],
     rows: &[u8],
@@ -157,13 +159,12 @@ fn end_token(
     next: usize,
 ) -> Formatter
     requires { ⌜ Part (now rows) (now text) (token .behind) next ⌝ }
-    ensures { λ r. ⌜ ((s : List ℕ) → Does (λ o. endToken (token .kind) (triviaIn (now (rows .entry)) (now (text .entry)) (token .behind) (rowCount (token .behind) next))) (on f s (now (out .entry))) (on r s (now (out .exit)))) ⌝ }
+    ensures { λ r. ⌜ ((s : List ℕ) → Does (λ o. trailToken (triviaIn (now (rows .entry)) (now (text .entry)) (token .behind) (rowCount (token .behind) next))) (on f s (now (out .entry))) (on r s (now (out .exit)))) ⌝ }
 {
-    let kind = token.kind;
     let behind = token.behind;
-    if !f.returned {
-        f = f.push_trailing(out, rows, text, behind, next);
+    if f.returned {
+        return f;
     }
-    f = f.track_fn_state(kind);
+    f = f.push_trailing(out, rows, text, behind, next);
     f
 }
