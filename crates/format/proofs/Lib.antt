@@ -1,7 +1,11 @@
 pub mod Sink
+pub mod Gaps
 pub mod Stack
 pub mod Does
 pub mod Tests
 pub mod Openers
+pub mod Newlines
+pub mod Braces
 pub mod Comments
 pub mod Held
+pub mod Due

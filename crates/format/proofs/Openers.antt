@@ -17,14 +17,14 @@ use Rattle.rows.specs.Token.{Trivia, triviaOf, Token, tokensFrom, tokensOf}
 use Rattle.rows.specs.Bounds.{InBounds}
 use Rattle.lookahead.proofs.Rests.{here, over}
 use Rattle.push_token.specs.Formatter.{setInlineDepth}
-use Rattle.push_token.specs.Act.{update, _⨾_, run}
-use Rattle.push_token.specs.Emit.{endedBy, openBlockMultiline, pushLexeme}
-use Rattle.push_token.specs.Arms.{nextIs, openBlock, groupOpened, deeper}
+use Rattle.push_token.specs.Act.{run}
+use Rattle.push_token.specs.Emit.{endedBy, openBlockMultiline}
+use Rattle.push_token.specs.Arms.{nextIs, openBlock, deeper}
 use Rattle.push_token.proofs.Said.{said}
 use Rattle.format.specs.declared.formatter.TokenAt.{TokenAt}
 use Rattle.format.specs.declared.formatter.BraceStyle.the-variants.{SameLine, Allman}
 use Rattle.format.specs.Sink.{Writes}
-use Rattle.format.specs.Pen.{Pen, opts, formatterOf, signatureOf, lone, Stands}
+use Rattle.format.specs.Pen.{Pen, opts, formatterOf, signatureOf, Stands}
 use Rattle.format.specs.Parts.{innerInlineBytes, openInnerInline, openAllman, openSameLine}
 use Rattle.format.specs.Does.{Does}
 use Rattle.format.proofs.Does.{same-run, does}
@@ -85,10 +85,6 @@ module _ {token : TokenAt} {rows text : List ℕ} {t : Token} {ts : List Token} 
   -- on the part behind the token's row, of those behind it
   pub looked-behind : (f : List Token → Bool) {part : List ℕ} {r : Bool} → part ≡ drop (token .behind) rows → r ≡ f (tokensOf part text) → r ≡ f ts
   looked-behind f e k = k ∙ ap (λ l. f (tokensOf l text)) e ∙ ap f (σ .behind)
-
-  -- only the kind and the lexeme of the token are written
-  pub opened : {p q : Pen} → Does (λ o. pushLexeme o (lone token text) ⨾ update groupOpened) p q → Does (λ o. pushLexeme o t ⨾ update groupOpened) p q
-  opened d = rw (σ .kind, σ .lexeme) d
 
 -- ---- a block over several lines, by its style
 

@@ -103,6 +103,11 @@ slice-more s e l g h =
     let f : s ≤ length (take e l) = omega (arith, length-take e l) in
     rw (add-one e, take-suc l e 0 h) (drop-append-le s (take e l) (getD l e 0 ∷ []) f)
 
+pub slice-one : (s e : ℕ) (l : List ℕ) → e - s ≡ 1 → e ≤ length l → slice s e l ≡ getD l s 0 ∷ []
+slice-one s e l g h =
+    let f : e ≡ s + 1 = omega arith in
+    rw (f, slice-more s s l (omega arith) (omega arith), slice-empty s l)
+
 pub record Copied (l : List ℕ) (n : ℕ) (t : List ℕ) (s : ℕ) (m : List ℕ) (i : ℕ) : Type 0 where
   pub size : length m ≡ length l
   pub wrote : Writes l n (slice s (s + i) t) m (n + i)

@@ -2,15 +2,12 @@
 use mathlib.Core.Bool.{Bool, true, false, _&&_}
 use mathlib.Core.List.{List, [], _∷_}
 use mathlib.Core.Logic.{_⊎_, ⊎-elim}
-use mathlib.Core.Path.{_≡_, refl, sym, ap, _∙_}
+use mathlib.Core.Path.{_≡_, refl, sym}
 use Prim.Native.Nat.{ℕ, zero, suc, _+_, _-_, _≤_, _<_}
 use native.Mathlib.Omega.{arith}
 use borrow.Author.Tests.{ne-eqb}
 use lib.Dec.{eqb}
-use lib.ListN.{length, take, drop, getD, length-drop}
-use lib.Seq.{take-all}
-use Rattle.rows.specs.Token.{Token, tokensOf}
-use Rattle.lookahead.specs.Measure.{nextHasComment}
+use lib.ListN.{length, take, getD}
 use Rattle.push_token.specs.Emit.{isSome, isAt}
 use Rattle.push_token.specs.Arms.{endsWithTwoFeeds, isEmptyText, shallower}
 use Rattle.format.specs.Pen.{signatureOf}
@@ -76,13 +73,3 @@ sig-less (suc (suc d)) h = let e : suc (suc d) - 1 ≡ suc d = omega arith in rw
 pub sig-open : (d : ℕ) → isAt (signatureOf d) 0 ≡ false
 sig-open zero = refl
 sig-open (suc d) = ne-eqb (suc d) 0 (λ e. omega arith)
-
--- ---- the rows behind a token
-
--- the rows from n on, which the code lends as a part
-pub rest-part : (n : ℕ) (l : List ℕ) → take (length l - n) (drop n l) ≡ drop n l
-rest-part n l = take-all (length l - n) (drop n l) (omega (arith, length-drop n l))
-
--- what the test of that part says of the tokens there
-pub led : (n : ℕ) (rows : List ℕ) (text : List ℕ) {ts : List Token} {r v : Bool} → r ≡ nextHasComment (tokensOf (take (length rows - n) (drop n rows)) text) → tokensOf (drop n rows) text ≡ ts → r ≡ v → nextHasComment ts ≡ v
-led n rows text e f g = sym (e ∙ ap (λ (l : List ℕ). nextHasComment (tokensOf l text)) (rest-part n rows) ∙ ap nextHasComment f) ∙ g

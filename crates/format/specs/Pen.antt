@@ -127,7 +127,7 @@ pub record Held (f g : Formatter) : Type 0 where
 pub record Names (token : TokenAt) (text : List ℕ) : Type 0 where
   pub ordered : token .start ≤ token .end
   pub within : token .end ≤ length text
-  pub index : token .index < 4294967296
+  pub index : token .index < 4294967295
 
 abbrev pub lexemeOf : TokenAt → List ℕ → List ℕ
 lexemeOf token text = slice (token .start) (token .end) text

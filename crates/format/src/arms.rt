@@ -1,4 +1,5 @@
-// The arms of `push_token`, in the order of format.rs.
+// The arms of `push_token`, in the order of format.rs. An arm that writes its token's lexeme leaves it due, and `push_due`
+// writes it: then each method has one place where it is called, all are compiled into one loop, and the state is not copied.
 use crate::formatter::Before;
 use crate::formatter::BraceStyle;
 use crate::formatter::Formatter;
@@ -12,8 +13,10 @@ use crate::formatter::Suppressed;
 use crate::formatter::TokenAt;
 use crate::formatter::less;
 use crate::formatter::less32;
+use crate::formatter::token_gap;
 use crate::write::write_byte;
 use crate::write::write_comma;
+use crate::write::write_spaced;
 use lookahead::block_is_single_line;
 use lookahead::next_has_comment;
 use lookahead::should_break_list;
@@ -25,15 +28,15 @@ ghost use mathlib.Core.Path.{_≡_};
 ghost use Prim.Native.Nat.{ℕ, _+_, _-_, _≤_, _<_};
 ghost use lib.Dec.{eqb};
 ghost use lib.ListN.{length, take, set};
-ghost use Rattle.rows.specs.Token.{Token};
+ghost use Rattle.rows.specs.Token.{Token, tokensOf};
 ghost use Rattle.lookahead.specs.Measure.{nextHasComment, shouldBreakSig, shouldBreakList, blockIsSingleLine};
 ghost use Rattle.push_token.specs.Act.{update, _⨾_};
 ghost use Rattle.push_token.specs.Emit.{openBlockMultiline, pushLexeme};
-ghost use Rattle.push_token.specs.Arms.{inlineCloseGap, endsWithTwoFeeds, groupOpened, groupClosed, atSignature, newlineArm, closeInline, closeRecord, closeBlock, rightBraceArm, nextIs, emptyRecord, openBlock, leftBraceArm, openList, breaksList, leftParenArm, leftBracketArm, closeCall, rightParenArm, closeArray, rightBracketArm, commaArm, elseOnNewLine, elseArm, otherArm, trackRecord};
-ghost use Rattle.push_token.specs.PushToken.{arm};
+ghost use Rattle.push_token.specs.Arms.{atRecordFields, inBrokenList, inlineCloseGap, endsWithTwoFeeds, groupClosed, atSignature, newlineArm, closeInline, closeRecord, closeBlock, rightBraceArm, nextIs, emptyRecord, openBlock, leftBraceArm, openList, breaksList, closeCall, rightParenArm, closeArray, rightBracketArm, commaArm, elseOnNewLine, elseArm, otherArm, trackRecord};
 ghost use Rattle.format.specs.Sink.{Writes};
-ghost use Rattle.format.specs.Pen.{Roomy, StackRoom, Names, Stands, Ahead, lexemeOf, lone, optionsOf, formatterOf, prevOf, newlineOf, on};
-ghost use Rattle.format.specs.Parts.{ListRoom, breakComma, breakSignature, closeSignatureParen, openInline};
+ghost use Rattle.format.specs.Pen.{Roomy, StackRoom, Names, Stands, Ahead, lone, optionsOf, formatterOf, newlineOf, signatureOf, stateOf, on};
+ghost use Rattle.format.specs.Parts.{ListRoom, feedsLine, feedLine, opensBlock, recordEntered, openOneLine, openInline, isOpener, openerArm, opensSignature, openSignature, signatureBelow, bracketOpened, breakComma, breakSignature, closeSignatureParen};
+ghost use Rattle.format.specs.Due.{Leads};
 ghost use Rattle.format.specs.Does.{Does};
 
 impl Formatter {
@@ -44,47 +47,55 @@ impl Formatter {
         ensures { λ r. ⌜ ((s text : List ℕ) (t : Token) (ts : List Token) → Stands token (now (rows .entry)) text t ts → Does (λ o. newlineArm (token .index) ts) (on self s (now (out .entry))) (on r s (now (out .exit)))) ⌝ }
     {
         let index = token.index;
+        let behind = token.behind;
         if self.suppresses(index) {
             let never = Suppressed {
                 at: NewlineAt::Never,
             };
             self.suppress_newline_at = never;
-            return self;
+        } else {
+            if self.feeds(out, &rows[behind..]) {
+                self = self.feed_line(out);
+            }
         }
+        self
+    }
+
+    // Whether a Newline that is not suppressed is written: not at the text's start before a comment, not where lines
+    // are kept, and no third line feed.
+    fn feeds(self, out: &[u8], rows: &[u8]) -> bool
+        ensures { λ r. ⌜ ((s text : List ℕ) → self .len ≤ length (now (out .entry)) → r ≡ feedsLine (tokensOf (now (rows .entry)) text) (stateOf (on self s (now (out .entry))))) ⌝ }
+    {
         let len = self.len;
         if len == 0 {
-            let behind = token.behind;
-            if next_has_comment(&rows[behind..]) {
-                return self;
+            if next_has_comment(rows) {
+                return false;
             }
         }
         if self.keeps_lines() {
-            return self;
+            return false;
         }
-        self.feed_line(out)
+        if self.at_line_start {
+            return !ends_with_two_feeds(out, len);
+        }
+        true
     }
 
-    // A line feed, unless a blank line stands already.
     fn feed_line(mut self, out: &mut [u8]) -> Self
-        ensures { λ r. ⌜ ((s : List ℕ) → Does (λ o. Rattle.format.specs.Parts.feedLine) (on self s (now (out .entry))) (on r s (now (out .exit)))) ⌝ }
+        ensures { λ r. ⌜ ((s : List ℕ) → Does (λ o. feedLine) (on self s (now (out .entry))) (on r s (now (out .exit)))) ⌝ }
     {
         let len = self.len;
+        let fed = write_byte(out, len, b'\n');
         let newline = Before {
             kind: Prev::Kind(kinds::NEWLINE),
         };
-        if self.at_line_start {
-            if ends_with_two_feeds(out, len) {
-                return self;
-            }
-        }
-        let fed = write_byte(out, len, b'\n');
         self.len = fed;
         self.at_line_start = true;
         self.prev = newline;
         self
     }
 
-    fn suppresses(self, index: usize) -> bool
+    fn suppresses(self, index: u32) -> bool
         ensures { λ r. ⌜ r ≡ Rattle.push_token.specs.Emit.isAt (newlineOf (self .«suppress_newline_at» .at)) index ⌝ }
     {
         let suppressed = self.suppress_newline_at;
@@ -107,17 +118,20 @@ impl Formatter {
 
     // ---- RightBrace
 
-    pub fn right_brace_arm(self, out: &mut [u8]) -> Self
+    pub fn right_brace_arm(mut self, out: &mut [u8]) -> Self
         requires { ⌜ Roomy self ⌝ }
         ensures { λ r. ⌜ ((s : List ℕ) → Does rightBraceArm (on self s (now (out .entry))) (on r s (now (out .exit)))) ⌝ }
     {
         if self.in_one_line_block() {
-            return self.close_inline(out);
+            self = self.close_inline(out);
+        } else {
+            if self.at_record_fields() {
+                self = self.close_record(out);
+            } else {
+                self = self.close_block(out);
+            }
         }
-        if self.at_record_fields() {
-            return self.close_record(out);
-        }
-        self.close_block(out)
+        self
     }
 
     fn close_inline(mut self, out: &mut [u8]) -> Self
@@ -215,78 +229,103 @@ impl Formatter {
 
     // ---- LeftBrace
 
-    pub fn left_brace_arm(self, out: &mut [u8], rows: &[u8], text: &[u8], token: TokenAt) -> Self
+    pub fn left_brace_arm(
+        mut self,
+        out: &mut [u8],
+        rows: &[u8],
+        text: &[u8],
+        token: TokenAt,
+    ) -> Self
         requires { ⌜ Roomy self ⌝ }
         requires { ⌜ Names token (now text) ⌝ }
         requires { ⌜ Ahead token (now rows) ⌝ }
+        requires { ⌜ token .kind ≡ 2 ⌝ }
         ensures { λ r. ⌜ ((s : List ℕ) (t : Token) (ts : List Token) → Stands token (now (rows .entry)) (now (text .entry)) t ts → Does (λ o. leftBraceArm o (token .index) t ts) (on self s (now (out .entry))) (on r s (now (out .exit)))) ⌝ }
     {
-        let index = token.index;
-        if self.record_pending {
-            return self.open_record(out, rows, text, token);
+        if self.empties_record(rows, token) {
+            self = self.empty_record(out, text, token);
+        } else {
+            if self.opens_block(rows, token) {
+                self = self.open_block(out, token.index);
+            } else {
+                self = self.open_one_line(out);
+            }
         }
-        if self.in_record {
-            return self.open_inner_record(out, index);
-        }
-        if self.in_one_line_block() {
-            return self.open_inner_inline(out);
-        }
-        let lead = token.lead;
-        if block_is_single_line(&rows[lead..]) {
-            return self.open_inline(out);
-        }
-        self.open_block(out, index)
+        self
     }
 
-    // Behind `record` and its name.
-    fn open_record(mut self, out: &mut [u8], rows: &[u8], text: &[u8], token: TokenAt) -> Self
-        requires { ⌜ Roomy self ⌝ }
-        requires { ⌜ Names token (now text) ⌝ }
+    // `record E {` with `}` right behind it.
+    fn empties_record(self, rows: &[u8], token: TokenAt) -> bool
         requires { ⌜ Ahead token (now rows) ⌝ }
-        ensures { λ r. ⌜ ((s : List ℕ) (t : Token) (ts : List Token) → Stands token (now (rows .entry)) (now (text .entry)) t ts → Does (λ o. Rattle.format.specs.Parts.openRecord o (token .index) t ts) (on self s (now (out .entry))) (on r s (now (out .exit)))) ⌝ }
+        ensures { λ r. ⌜ ((text : List ℕ) (t : Token) (ts : List Token) → Stands token (now (rows .entry)) text t ts → r ≡ self .«record_pending» && nextIs 3 ts) ⌝ }
     {
-        let behind = token.behind;
-        let index = token.index;
-        if next_is(&rows[behind..], kinds::RIGHT_BRACE) {
-            return self.empty_record(out, text, token);
+        if self.record_pending {
+            let behind = token.behind;
+            return next_is(&rows[behind..], kinds::RIGHT_BRACE);
         }
-        let depth = RecordDepth(1);
-        self.record_pending = false;
-        self.in_record = true;
-        self.record_depth = depth;
-        self.open_block(out, index)
+        false
+    }
+
+    // Whether a `{` opens a block over several lines: a record, a brace in one, and what is no one-line block.
+    fn opens_block(self, rows: &[u8], token: TokenAt) -> bool
+        requires { ⌜ Ahead token (now rows) ⌝ }
+        ensures { λ r. ⌜ ((text : List ℕ) (t : Token) (ts : List Token) → Stands token (now (rows .entry)) text t ts → r ≡ opensBlock (t ∷ ts) (formatterOf self [])) ⌝ }
+    {
+        if self.record_pending {
+            return true;
+        }
+        if self.in_record {
+            return true;
+        }
+        if self.in_one_line_block() {
+            return false;
+        }
+        let lead = token.lead;
+        !block_is_single_line(&rows[lead..])
     }
 
     // `record E {}`: the `}` is taken along.
-    fn empty_record(self, out: &mut [u8], text: &[u8], token: TokenAt) -> Self
+    fn empty_record(mut self, out: &mut [u8], text: &[u8], token: TokenAt) -> Self
         requires { ⌜ Names token (now text) ⌝ }
+        requires { ⌜ token .kind ≡ 2 ⌝ }
         ensures { λ r. ⌜ ((s : List ℕ) → Does (λ o. emptyRecord o (lone token (now (text .entry)))) (on self s (now (out .entry))) (on r s (now (out .exit)))) ⌝ }
     {
-        let mut pushed = self.push_lexeme(out, text, token);
-        let len = pushed.len;
-        let opened = write_byte(out, len, b'{');
+        let start = token.start;
+        let end = token.end;
+        let indent = self.indent_spaces();
+        let gap = token_gap(
+            self.at_line_start,
+            indent,
+            self.is_tight(),
+            self.prev_kind(),
+            kinds::LEFT_BRACE,
+        );
+        let written = write_spaced(out, self.len, gap, text, start, end);
+        let opened = write_byte(out, written, b'{');
         let closed = write_byte(out, opened, b'}');
         let brace = Before {
             kind: Prev::Kind(kinds::RIGHT_BRACE),
         };
-        pushed.len = closed;
-        pushed.prev = brace;
-        pushed.record_pending = false;
-        pushed.returned = true;
-        pushed.skip_next = true;
-        pushed
+        self.len = closed;
+        self.prev = brace;
+        self.at_line_start = false;
+        self.record_pending = false;
+        self.returned = true;
+        self.skip_next = true;
+        self
     }
 
-    // A brace in a record.
-    fn open_inner_record(mut self, out: &mut [u8], index: usize) -> Self
+    // A `{` that opens no block over several lines.
+    fn open_one_line(mut self, out: &mut [u8]) -> Self
         requires { ⌜ Roomy self ⌝ }
-        requires { ⌜ index < 4294967296 ⌝ }
-        ensures { λ r. ⌜ ((s : List ℕ) → Does (λ o. Rattle.format.specs.Parts.openInnerRecord o index) (on self s (now (out .entry))) (on r s (now (out .exit)))) ⌝ }
+        ensures { λ r. ⌜ ((s : List ℕ) → Does openOneLine (on self s (now (out .entry))) (on r s (now (out .exit)))) ⌝ }
     {
-        let record = self.record_depth;
-        let depth = RecordDepth(record.0 + 1);
-        self.record_depth = depth;
-        self.open_block(out, index)
+        if self.in_one_line_block() {
+            self = self.open_inner_inline(out);
+        } else {
+            self = self.open_inline(out);
+        }
+        self
     }
 
     // A brace in a one-line block; at a line's start the Rust writes none.
@@ -336,18 +375,45 @@ impl Formatter {
         self
     }
 
-    // `open_block_multiline`, and the last kind.
-    fn open_block(self, out: &mut [u8], index: usize) -> Self
-        requires { ⌜ self .indent < 4294967295 ⌝ }
-        requires { ⌜ index < 4294967296 ⌝ }
-        ensures { λ r. ⌜ ((s : List ℕ) → Does (λ o. openBlock o index) (on self s (now (out .entry))) (on r s (now (out .exit)))) ⌝ }
+    // The record that it opens or goes deeper in, `open_block_multiline`, and the last kind.
+    fn open_block(mut self, out: &mut [u8], index: u32) -> Self
+        requires { ⌜ Roomy self ⌝ }
+        requires { ⌜ index < 4294967295 ⌝ }
+        ensures { λ r. ⌜ ((s : List ℕ) → Does (λ o. update recordEntered ⨾ openBlock o index) (on self s (now (out .entry))) (on r s (now (out .exit)))) ⌝ }
     {
+        self = self.enter_record();
         let options = self.options;
         let style = options.brace_style;
         match style {
-            BraceStyle::SameLine => self.open_block_same_line(out),
-            BraceStyle::Allman => self.open_block_allman(out, index),
+            BraceStyle::SameLine => {
+                self = self.open_block_same_line(out);
+            }
+            BraceStyle::Allman => {
+                self = self.open_block_allman(out, index);
+            }
         }
+        self
+    }
+
+    // A brace behind `record` and its name opens a record, one in a record goes deeper.
+    fn enter_record(mut self) -> Self
+        requires { ⌜ Roomy self ⌝ }
+        ensures does { λ r. ⌜ ((s l : List ℕ) → Does (λ o. update recordEntered) (on self s l) (on r s l)) ⌝ }
+        ensures indent { λ r. ⌜ r .indent ≡ self .indent ⌝ }
+    {
+        let record = self.record_depth;
+        if self.record_pending {
+            let depth = RecordDepth(1);
+            self.record_pending = false;
+            self.in_record = true;
+            self.record_depth = depth;
+        } else {
+            if self.in_record {
+                let depth = RecordDepth(record.0 + 1);
+                self.record_depth = depth;
+            }
+        }
+        self
     }
 
     fn open_block_same_line(mut self, out: &mut [u8]) -> Self
@@ -367,9 +433,9 @@ impl Formatter {
         self
     }
 
-    fn open_block_allman(mut self, out: &mut [u8], index: usize) -> Self
+    fn open_block_allman(mut self, out: &mut [u8], index: u32) -> Self
         requires { ⌜ self .indent < 4294967295 ⌝ }
-        requires { ⌜ index < 4294967296 ⌝ }
+        requires { ⌜ index < 4294967295 ⌝ }
         ensures { λ r. ⌜ ((s : List ℕ) → Does (λ o. Rattle.format.specs.Parts.openAllman o index) (on self s (now (out .entry))) (on r s (now (out .exit)))) ⌝ }
     {
         let len = self.len;
@@ -392,7 +458,8 @@ impl Formatter {
 
     // ---- LeftParen and LeftBracket
 
-    pub fn left_paren_arm(
+    // One method for the two arms, so that `open_list` is called at one place.
+    pub fn opener_arm(
         mut self,
         out: &mut [u8],
         stack: &mut [u32],
@@ -403,39 +470,29 @@ impl Formatter {
         requires { ⌜ Roomy self ⌝ }
         requires { ⌜ StackRoom self (now stack) ⌝ }
         requires { ⌜ Names token (now text) ⌝ }
-        requires { ⌜ Ahead token (now rows) ⌝ }
-        ensures { λ r. ⌜ ((t : Token) (ts : List Token) → Stands token (now (rows .entry)) (now (text .entry)) t ts → (atSignature (formatterOf self []) ≡ false → ListRoom (optionsOf (self .options)) t ts (formatterOf self []) (self .«break_count»)) → Does (λ o. leftParenArm o (token .index) t ts) (on self (now (stack .entry)) (now (out .entry))) (on r (now (stack .exit)) (now (out .exit)))) ⌝ }
+        requires { ⌜ (Ahead token (now rows)) × (isOpener (token .kind) ≡ true) ⌝ }
+        ensures { λ r. ⌜ ((t : Token) (ts : List Token) → Stands token (now (rows .entry)) (now (text .entry)) t ts → (opensSignature (token .kind) (formatterOf self []) ≡ false → ListRoom (optionsOf (self .options)) t ts (formatterOf self []) (self .«break_count»)) → Leads (λ o. openerArm o (token .index) t ts) (lone token (now (text .entry))) (on self (now (stack .entry)) (now (out .entry))) (on r (now (stack .exit)) (now (out .exit)))) ⌝ }
     {
-        if self.at_signature() {
-            return self.open_signature(out, rows, text, token);
+        if self.opens_signature(token.kind) {
+            self = self.open_signature(out, rows, token);
+        } else {
+            if self.breaks_list(rows, token) {
+                self = self.open_list(out, stack, text, token);
+                self.lexeme_due = false;
+            } else {
+                self = self.open_group(token.kind);
+            }
         }
-        if self.breaks_list(rows, token) {
-            return self.open_list(out, stack, text, token);
-        }
-        let signature = self.sig_break_depth;
-        let depth = SignatureDepth(deeper(signature.0));
-        self.sig_break_depth = depth;
-        self.open_group(out, text, token)
+        self
     }
 
-    pub fn left_bracket_arm(
-        self,
-        out: &mut [u8],
-        stack: &mut [u32],
-        rows: &[u8],
-        text: &[u8],
-        token: TokenAt,
-    ) -> Self
-        requires { ⌜ Roomy self ⌝ }
-        requires { ⌜ StackRoom self (now stack) ⌝ }
-        requires { ⌜ Names token (now text) ⌝ }
-        requires { ⌜ Ahead token (now rows) ⌝ }
-        ensures { λ r. ⌜ ((t : Token) (ts : List Token) → Stands token (now (rows .entry)) (now (text .entry)) t ts → ListRoom (optionsOf (self .options)) t ts (formatterOf self []) (self .«break_count») → Does (λ o. leftBracketArm o (token .index) t ts) (on self (now (stack .entry)) (now (out .entry))) (on r (now (stack .exit)) (now (out .exit)))) ⌝ }
+    fn opens_signature(self, kind: u32) -> bool
+        ensures { λ r. ⌜ r ≡ opensSignature kind (formatterOf self []) ⌝ }
     {
-        if self.breaks_list(rows, token) {
-            return self.open_list(out, stack, text, token);
+        if kind == kinds::LEFT_PAREN {
+            return self.at_signature();
         }
-        self.open_group(out, text, token)
+        false
     }
 
     // `fn name (` or `fn (`, outside one-line blocks.
@@ -471,25 +528,31 @@ impl Formatter {
         false
     }
 
-    fn open_signature(mut self, out: &mut [u8], rows: &[u8], text: &[u8], token: TokenAt) -> Self
+    fn open_signature(mut self, out: &mut [u8], rows: &[u8], token: TokenAt) -> Self
         requires { ⌜ Roomy self ⌝ }
-        requires { ⌜ Names token (now text) ⌝ }
+        requires { ⌜ token .index < 4294967295 ⌝ }
         requires { ⌜ Ahead token (now rows) ⌝ }
-        ensures { λ r. ⌜ ((s : List ℕ) (t : Token) (ts : List Token) → Stands token (now (rows .entry)) (now (text .entry)) t ts → Does (λ o. Rattle.format.specs.Parts.openSignature o (token .index) t ts) (on self s (now (out .entry))) (on r s (now (out .exit)))) ⌝ }
+        ensures { λ r. ⌜ ((s text : List ℕ) (t : Token) (ts : List Token) → Stands token (now (rows .entry)) text t ts → Leads (λ o. openSignature o (token .index) t ts) (lone token text) (on self s (now (out .entry))) (on r s (now (out .exit)))) ⌝ }
     {
         let options = self.options;
         let lead = token.lead;
         let index = token.index;
         self.fn_state = 0;
         if should_break_sig(&rows[lead..], options.fn_sig_width) {
-            return self.break_signature(out, index);
+            self = self.break_signature(out, index);
+            self.lexeme_due = false;
+        } else {
+            let group = self.group_depth;
+            let depth = GroupDepth(group.0 + 1);
+            self.group_depth = depth;
+            self.lexeme_due = true;
         }
-        self.open_group(out, text, token)
+        self
     }
 
-    fn break_signature(mut self, out: &mut [u8], index: usize) -> Self
+    fn break_signature(mut self, out: &mut [u8], index: u32) -> Self
         requires { ⌜ Roomy self ⌝ }
-        requires { ⌜ index < 4294967296 ⌝ }
+        requires { ⌜ index < 4294967295 ⌝ }
         ensures { λ r. ⌜ ((s : List ℕ) → Does (λ o. breakSignature o index) (on self s (now (out .entry))) (on r s (now (out .exit)))) ⌝ }
     {
         let len = self.len;
@@ -515,26 +578,31 @@ impl Formatter {
         self
     }
 
-    // A lexeme, and one bracket deeper.
-    fn open_group(mut self, out: &mut [u8], text: &[u8], token: TokenAt) -> Self
-        requires { ⌜ self .«group_depth» .0 < 4294967295 ⌝ }
-        requires { ⌜ Names token (now text) ⌝ }
-        ensures { λ r. ⌜ ((s : List ℕ) → Does (λ o. pushLexeme o (lone token (now (text .entry))) ⨾ update groupOpened) (on self s (now (out .entry))) (on r s (now (out .exit)))) ⌝ }
+    // A bracket that does not break: one deeper, and its lexeme is due.
+    fn open_group(mut self, kind: u32) -> Self
+        requires { ⌜ Roomy self ⌝ }
+        ensures due { λ r. ⌜ r .«lexeme_due» ≡ true ⌝ }
+        ensures does { λ r. ⌜ ((s l : List ℕ) → Does (λ o. update (bracketOpened kind)) (on self s l) (on r s l)) ⌝ }
     {
-        let kind = token.kind;
-        let len = self.write_token(out, text, token);
-        let unary = self.minus_is_unary_after(kind);
-        let prev = Before {
-            kind: Prev::Kind(kind),
-        };
+        let signature = SignatureDepth(self.signature_below(kind));
         let group = self.group_depth;
         let depth = GroupDepth(group.0 + 1);
-        self.len = len;
-        self.prev_minus_is_unary = unary;
-        self.prev = prev;
-        self.at_line_start = false;
+        self.sig_break_depth = signature;
         self.group_depth = depth;
+        self.lexeme_due = true;
         self
+    }
+
+    // A `(` in a broken signature is one deeper in it.
+    fn signature_below(self, kind: u32) -> u32
+        requires { ⌜ Roomy self ⌝ }
+        ensures { λ r. ⌜ signatureOf r ≡ signatureBelow kind (signatureOf (self .«sig_break_depth» .0)) ⌝ }
+    {
+        let signature = self.sig_break_depth;
+        if kind == kinds::LEFT_PAREN {
+            return deeper(signature.0);
+        }
+        signature.0
     }
 
     // A wide list opens: one item a line.
@@ -546,7 +614,11 @@ impl Formatter {
     {
         let kind = token.kind;
         let index = token.index;
-        let written = self.write_token(out, text, token);
+        let start = token.start;
+        let end = token.end;
+        let indent = self.indent_spaces();
+        let gap = token_gap(self.at_line_start, indent, self.is_tight(), self.prev_kind(), kind);
+        let written = write_spaced(out, self.len, gap, text, start, end);
         let fed = write_byte(out, written, b'\n');
         let count = self.break_count;
         let group = self.group_depth;
@@ -571,27 +643,25 @@ impl Formatter {
 
     // ---- RightParen
 
-    pub fn right_paren_arm(
-        mut self,
-        out: &mut [u8],
-        stack: &[u32],
-        text: &[u8],
-        token: TokenAt,
-    ) -> Self
-        requires { ⌜ Names token (now text) ⌝ }
-        ensures { λ r. ⌜ Does (λ o. rightParenArm o (lone token (now (text .entry)))) (on self (now (stack .entry)) (now (out .entry))) (on r (now (stack .entry)) (now (out .exit))) ⌝ }
+    pub fn right_paren_arm(mut self, out: &mut [u8], stack: &[u32]) -> Self
+        ensures { λ r. ⌜ ((t : Token) → Leads (λ o. rightParenArm o t) t (on self (now (stack .entry)) (now (out .entry))) (on r (now (stack .entry)) (now (out .exit)))) ⌝ }
     {
         let signature = self.sig_break_depth;
         let outer = signature.0;
         let depth = SignatureDepth(less32(outer));
         self.sig_break_depth = depth;
         if outer == 1 {
-            return self.close_signature(out);
+            self = self.close_signature(out);
+            self.lexeme_due = false;
+        } else {
+            if self.in_broken_list(stack) {
+                self = self.close_call(out);
+                self.lexeme_due = false;
+            } else {
+                self = self.close_group();
+            }
         }
-        if self.in_broken_list(stack) {
-            return self.close_call(out);
-        }
-        self.close_group(out, text, token)
+        self
     }
 
     // A broken signature's `)`: the indent goes after it.
@@ -638,35 +708,31 @@ impl Formatter {
         self
     }
 
-    // A lexeme, and one bracket less deep.
-    fn close_group(self, out: &mut [u8], text: &[u8], token: TokenAt) -> Self
-        requires { ⌜ Names token (now text) ⌝ }
-        ensures { λ r. ⌜ ((s : List ℕ) → Does (λ o. pushLexeme o (lone token (now (text .entry))) ⨾ update groupClosed) (on self s (now (out .entry))) (on r s (now (out .exit)))) ⌝ }
+    // A bracket that does not break: one less deep, and its lexeme is due.
+    fn close_group(mut self) -> Self
+        ensures due { λ r. ⌜ r .«lexeme_due» ≡ true ⌝ }
+        ensures does { λ r. ⌜ ((s l : List ℕ) → Does (λ o. update groupClosed) (on self s l) (on r s l)) ⌝ }
     {
-        let mut pushed = self.push_lexeme(out, text, token);
-        let group = pushed.group_depth;
+        let group = self.group_depth;
         let depth = GroupDepth(less32(group.0));
-        pushed.group_depth = depth;
-        pushed
+        self.group_depth = depth;
+        self.lexeme_due = true;
+        self
     }
 
     // ---- RightBracket
 
-    pub fn right_bracket_arm(
-        self,
-        out: &mut [u8],
-        stack: &[u32],
-        text: &[u8],
-        token: TokenAt,
-    ) -> Self
+    pub fn right_bracket_arm(mut self, out: &mut [u8], stack: &[u32]) -> Self
         requires { ⌜ Roomy self ⌝ }
-        requires { ⌜ Names token (now text) ⌝ }
-        ensures { λ r. ⌜ Does (λ o. rightBracketArm o (lone token (now (text .entry)))) (on self (now (stack .entry)) (now (out .entry))) (on r (now (stack .entry)) (now (out .exit))) ⌝ }
+        ensures { λ r. ⌜ ((t : Token) → Leads (λ o. rightBracketArm o t) t (on self (now (stack .entry)) (now (out .entry))) (on r (now (stack .entry)) (now (out .exit)))) ⌝ }
     {
         if self.in_broken_list(stack) {
-            return self.close_array(out);
+            self = self.close_array(out);
+            self.lexeme_due = false;
+        } else {
+            self = self.close_group();
         }
-        self.close_group(out, text, token)
+        self
     }
 
     // A broken list's `]`: a comma, unless the last kind is Comma.
@@ -698,23 +764,32 @@ impl Formatter {
 
     // ---- Comma
 
-    pub fn comma_arm(self, out: &mut [u8], stack: &[u32], text: &[u8], token: TokenAt) -> Self
-        requires { ⌜ Names token (now text) ⌝ }
-        ensures { λ r. ⌜ Does (λ o. commaArm o (token .index) (lone token (now (text .entry)))) (on self (now (stack .entry)) (now (out .entry))) (on r (now (stack .entry)) (now (out .exit))) ⌝ }
+    pub fn comma_arm(mut self, out: &mut [u8], stack: &[u32], token: TokenAt) -> Self
+        requires { ⌜ token .index < 4294967295 ⌝ }
+        ensures { λ r. ⌜ ((t : Token) → Leads (λ o. commaArm o (token .index) t) t (on self (now (stack .entry)) (now (out .entry))) (on r (now (stack .entry)) (now (out .exit)))) ⌝ }
     {
         let index = token.index;
+        if self.breaks_comma(stack) {
+            self = self.break_comma(out, index);
+            self.lexeme_due = false;
+        } else {
+            self.lexeme_due = true;
+        }
+        self
+    }
+
+    fn breaks_comma(self, stack: &[u32]) -> bool
+        ensures { λ r. ⌜ r ≡ atRecordFields (formatterOf self (now (stack .entry))) || inBrokenList (formatterOf self (now (stack .entry))) ⌝ }
+    {
         if self.at_record_fields() {
-            return self.break_comma(out, index);
+            return true;
         }
-        if self.in_broken_list(stack) {
-            return self.break_comma(out, index);
-        }
-        self.push_lexeme(out, text, token)
+        self.in_broken_list(stack)
     }
 
     // A comma that ends its line.
-    fn break_comma(mut self, out: &mut [u8], index: usize) -> Self
-        requires { ⌜ index < 4294967296 ⌝ }
+    fn break_comma(mut self, out: &mut [u8], index: u32) -> Self
+        requires { ⌜ index < 4294967295 ⌝ }
         ensures { λ r. ⌜ ((s : List ℕ) → Does (λ o. breakComma index) (on self s (now (out .entry))) (on r s (now (out .exit)))) ⌝ }
     {
         let len = self.len;
@@ -735,14 +810,16 @@ impl Formatter {
 
     // ---- Else
 
-    pub fn else_arm(self, out: &mut [u8], text: &[u8], token: TokenAt) -> Self
-        requires { ⌜ Names token (now text) ⌝ }
-        ensures { λ r. ⌜ ((s : List ℕ) → Does (λ o. elseArm o (lone token (now (text .entry)))) (on self s (now (out .entry))) (on r s (now (out .exit)))) ⌝ }
+    pub fn else_arm(mut self, out: &mut [u8]) -> Self
+        ensures { λ r. ⌜ ((s : List ℕ) (t : Token) → Leads (λ o. elseArm o t) t (on self s (now (out .entry))) (on r s (now (out .exit)))) ⌝ }
     {
         if self.else_on_new_line() {
-            return self.break_else(out);
+            self = self.break_else(out);
+            self.lexeme_due = false;
+        } else {
+            self.lexeme_due = true;
         }
-        self.push_lexeme(out, text, token)
+        self
     }
 
     fn else_on_new_line(self) -> bool
@@ -781,13 +858,13 @@ impl Formatter {
 
     // ---- all others
 
-    pub fn other_arm(mut self, out: &mut [u8], text: &[u8], token: TokenAt) -> Self
-        requires { ⌜ Names token (now text) ⌝ }
-        ensures { λ r. ⌜ ((s : List ℕ) → Does (λ o. otherArm o (lone token (now (text .entry)))) (on self s (now (out .entry))) (on r s (now (out .exit)))) ⌝ }
+    pub fn other_arm(mut self, kind: u32) -> Self
+        ensures { λ r. ⌜ ((s l : List ℕ) (t : Token) → t .kind ≡ kind → Leads (λ o. otherArm o t) t (on self s l) (on r s l)) ⌝ }
     {
-        let pending = self.record_pending_after(token.kind);
+        let pending = self.record_pending_after(kind);
         self.record_pending = pending;
-        self.push_lexeme(out, text, token)
+        self.lexeme_due = true;
+        self
     }
 
     // `record` arms the record layout, a name leaves it armed, anything else disarms it.

@@ -1,7 +1,7 @@
 // The formatter's state, under the names of format.rs. It goes in and comes back by value; the output and the
 // broken-group stack are lent beside it, so that no array is copied.
 use crate::write::write_byte;
-use crate::write::write_part;
+use crate::write::write_spaced;
 use crate::write::write_spaces;
 use lookahead::is_value_kind;
 use lookahead::space_between;
@@ -13,11 +13,13 @@ ghost use Prim.Native.Nat.{ℕ, _+_, _-_, _*_, _<_};
 ghost use lib.Dec.{eqb};
 ghost use lib.ListN.{length, take};
 ghost use Rattle.push_token.specs.Act.{update};
-ghost use Rattle.push_token.specs.Emit.{isAt, prevIs, indentStr, indentOrSpace, onNewLine, trackFnState, spaceAfter, tokenGap, trackMinus, pushLexeme};
+ghost use Rattle.push_token.specs.Emit.{isAt, prevIs, indentStr, indentOrSpace, onNewLine, trackFnState, trackMinus, pushLexeme};
 ghost use Rattle.push_token.specs.Arms.{atRecordFields, inBrokenList, inOneLineBlock, inlineCloseGap, endsWithTwoFeeds, groupClosed};
 ghost use Rattle.format.specs.Sink.{Writes};
+ghost use Rattle.format.specs.Gap.{isTight, kindOf, gapSize};
 ghost use Rattle.format.specs.Pen.{Names, lexemeOf, lone, optionsOf, formatterOf, prevOf, newlineOf, on};
 ghost use Rattle.format.specs.Does.{Does};
+ghost use Rattle.format.specs.Due.{due};
 
 // `prev`: an Option in format.rs.
 pub enum Prev {
@@ -32,7 +34,7 @@ pub struct Before {
 // `suppress_newline_at`: an Option in format.rs.
 pub enum NewlineAt {
     Never,
-    Index(usize),
+    Index(u32),
 }
 
 pub struct Suppressed {
@@ -61,19 +63,21 @@ pub struct Options {
     pub brace_style: BraceStyle,
 }
 
-// The hot fields come first: their order is measured. `len` is the length of the text, or one past the output's end
-// once it is full; `break_count` is the number of entries of the broken-group stack; `too_deep` is 0, or one more than
-// the index at which refusal 4 holds. The last four fields but it are locals and results of `push_token`.
+// The fields' order is measured: others cost up to half as much again. `len` is the length of the text, or one past the
+// output's end once it is full; `break_count` is the number of entries of the broken-group stack; `too_deep` is 0, or one
+// more than the index at which refusal 4 holds. `inline_close`, `returned`, `skip_next`, `too_deep` and `lexeme_due` are
+// locals and results of `push_token`; `lexeme_due`: an arm leaves its lexeme to be written, at one place for all arms.
 pub struct Formatter {
     pub len: usize,
-    pub options: Options,
     pub indent: u32,
+    pub inline_depth: InlineDepth,
+    pub options: Options,
+    pub inline_close: bool,
     pub prev: Before,
     pub at_line_start: bool,
     pub prev_minus_is_unary: bool,
-    pub group_depth: GroupDepth,
-    pub inline_depth: InlineDepth,
     pub record_depth: RecordDepth,
+    pub returned: bool,
     pub sig_break_depth: SignatureDepth,
     pub suppress_newline_at: Suppressed,
     pub break_count: usize,
@@ -83,9 +87,9 @@ pub struct Formatter {
     pub in_record: bool,
     pub record_pending: bool,
     pub just_closed_inline: bool,
-    pub inline_close: bool,
-    pub returned: bool,
     pub skip_next: bool,
+    pub group_depth: GroupDepth,
+    pub lexeme_due: bool,
 }
 
 // A token's place: its kind and lexeme, its index among the tokens, where its leading rows start and where the rows
@@ -94,7 +98,7 @@ pub struct TokenAt {
     pub kind: u32,
     pub start: usize,
     pub end: usize,
-    pub index: usize,
+    pub index: u32,
     pub lead: usize,
     pub behind: usize,
 }
@@ -171,23 +175,32 @@ impl Formatter {
         false
     }
 
-    // Whether a space stands before a token of the kind: none behind a unary `-`.
-    pub fn space_before(self, kind: u32) -> bool
-        ensures { λ r. ⌜ r ≡ spaceAfter (prevOf (self .prev .kind)) (self .«prev_minus_is_unary») kind ⌝ }
+    // Whether the next token stands tight whatever its kind: at the start of the text, and behind a unary `-`.
+    pub fn is_tight(self) -> bool
+        ensures { λ r. ⌜ r ≡ isTight (prevOf (self .prev .kind)) (self .«prev_minus_is_unary») ⌝ }
     {
         let before = self.prev;
         let prev = before.kind;
         match prev {
-            Prev::Nothing => false,
+            Prev::Nothing => true,
             Prev::Kind(k) => {
                 if k == kinds::MINUS {
-                    if self.prev_minus_is_unary {
-                        return false;
-                    }
-                    return space_between(k, kind);
+                    return self.prev_minus_is_unary;
                 }
-                space_between(k, kind)
+                false
             }
+        }
+    }
+
+    // The last kind, or 0 where there is none.
+    pub fn prev_kind(self) -> u32
+        ensures { λ r. ⌜ r ≡ kindOf (prevOf (self .prev .kind)) ⌝ }
+    {
+        let before = self.prev;
+        let prev = before.kind;
+        match prev {
+            Prev::Nothing => 0,
+            Prev::Kind(k) => k,
         }
     }
 
@@ -212,9 +225,15 @@ impl Formatter {
     pub fn write_indent(self, out: &mut [u8], len: usize) -> usize
         ensures { λ r. ⌜ Writes (now (out .entry)) len (indentStr (optionsOf (self .options)) (formatterOf self [])) (now (out .exit)) r ⌝ }
     {
-        let options = self.options;
-        let size = indent_size(options.indent_width, self.indent);
+        let size = self.indent_spaces();
         write_spaces(out, len, size)
+    }
+
+    pub fn indent_spaces(self) -> usize
+        ensures { λ r. ⌜ r ≡ self .options .«indent_width» * self .indent ⌝ }
+    {
+        let options = self.options;
+        indent_size(options.indent_width, self.indent)
     }
 
     // The indent, on a line of its own.
@@ -238,31 +257,6 @@ impl Formatter {
         write_byte(out, len, b' ')
     }
 
-    pub fn write_token_gap(self, out: &mut [u8], len: usize, kind: u32) -> usize
-        ensures { λ r. ⌜ Writes (now (out .entry)) len (tokenGap (optionsOf (self .options)) kind (formatterOf self [])) (now (out .exit)) r ⌝ }
-    {
-        if self.at_line_start {
-            return self.write_indent(out, len);
-        }
-        if self.space_before(kind) {
-            return write_byte(out, len, b' ');
-        }
-        len
-    }
-
-    // The gap of a token, and its lexeme.
-    pub fn write_token(self, out: &mut [u8], text: &[u8], token: TokenAt) -> usize
-        requires { ⌜ Names token (now text) ⌝ }
-        ensures { λ r. ⌜ Writes (now (out .entry)) (self .len) (tokenGap (optionsOf (self .options)) (token .kind) (formatterOf self []) ++ lexemeOf token (now (text .entry))) (now (out .exit)) r ⌝ }
-    {
-        let len = self.len;
-        let kind = token.kind;
-        let start = token.start;
-        let end = token.end;
-        let gapped = self.write_token_gap(out, len, kind);
-        write_part(out, gapped, text, start, end)
-    }
-
     // ---- `push_lexeme`
 
     pub fn push_lexeme(mut self, out: &mut [u8], text: &[u8], token: TokenAt) -> Self
@@ -270,7 +264,11 @@ impl Formatter {
         ensures { λ r. ⌜ ((s : List ℕ) → Does (λ o. pushLexeme o (lone token (now (text .entry)))) (on self s (now (out .entry))) (on r s (now (out .exit)))) ⌝ }
     {
         let kind = token.kind;
-        let len = self.write_token(out, text, token);
+        let start = token.start;
+        let end = token.end;
+        let indent = self.indent_spaces();
+        let gap = token_gap(self.at_line_start, indent, self.is_tight(), self.prev_kind(), kind);
+        let len = write_spaced(out, self.len, gap, text, start, end);
         let unary = self.minus_is_unary_after(kind);
         let prev = Before {
             kind: Prev::Kind(kind),
@@ -279,6 +277,17 @@ impl Formatter {
         self.prev_minus_is_unary = unary;
         self.prev = prev;
         self.at_line_start = false;
+        self
+    }
+
+    // The lexeme that an arm left due.
+    pub fn push_due(mut self, out: &mut [u8], text: &[u8], token: TokenAt) -> Self
+        requires { ⌜ Names token (now text) ⌝ }
+        ensures { λ r. ⌜ ((s : List ℕ) → Does (due (self .«lexeme_due») (lone token (now (text .entry)))) (on self s (now (out .entry))) (on r s (now (out .exit)))) ⌝ }
+    {
+        if self.lexeme_due {
+            self = self.push_lexeme(out, text, token);
+        }
         self
     }
 
@@ -315,4 +324,20 @@ impl Formatter {
         }
         0
     }
+}
+
+// How many spaces stand before a token of the kind. It takes numbers, and not the state, wherever it is called.
+pub fn token_gap(at_line_start: bool, indent: usize, tight: bool, prev: u32, kind: u32) -> usize
+    ensures { λ r. ⌜ r ≡ gapSize «at_line_start» indent tight prev kind ⌝ }
+{
+    if at_line_start {
+        return indent;
+    }
+    if tight {
+        return 0;
+    }
+    if space_between(prev, kind) {
+        return 1;
+    }
+    0
 }

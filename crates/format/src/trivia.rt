@@ -23,7 +23,7 @@ ghost use Rattle.format.specs.Does.{Does};
 impl Formatter {
     // Writes the leading rows from `from` to `to`.
     pub fn push_leading(
-        self,
+        mut self,
         out: &mut [u8],
         rows: &[u8],
         text: &[u8],
@@ -34,18 +34,17 @@ impl Formatter {
         ensures does { λ r. ⌜ ((s : List ℕ) → Does (λ o. leadingTrivia o (triviaIn (now (rows .entry)) (now (text .entry)) from ((to - from) / 16))) (on self s (now (out .entry))) (on r s (now (out .exit)))) ⌝ }
         ensures held { λ r. ⌜ Held self r ⌝ }
     {
-        let mut f = self;
         let mut at = from;
         while at < to {
-            f = f.push_lead(out, text, row_at(rows, at));
+            self = self.push_lead(out, text, row_at(rows, at));
             at += ROW_BYTES;
         }
-        f
+        self
     }
 
     // Writes the trailing rows from `from` to `to`.
     pub fn push_trailing(
-        self,
+        mut self,
         out: &mut [u8],
         rows: &[u8],
         text: &[u8],
@@ -55,13 +54,12 @@ impl Formatter {
         requires { ⌜ Part (now rows) (now text) from to ⌝ }
         ensures { λ r. ⌜ ((s : List ℕ) → Does (λ o. trailingTrivia (triviaIn (now (rows .entry)) (now (text .entry)) from ((to - from) / 16))) (on self s (now (out .entry))) (on r s (now (out .exit)))) ⌝ }
     {
-        let mut f = self;
         let mut at = from;
         while at < to {
-            f = f.push_trail(out, text, row_at(rows, at));
+            self = self.push_trail(out, text, row_at(rows, at));
             at += ROW_BYTES;
         }
-        f
+        self
     }
 
     fn push_lead(mut self, out: &mut [u8], text: &[u8], row: Row) -> Self

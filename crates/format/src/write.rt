@@ -1,6 +1,6 @@
 // Writers into the lent output, on plain numbers: each takes the length so far and answers the length behind it, which
 // is one past the output's end once something does not fit. Nothing is written then.
-ghost use mathlib.Core.List.{[], _∷_};
+ghost use mathlib.Core.List.{[], _∷_, _++_};
 ghost use mathlib.Core.Bool.{cond};
 ghost use Prim.Native.Nat.{_≤_};
 ghost use lib.ListN.{length, replicate};
@@ -33,6 +33,39 @@ pub fn write_spaces(out: &mut [u8], len: usize, n: usize) -> usize
         return size + 1;
     }
     size + 1
+}
+
+// Spaces, and then the bytes of `text` from `start` to `end`. One space and one byte need no loop.
+pub fn write_spaced(
+    out: &mut [u8],
+    len: usize,
+    spaces: usize,
+    text: &[u8],
+    start: usize,
+    end: usize,
+) -> usize
+    requires { ⌜ (start ≤ end) × (end ≤ length (now text)) ⌝ }
+    ensures { λ r. ⌜ Writes (now (out .entry)) len (replicate spaces 32 ++ slice start end (now (text .entry))) (now (out .exit)) r ⌝ }
+{
+    let gapped = write_gap(out, len, spaces);
+    let size = end - start;
+    if size == 1 {
+        let b = text[start];
+        return write_byte(out, gapped, b);
+    }
+    write_part(out, gapped, text, start, end)
+}
+
+fn write_gap(out: &mut [u8], len: usize, spaces: usize) -> usize
+    ensures { λ r. ⌜ Writes (now (out .entry)) len (replicate spaces 32) (now (out .exit)) r ⌝ }
+{
+    if spaces == 0 {
+        return len;
+    }
+    if spaces == 1 {
+        return write_byte(out, len, b' ');
+    }
+    write_spaces(out, len, spaces)
 }
 
 // The bytes of `text` from `start` to `end`.

@@ -132,5 +132,6 @@ fn formatter(options: Options) -> Formatter
         inline_close: false,
         returned: false,
         skip_next: false,
+        lexeme_due: false,
     }
 }

@@ -1,23 +1,28 @@
 -- The arm of a kind, and refusal 4's test kind by kind. Assumes nothing.
 use mathlib.Core.Bool.{Bool, true, false, _||_}
 use mathlib.Core.List.{List, []}
+use mathlib.Core.Logic.{_⊎_, inl, inr}
 use mathlib.Core.Path.{_≡_, refl, sym, ap, _∙_}
 use Prim.Native.Nat.{ℕ, zero, suc, _<_, _≤_}
 use native.Mathlib.Omega.{arith}
-use borrow.Author.Tests.{lt-leb, le-leb, ne-eqb}
+use borrow.Author.Tests.{lt-leb, le-leb, leb-true, leb-false, eqb-true, ne-eqb}
 use lib.Dec.{eqb, leb}
 use lib.ListN.{length}
+use Rattle.report.proofs.Logic.{split, impossible}
 use Rattle.rows.specs.Kinds.{Eof, Newline, LeftBrace, RightBrace, LeftParen, RightParen, LeftBracket, RightBracket, Comma, Else}
 use Rattle.rows.specs.Options.{Options}
 use Rattle.rows.specs.Token.{Token}
-use Rattle.push_token.specs.Act.{nothing}
-use Rattle.push_token.specs.Arms.{newlineArm, rightBraceArm, leftBraceArm, breaksList, atSignature, leftParenArm, leftBracketArm, rightParenArm, rightBracketArm, commaArm, elseArm, otherArm}
+use Rattle.push_token.specs.Formatter
+use Rattle.push_token.specs.Act.{Act, nothing, run}
+use Rattle.push_token.specs.Arms.{newlineArm, rightBraceArm, leftBraceArm, breaksList, atSignature, rightParenArm, rightBracketArm, commaArm, elseArm, otherArm}
 use Rattle.push_token.specs.PushToken.{arm, overflows}
 use Rattle.format.specs.declared.formatter.Formatter.{Formatter}
 use Rattle.format.specs.declared.formatter.TokenAt.{TokenAt}
 use Rattle.format.specs.Pen.{Pen, formatterOf, topFirst, Stands, lone}
+use Rattle.format.specs.Parts.{isOpener, opensSignature, openerArm}
 use Rattle.format.specs.Does.{Does}
-use Rattle.format.proofs.Does.{yes, no}
+use Rattle.format.specs.Due.{Leads}
+use Rattle.format.proofs.Does.{yes, no, same-run}
 use Rattle.walk.proofs.Going.{top-length}
 
 -- ---- the arm
@@ -35,11 +40,12 @@ module _ (i : ℕ) (t : Token) (ts : List Token) {p q : Pen} where
   pub at-left-brace : t .kind ≡ LeftBrace → Does (λ o. leftBraceArm o i t ts) p q → Does (λ o. arm o i t ts) p q
   at-left-brace e d = no (λ n. rw e) (no (λ n. rw e) (no (λ n. rw e) (yes (λ n. rw e) d)))
 
-  pub at-left-paren : t .kind ≡ LeftParen → Does (λ o. leftParenArm o i t ts) p q → Does (λ o. arm o i t ts) p q
-  at-left-paren e d = no (λ n. rw e) (no (λ n. rw e) (no (λ n. rw e) (no (λ n. rw e) (yes (λ n. rw e) d))))
-
-  pub at-left-bracket : t .kind ≡ LeftBracket → Does (λ o. leftBracketArm o i t ts) p q → Does (λ o. arm o i t ts) p q
-  at-left-bracket e d = no (λ n. rw e) (no (λ n. rw e) (no (λ n. rw e) (no (λ n. rw e) (no (λ n. rw e) (yes (λ n. rw e) d)))))
+  pub at-opener : isOpener (t .kind) ≡ true → Does (λ o. openerArm o i t ts) p q → Does (λ o. arm o i t ts) p q
+  unfolding run
+  at-opener e d =
+      split (eqb (t .kind) LeftParen)
+      (λ h. let k = eqb-true (t .kind) LeftParen h in same-run (rw k) d)
+      (λ h. let k = eqb-true (t .kind) LeftBracket (rw h at e) in same-run (rw k) d)
 
   pub at-right-paren : t .kind ≡ RightParen → Does (λ o. rightParenArm o t) p q → Does (λ o. arm o i t ts) p q
   at-right-paren e d = no (λ n. rw e) (no (λ n. rw e) (no (λ n. rw e) (no (λ n. rw e) (no (λ n. rw e) (no (λ n. rw e) (yes (λ n. rw e) d))))))
@@ -60,27 +66,28 @@ module _ (i : ℕ) (t : Token) (ts : List Token) {p q : Pen} where
       no (λ n. rw e (ne-eqb k Eof a)) (no (λ n. rw e (ne-eqb k Newline b)) (no (λ n. rw e (ne-eqb k RightBrace c)) (no (λ n. rw e (ne-eqb k LeftBrace f)) (no (λ n. rw e (ne-eqb k LeftParen g))
       (no (λ n. rw e (ne-eqb k LeftBracket h)) (no (λ n. rw e (ne-eqb k RightParen j)) (no (λ n. rw e (ne-eqb k RightBracket l)) (no (λ n. rw e (ne-eqb k Comma m)) (no (λ n. rw e (ne-eqb k Else x)) d)))))))))
 
--- ---- the arms that see the token's kind and lexeme alone
+-- ---- the openers
 
-module _ {token : TokenAt} {rows text : List ℕ} {t : Token} {ts : List Token} (σ : Stands token rows text t ts) {p q : Pen} where
-  pub alone-right-paren : Does (λ o. rightParenArm o (lone token text)) p q → Does (λ o. rightParenArm o t) p q
-  unfolding rightParenArm
-  alone-right-paren d = rw (σ .kind, σ .lexeme) d
+pub an-opener : {k : ℕ} → (k ≡ LeftParen) ⊎ (k ≡ LeftBracket) → isOpener k ≡ true
+an-opener (inl e) = rw e
+an-opener (inr e) = rw e
 
-  pub alone-right-bracket : Does (λ o. rightBracketArm o (lone token text)) p q → Does (λ o. rightBracketArm o t) p q
-  unfolding rightBracketArm
-  alone-right-bracket d = rw (σ .kind, σ .lexeme) d
+-- ---- an arm that may leave the lexeme due
 
-  pub alone-comma : (i : ℕ) → Does (λ o. commaArm o i (lone token text)) p q → Does (λ o. commaArm o i t) p q
-  unfolding commaArm
-  alone-comma i d = rw (σ .kind, σ .lexeme) d
+-- where what it leads to comes to another act
+pub leading-to : {a b : Options → Act} {k : Token} {p q : Pen} → ((z : Pen) → Does a p z → Does b p z) → Leads a k p q → Leads b k p q
+leading-to f l = record { done = λ z d. f z (l .done z d) }
 
-  pub alone-else : Does (λ o. elseArm o (lone token text)) p q → Does (λ o. elseArm o t) p q
-  unfolding elseArm
-  alone-else d = rw (σ .kind, σ .lexeme) d
+module _ {token : TokenAt} {rows text : List ℕ} {t : Token} {ts : List Token} (σ : Stands token rows text t ts) where
+  pub its-opener : (token .kind ≡ LeftParen) ⊎ (token .kind ≡ LeftBracket) → isOpener (t .kind) ≡ true
+  its-opener e = rw (σ .kind) (an-opener e)
 
-  pub alone-other : Does (λ o. otherArm o (lone token text)) p q → Does (λ o. otherArm o t) p q
-  alone-other d = rw (σ .kind, σ .lexeme) d
+  pub its-test : (f : Formatter.Formatter) {b : Bool} → opensSignature (token .kind) f ≡ b → opensSignature (t .kind) f ≡ b
+  its-test f e = rw (σ .kind) e
+
+  -- the lexeme of the token's rows is the token's
+  pub its-lexeme : {a : Options → Act} {p q : Pen} → Leads a t p q → Leads a (lone token text) p q
+  its-lexeme {a} {p} {q} l = record { done = λ z d. l .done z (rw (σ .kind, σ .lexeme) d) }
 
 -- ---- refusal 4
 
@@ -105,16 +112,13 @@ module _ (o : Options) (t : Token) (ts : List Token) (f : Formatter) (s : List �
   full-other {k} h e a b = rw (top-length (f .«break_count») s, le-leb 64 (f .«break_count») h, e, ne-eqb k LeftParen a, ne-eqb k LeftBracket b)
 
   -- an opener whose list breaks finds room where the test fails
-  pub room-paren : f .«break_count» ≤ 64 → t .kind ≡ LeftParen → overflows o t ts (formatterOf f s) ≡ false → atSignature (formatterOf f []) ≡ false → breaksList o t ts (formatterOf f []) ≡ true → f .«break_count» < 64
-  room-paren m e v a r = go (leb 64 (f .«break_count»)) refl
+  pub room : isOpener (t .kind) ≡ true → overflows o t ts (formatterOf f s) ≡ false → opensSignature (t .kind) (formatterOf f []) ≡ false → breaksList o t ts (formatterOf f []) ≡ true → f .«break_count» < 64
+  room e v a r = go (leb 64 (f .«break_count»)) refl
     where
       go : (x : Bool) → leb 64 (f .«break_count») ≡ x → f .«break_count» < 64
-      go false x = borrow.Author.Tests.leb-false 64 (f .«break_count») x
-      go true x = Rattle.report.proofs.Logic.impossible (full-paren (borrow.Author.Tests.leb-true 64 (f .«break_count») x) e a (sym r) ∙ v)
-
-  pub room-bracket : f .«break_count» ≤ 64 → t .kind ≡ LeftBracket → overflows o t ts (formatterOf f s) ≡ false → breaksList o t ts (formatterOf f []) ≡ true → f .«break_count» < 64
-  room-bracket m e v r = go (leb 64 (f .«break_count»)) refl
-    where
-      go : (x : Bool) → leb 64 (f .«break_count») ≡ x → f .«break_count» < 64
-      go false x = borrow.Author.Tests.leb-false 64 (f .«break_count») x
-      go true x = Rattle.report.proofs.Logic.impossible (full-bracket (borrow.Author.Tests.leb-true 64 (f .«break_count») x) e (sym r) ∙ v)
+      go false x = leb-false 64 (f .«break_count») x
+      go true x =
+          let h = leb-true 64 (f .«break_count») x in
+          split (eqb (t .kind) LeftParen)
+          (λ k. impossible (full-paren h (eqb-true (t .kind) LeftParen k) (rw k at a) (sym r) ∙ v))
+          (λ k. impossible (full-bracket h (eqb-true (t .kind) LeftBracket (rw k at e)) (sym r) ∙ v))

@@ -169,7 +169,7 @@ module _ {rows text : List ℕ} {at : ℕ} (ω : Walks rows text) (η : Head row
         let b : (nextOf rows (rowOf rows at) - (rowOf rows at + 16)) / 16 ≡ m = omega arith in
         record { leading = rw (τ .lead, τ .behind, a); trailing = rw (τ .behind, b) }
 
-    pub token-rows : i < 4294967296 → TokenRows token rows text (nextOf rows (rowOf rows at))
+    pub token-rows : i < 4294967295 → TokenRows token rows text (nextOf rows (rowOf rows at))
     token-rows few =
         let inside = rw row-here at (bounds-get text n nothing (rowsOf (drop at rows)) (first .short) bounds) in
         let r = row-inside in

@@ -52,9 +52,13 @@ pub record Trivial (token : TokenAt) (next : ℕ) (rows text : List ℕ) (t : To
   pub leading : t .leading ≡ triviaIn rows text (token .lead) (rowCount (token .lead) (token .behind - 16))
   pub trailing : t .trailing ≡ triviaIn rows text (token .behind) (rowCount (token .behind) next)
 
--- behind an arm
+-- the trailing trivia behind an arm
+abbrev pub trailToken : List Trivia → Act
+trailToken trailing = if (λ f. f .returned) nothing (trailingTrivia trailing)
+
+-- all behind an arm
 abbrev pub endToken : ℕ → List Trivia → Act
-endToken k trailing = if (λ f. f .returned) nothing (trailingTrivia trailing) ⨾ update (trackFnState k)
+endToken k trailing = trailToken trailing ⨾ update (trackFnState k)
 
 -- `Formatter::new`, with an empty text and a stack of 64 numbers
 pub record Fresh (f : Formatter) (stack : List ℕ) : Type 0 where

@@ -33,7 +33,7 @@ pub fn walk(new: Formatter, out: &mut [u8], stack: &mut [u32], rows: &[u8], text
 {
     let mut f = new;
     let mut at = 0;
-    let mut index = 0;
+    let mut index: u32 = 0;
     while at < rows.len() {
         let row = rows_end(rows, at, kinds::LEADING);
         let next = rows_end(rows, row + ROW_BYTES, kinds::TRAILING);
@@ -41,11 +41,13 @@ pub fn walk(new: Formatter, out: &mut [u8], stack: &mut [u32], rows: &[u8], text
         f = turn(f, out, stack, rows, text, token, next);
         let len = f.len;
         if out.len() < len {
-            return Walked::Full(index);
+            let full = index as usize;
+            return Walked::Full(full);
         }
         let deep = f.too_deep;
         if 0 < deep {
-            return Walked::Deep(index);
+            let refused = index as usize;
+            return Walked::Deep(refused);
         }
         at = next;
         index += 1;
@@ -73,9 +75,10 @@ fn turn(
 {
     if f.skip_next {
         f.skip_next = false;
-        return f;
+    } else {
+        f = push_token(f, out, stack, rows, text, token, next);
     }
-    push_token(f, out, stack, rows, text, token, next)
+    f
 }
 
 // Where the rows of a what end that start at `at`.
@@ -95,7 +98,7 @@ fn rows_end(rows: &[u8], at: usize, what: u32) -> usize
 }
 
 // The token whose row stands at `row`, behind leading rows from `lead` on.
-fn token_at(rows: &[u8], lead: usize, row: usize, index: usize) -> TokenAt
+fn token_at(rows: &[u8], lead: usize, row: usize, index: u32) -> TokenAt
     requires { ⌜ row + 16 ≤ length (now rows) ⌝ }
     ensures { λ r. ⌜ TokenAtRow (now (rows .entry)) lead row index r ⌝ }
 {

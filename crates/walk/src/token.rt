@@ -13,14 +13,15 @@ ghost use Rattle.rows.specs.Token.{Token};
 ghost use Rattle.push_token.specs.Formatter.{setTooDeep};
 ghost use Rattle.push_token.specs.Act.{update};
 ghost use Rattle.push_token.specs.PushToken.{takeInlineClose, arm, overflows, pushToken};
-ghost use Rattle.format.specs.Pen.{Held, Roomy, StackRoom, Names, Ahead, Stands, optionsOf, formatterOf, on};
+ghost use Rattle.format.specs.Pen.{Held, Roomy, StackRoom, Names, Ahead, Stands, lone, optionsOf, formatterOf, on};
 ghost use Rattle.format.specs.Trivia.{Part, triviaIn};
 ghost use Rattle.format.specs.Does.{Does};
-ghost use Rattle.walk.specs.Walk.{TokenRows, Trivial, endToken, rowCount};
+ghost use Rattle.format.specs.Due.{Leads};
+ghost use Rattle.walk.specs.Walk.{TokenRows, Trivial, trailToken, rowCount};
 
 // The rows from `token.lead` on are its leading rows, its own, and trailing ones up to `next`.
 pub fn push_token(
-    f: Formatter,
+    mut f: Formatter,
     out: &mut [u8],
     stack: &mut [u32],
     rows: &[u8],
@@ -36,13 +37,17 @@ pub fn push_token(
     let lead = token.lead;
     let behind = token.behind;
     let row = behind - ROW_BYTES;
-    let led = f.push_leading(out, rows, text, lead, row);
-    let taken = take_inline_close(led, lead == row);
-    if overflows(taken, rows, token) {
-        return refuse(taken, token);
+    f = f.push_leading(out, rows, text, lead, row);
+    f = take_inline_close(f, lead == row);
+    if overflows(f, rows, token) {
+        f = refuse(f, token);
+    } else {
+        f = arm(f, out, stack, rows, text, token);
+        f = f.push_due(out, text, token);
+        f = trail(f, out, rows, text, token, next);
+        f = f.track_fn_state(token.kind);
     }
-    let armed = arm(taken, out, stack, rows, text, token);
-    end_token(armed, out, rows, text, token, next)
+    f
 }
 
 // The mark of a one-line block's `}`; where trivia was seen it stays.
@@ -55,9 +60,9 @@ fn take_inline_close(mut f: Formatter, bare: bool) -> Formatter
         let closed = f.just_closed_inline;
         f.inline_close = closed;
         f.just_closed_inline = false;
-        return f;
+    } else {
+        f.inline_close = false;
     }
-    f.inline_close = false;
     f
 }
 
@@ -83,17 +88,17 @@ fn overflows(f: Formatter, rows: &[u8], token: TokenAt) -> bool
 }
 
 fn refuse(mut f: Formatter, token: TokenAt) -> Formatter
-    requires { ⌜ token .index < 4294967296 ⌝ }
+    requires { ⌜ token .index < 4294967295 ⌝ }
     ensures { λ r. ⌜ ((s l : List ℕ) → Does (λ o. update (setTooDeep (some (token .index)))) (on f s l) (on r s l)) ⌝ }
 {
     let index = token.index;
-    f.too_deep = index + 1;
+    f.too_deep = (index as usize) + 1;
     f
 }
 
-// The arm of the token's kind.
+// The arm of the token's kind; it may leave the lexeme due.
 fn arm(
-    f: Formatter,
+    mut f: Formatter,
     out: &mut [u8],
     stack: &mut [u32],
     rows: &[u8],
@@ -103,27 +108,50 @@ fn arm(
     requires { ⌜ Roomy f ⌝ }
     requires { ⌜ StackRoom f (now stack) ⌝ }
     requires { ⌜ (Names token (now text)) × (Ahead token (now rows)) ⌝ }
-    ensures { λ r. ⌜ ((t : Token) (ts : List Token) → Stands token (now (rows .entry)) (now (text .entry)) t ts → overflows (optionsOf (f .options)) t ts (formatterOf f (now (stack .entry))) ≡ false → Does (λ o. arm o (token .index) t ts) (on f (now (stack .entry)) (now (out .entry))) (on r (now (stack .exit)) (now (out .exit)))) ⌝ }
+    ensures { λ r. ⌜ ((t : Token) (ts : List Token) → Stands token (now (rows .entry)) (now (text .entry)) t ts → overflows (optionsOf (f .options)) t ts (formatterOf f (now (stack .entry))) ≡ false → Leads (λ o. arm o (token .index) t ts) (lone token (now (text .entry))) (on f (now (stack .entry)) (now (out .entry))) (on r (now (stack .exit)) (now (out .exit)))) ⌝ }
 {
     let kind = token.kind;
     match kind {
-        kinds::EOF => f,
-        kinds::NEWLINE => f.newline_arm(out, rows, token),
-        kinds::RIGHT_BRACE => f.right_brace_arm(out),
-        kinds::LEFT_BRACE => f.left_brace_arm(out, rows, text, token),
-        kinds::LEFT_PAREN => f.left_paren_arm(out, stack, rows, text, token),
-        kinds::LEFT_BRACKET => f.left_bracket_arm(out, stack, rows, text, token),
-        kinds::RIGHT_PAREN => f.right_paren_arm(out, stack, text, token),
-        kinds::RIGHT_BRACKET => f.right_bracket_arm(out, stack, text, token),
-        kinds::COMMA => f.comma_arm(out, stack, text, token),
-        kinds::ELSE => f.else_arm(out, text, token),
-        _ => f.other_arm(out, text, token),
+        kinds::EOF => {
+            f.lexeme_due = false;
+        }
+        kinds::NEWLINE => {
+            f = f.newline_arm(out, rows, token);
+            f.lexeme_due = false;
+        }
+        kinds::RIGHT_BRACE => {
+            f = f.right_brace_arm(out);
+            f.lexeme_due = false;
+        }
+        kinds::LEFT_BRACE => {
+            f = f.left_brace_arm(out, rows, text, token);
+            f.lexeme_due = false;
+        }
+        kinds::LEFT_PAREN | kinds::LEFT_BRACKET => {
+            f = f.opener_arm(out, stack, rows, text, token);
+        }
+        kinds::RIGHT_PAREN => {
+            f = f.right_paren_arm(out, stack);
+        }
+        kinds::RIGHT_BRACKET => {
+            f = f.right_bracket_arm(out, stack);
+        }
+        kinds::COMMA => {
+            f = f.comma_arm(out, stack, token);
+        }
+        kinds::ELSE => {
+            f = f.else_arm(out);
+        }
+        _ => {
+            f = f.other_arm(kind);
+        }
     }
+    f
 }
 
-// The trailing trivia, unless the arm returned early, and the state of `fn`.
-fn end_token(
-    f: Formatter,
+// The trailing trivia, unless the arm returned early.
+fn trail(
+    mut f: Formatter,
     out: &mut [u8],
     rows: &[u8],
     text: &[u8],
@@ -131,13 +159,12 @@ fn end_token(
     next: usize,
 ) -> Formatter
     requires { ⌜ Part (now rows) (now text) (token .behind) next ⌝ }
-    ensures { λ r. ⌜ ((s : List ℕ) → Does (λ o. endToken (token .kind) (triviaIn (now (rows .entry)) (now (text .entry)) (token .behind) (rowCount (token .behind) next))) (on f s (now (out .entry))) (on r s (now (out .exit)))) ⌝ }
+    ensures { λ r. ⌜ ((s : List ℕ) → Does (λ o. trailToken (triviaIn (now (rows .entry)) (now (text .entry)) (token .behind) (rowCount (token .behind) next))) (on f s (now (out .entry))) (on r s (now (out .exit)))) ⌝ }
 {
-    let kind = token.kind;
     let behind = token.behind;
     if f.returned {
-        return f.track_fn_state(kind);
+        return f;
     }
-    let trailed = f.push_trailing(out, rows, text, behind, next);
-    trailed.track_fn_state(kind)
+    f = f.push_trailing(out, rows, text, behind, next);
+    f
 }

@@ -22,4 +22,4 @@ returns-2 : tie.Need-returns-2
 returns-2 c = λ t ts σ τ. no (λ n. rw (c .before .before .before .before .before .before .before .before .before .before .before .before .pre .1 .1 .1)) (no (λ n. c .before .before .before .before .before .before .before .if1 .left) (c .before .before .before .before .push-token .ensures t ts σ τ))
 
 pub turn-spec : {M : Type 1} → statement M
-turn-spec = tie.close (tie.spec returns push-token-requires same-length same-length-2 returns-2)
+turn-spec = tie.close (tie.spec push-token-requires returns same-length same-length-2 returns-2)

@@ -2,6 +2,7 @@
 use mathlib.Core.Path.{_∙_}
 use Prim.Native.Nat.{_-_}
 use native.Mathlib.Omega.{arith}
+use borrow.Author.Needs.{needs}
 use lib.ListN.{length}
 use Rattle.format.specs.Pen.{on}
 use Rattle.walk.proofs.Going.{Going, starts, few-tokens, going-roomy, placed, turned, goes-full, goes-deep, goes-on, nearer, onward, laid-full, laid-deep, laid-done}
@@ -33,6 +34,9 @@ token-at-requires c κs = let r = row-inside (c .before .before .before .before 
 turn-requires : tie.Need-turn-requires Inv-loop μ-loop
 turn-requires c κs = (going-roomy (c .before .before .before .before .before .before .before .before .before .before .before .pre .1) (c .before .before .before .before .before .before .loop .inv), (record { most = c .before .before .before .before .before .before .loop .inv .entries; size = c .before .before .before .before .before .before .loop .inv .stack }, ((placed (c .before .before .before .before .before .before .before .before .before .before .before .pre .1) (c .before .before .before .before .before .before .loop .inv) (c .before .before .before .before .before .loop-test .taken) (c .before .before .before .before .rows-end .ensures) (c .before .before .before .rows-end2 .ensures) (c .before .before .token-at .ensures)) .whole, c .before .before .before .before .before .before .loop .inv .shallow)))
 
+cast-full : tie.Need-cast-full Inv-loop μ-loop
+cast-full c = search needs
+
 same-length : tie.Need-same-length Inv-loop μ-loop
 same-length c = c .before .before .before .before .out .given ∙ c .before .before .before .before .before .before .before .before .before .before .before .before .loop .inv .size
 
@@ -41,6 +45,9 @@ same-length-2 c = c .before .before .stack .given ∙ c .before .before .before 
 
 returns : tie.Need-returns Inv-loop μ-loop
 returns c = laid-full (goes-full (c .before .before .before .before .before .before .before .before .before .before .before .before .before .before .before .before .before .pre .1) (c .before .before .before .before .before .before .before .before .before .before .before .before .loop .inv) (c .before .before .before .before .before .before .before .before .before .before .before .loop-test .taken) (turned (placed (c .before .before .before .before .before .before .before .before .before .before .before .before .before .before .before .before .before .pre .1) (c .before .before .before .before .before .before .before .before .before .before .before .before .loop .inv) (c .before .before .before .before .before .before .before .before .before .before .before .loop-test .taken) (c .before .before .before .before .before .before .before .before .before .before .rows-end .ensures) (c .before .before .before .before .before .before .before .before .before .rows-end2 .ensures) (c .before .before .before .before .before .before .before .before .token-at .ensures)) (c .before .before .before .before .before .turn .ensures)) (c .if1 .taken)) (c .before .before .before .before .out .given ∙ c .before .before .before .before .before .before .before .before .before .before .before .before .loop .inv .size)
+
+cast-refused : tie.Need-cast-refused Inv-loop μ-loop
+cast-refused c = search needs
 
 same-length-3 : tie.Need-same-length-3 Inv-loop μ-loop
 same-length-3 c = c .before .before .before .before .before .out .given ∙ c .before .before .before .before .before .before .before .before .before .before .before .before .before .loop .inv .size
@@ -81,9 +88,11 @@ walk-spec =
     rows-end-requires-2
     token-at-requires
     turn-requires
+    cast-full
     same-length
     same-length-2
     returns
+    cast-refused
     same-length-3
     same-length-4
     returns-2

@@ -3,9 +3,9 @@ use mathlib.Core.List.{append-nil}
 use mathlib.Core.Path.{refl}
 use borrow.Author.Needs.{needs}
 use Rattle.push_token.specs.Act.{run}
+use Rattle.push_token.proofs.Said.{said}
 use Rattle.format.proofs.Does.{does}
 use Rattle.format.proofs.Sink.{andThen}
-use Rattle.push_token.proofs.Said.{said}
 use Rattle.format.proofs.formatter.Formatter.break_signature.Statement.{statement}
 use Rattle.format.proofs.formatter.Formatter.break_signature.Tie as tie
 
@@ -24,8 +24,8 @@ write-indent-requires c κs = search needs
 add-t20 : tie.Need-add-t20
 add-t20 c = search needs
 
-add-t22 : tie.Need-add-t22
-add-t22 c = search needs
+add-t20-2 : tie.Need-add-t20-2
+add-t20-2 c = search needs
 
 same-length : tie.Need-same-length
 same-length c = search needs
@@ -43,6 +43,6 @@ break-signature-spec =
     add-self
     write-indent-requires
     add-t20
-    add-t22
+    add-t20-2
     same-length
     returns)

@@ -1,7 +1,10 @@
 -- `format::formatter::Formatter::else_arm` meets its contract. Assumes nothing.
+use mathlib.Core.Path.{refl}
 use borrow.Author.Needs.{needs}
 use Rattle.push_token.specs.Arms.{elseArm}
-use Rattle.format.proofs.Does.{told, yes, no}
+use Rattle.format.proofs.Does.{updated, told}
+use Rattle.format.proofs.Due.{now, whole, yes, no}
+use Rattle.format.proofs.Sink.{nothing}
 use Rattle.format.proofs.formatter.Formatter.else_arm.Statement.{statement}
 use Rattle.format.proofs.formatter.Formatter.else_arm.Tie as tie
 
@@ -16,26 +19,12 @@ same-length c = search needs
 
 returns : tie.Need-returns
 unfolding elseArm
-returns c = λ s. yes (λ n. told (c .before .before .before .before .before .else-on-new-line .ensures) (c .before .before .before .before .if1 .taken)) (c .before .before .break-else .ensures s)
-
-push-lexeme-requires : tie.Need-push-lexeme-requires
-push-lexeme-requires c κs = search needs
-
-same-length-2 : tie.Need-same-length-2
-same-length-2 c = search needs
+returns c = λ s t. yes (λ n. told (c .before .before .before .before .before .else-on-new-line .ensures) (c .before .before .before .before .if1 .taken)) (now refl (c .before .before .break-else .ensures s) (updated refl refl refl nothing))
 
 returns-2 : tie.Need-returns-2
 unfolding elseArm
-returns-2 c = λ s. no (λ n. told (c .before .before .before .before .before .else-on-new-line .ensures) (c .before .before .before .before .if1 .left)) (c .before .before .push-lexeme .ensures s)
+returns-2 c = λ s t. no (λ n. told (c .before .else-on-new-line .ensures) (c .if1 .left)) (whole refl (updated refl refl refl nothing))
 
 pub else-arm-spec : {M : Type 1} → statement M
 else-arm-spec =
-    tie.close
-    (tie.spec
-    else-on-new-line-requires
-    break-else-requires
-    same-length
-    returns
-    push-lexeme-requires
-    same-length-2
-    returns-2)
+    tie.close (tie.spec else-on-new-line-requires break-else-requires same-length returns returns-2)

@@ -1,16 +1,31 @@
 -- `format::formatter::Formatter::empty_record` meets its contract. Assumes nothing.
+use mathlib.Core.List.{[], append-nil}
 use mathlib.Core.Path.{refl}
 use borrow.Author.Needs.{needs}
 use Rattle.push_token.specs.Act.{run}
 use Rattle.push_token.specs.Arms.{emptyRecord}
-use Rattle.format.proofs.Does.{seq, does}
-use Rattle.format.proofs.Sink.{andThen}
 use Rattle.push_token.proofs.Said.{said}
+use Rattle.format.specs.Pen.{optionsOf, formatterOf}
+use Rattle.format.proofs.Does.{does}
+use Rattle.format.proofs.Gaps.{gapped}
+use Rattle.format.proofs.Sink.{andThen}
 use Rattle.format.proofs.formatter.Formatter.empty_record.Statement.{statement}
 use Rattle.format.proofs.formatter.Formatter.empty_record.Tie as tie
 
-push-lexeme-requires : tie.Need-push-lexeme-requires
-push-lexeme-requires c κs = search needs
+indent-spaces-requires : tie.Need-indent-spaces-requires
+indent-spaces-requires c κs = search needs
+
+is-tight-requires : tie.Need-is-tight-requires
+is-tight-requires c κs = search needs
+
+prev-kind-requires : tie.Need-prev-kind-requires
+prev-kind-requires c κs = search needs
+
+token-gap-requires : tie.Need-token-gap-requires
+token-gap-requires c κs = search needs
+
+write-spaced-requires : tie.Need-write-spaced-requires
+write-spaced-requires c κs = search needs
 
 write-byte-requires : tie.Need-write-byte-requires
 write-byte-requires c κs = search needs
@@ -23,9 +38,18 @@ same-length c = search needs
 
 returns : tie.Need-returns
 unfolding run said emptyRecord
-returns c = λ s. seq (c .before .before .before .before .before .before .before .before .before .before .push-lexeme .ensures s) (does refl refl refl (andThen (c .before .before .before .before .before .before .write-byte .ensures) (c .before .before .write-byte2 .ensures)))
+returns c = λ s. does refl (rw (c .before .before .before .before .before .before .before .before .before .before .before .before .before .before .before .before .before .before .pre .1)) refl (rw (c .before .before .before .before .before .before .before .before .before .before .before .before .before .before .before .before .before .before .pre .1, append-nil) (andThen (gapped (optionsOf (c .before .before .before .before .before .before .before .before .before .before .before .before .before .before .before .before .before .before .args .self .options)) 2 (formatterOf (c .before .before .before .before .before .before .before .before .before .before .before .before .before .before .before .before .before .before .args .self) []) _ (c .before .before .before .before .before .before .before .before .before .before .before .before .before .before .before .indent-spaces .ensures) (c .before .before .before .before .before .before .before .before .before .before .before .before .before .before .is-tight .ensures) (c .before .before .before .before .before .before .before .before .before .before .before .before .before .prev-kind .ensures) (c .before .before .before .before .before .before .before .before .before .before .before .before .token-gap .ensures) (c .before .before .before .before .before .before .before .before .before .before .write-spaced .ensures)) (andThen (c .before .before .before .before .before .before .write-byte .ensures) (c .before .before .write-byte2 .ensures))))
 
 pub empty-record-spec : {M : Type 1} → statement M
 empty-record-spec =
     tie.close
-    (tie.spec push-lexeme-requires write-byte-requires write-byte-requires-2 same-length returns)
+    (tie.spec
+    indent-spaces-requires
+    is-tight-requires
+    prev-kind-requires
+    token-gap-requires
+    write-spaced-requires
+    write-byte-requires
+    write-byte-requires-2
+    same-length
+    returns)

@@ -1,37 +1,42 @@
 -- `format::formatter::Formatter::open_block` meets its contract. Assumes nothing.
 use borrow.Author.Needs.{needs}
+use Rattle.format.proofs.Does.{seq}
 use Rattle.format.proofs.Openers.{block-same-line, block-allman}
 use Rattle.format.proofs.formatter.Formatter.open_block.Statement.{statement}
 use Rattle.format.proofs.formatter.Formatter.open_block.Tie as tie
+
+enter-record-requires : tie.Need-enter-record-requires
+enter-record-requires c κs = search needs
 
 enum-told : tie.Need-enum-told
 enum-told c = search needs
 
 open-block-same-line-requires : tie.Need-open-block-same-line-requires
-open-block-same-line-requires c κs = search needs
+open-block-same-line-requires c κs = rw (c .before .before .before .before .enter-record .ensures .1) (c .before .before .before .before .before .before .pre .0 .indent)
 
 enum-told-2 : tie.Need-enum-told-2
 enum-told-2 c = search needs
 
 open-block-allman-requires : tie.Need-open-block-allman-requires
-open-block-allman-requires c κs = search needs
+open-block-allman-requires c κs = (rw (c .before .before .before .before .enter-record .ensures .1) (c .before .before .before .before .before .before .pre .0 .indent), c .before .before .before .before .before .before .pre .1)
 
 same-length : tie.Need-same-length
 same-length c = search needs
 
 returns : tie.Need-returns
-returns c = λ s. block-same-line (c .before .before .before .before .before .before .before .before .args .index) (c .before .before .before .before .enum-told .given .1) (c .before .before .open-block-same-line .ensures s)
+returns c = λ s. seq (c .before .before .before .before .before .before .before .enter-record .ensures .0 s _) (block-same-line (c .before .before .before .before .before .before .before .before .before .args .index) (c .before .before .before .before .enum-told .given .1) (c .before .before .open-block-same-line .ensures s))
 
 same-length-2 : tie.Need-same-length-2
 same-length-2 c = search needs
 
 returns-2 : tie.Need-returns-2
-returns-2 c = λ s. block-allman (c .before .before .before .before .before .before .before .before .args .index) (c .before .before .before .before .enum-told2 .given .1) (c .before .before .open-block-allman .ensures s)
+returns-2 c = λ s. seq (c .before .before .before .before .before .before .before .enter-record .ensures .0 s _) (block-allman (c .before .before .before .before .before .before .before .before .before .args .index) (c .before .before .before .before .enum-told2 .given .1) (c .before .before .open-block-allman .ensures s))
 
 pub open-block-spec : {M : Type 1} → statement M
 open-block-spec =
     tie.close
     (tie.spec
+    enter-record-requires
     enum-told
     open-block-same-line-requires
     enum-told-2

@@ -1,20 +1,34 @@
 -- `format::formatter::Formatter::open_list` meets its contract. Assumes nothing.
-use mathlib.Core.List.{append-nil}
+use mathlib.Core.List.{[], append-nil}
 use mathlib.Core.Path.{refl, sym}
 use Prim.Native.Nat.{_<_}
 use native.Mathlib.Omega.{arith}
 use lib.ListN.{length}
 use borrow.Author.Needs.{needs}
 use Rattle.push_token.specs.Act.{run}
+use Rattle.push_token.proofs.Said.{said}
+use Rattle.format.specs.Pen.{optionsOf, formatterOf}
 use Rattle.format.proofs.Does.{does}
+use Rattle.format.proofs.Gaps.{gapped}
 use Rattle.format.proofs.Sink.{andThen}
 use Rattle.format.proofs.Stack.{top-pushed}
-use Rattle.push_token.proofs.Said.{said}
 use Rattle.format.proofs.formatter.Formatter.open_list.Statement.{statement}
 use Rattle.format.proofs.formatter.Formatter.open_list.Tie as tie
 
-write-token-requires : tie.Need-write-token-requires
-write-token-requires c κs = search needs
+indent-spaces-requires : tie.Need-indent-spaces-requires
+indent-spaces-requires c κs = search needs
+
+is-tight-requires : tie.Need-is-tight-requires
+is-tight-requires c κs = search needs
+
+prev-kind-requires : tie.Need-prev-kind-requires
+prev-kind-requires c κs = search needs
+
+token-gap-requires : tie.Need-token-gap-requires
+token-gap-requires c κs = search needs
+
+write-spaced-requires : tie.Need-write-spaced-requires
+write-spaced-requires c κs = search needs
 
 write-byte-requires : tie.Need-write-byte-requires
 write-byte-requires c κs = search needs
@@ -25,14 +39,14 @@ add-inner c = search needs
 push-entry-requires : tie.Need-push-entry-requires
 push-entry-requires c κs = search needs
 
-add-t24 : tie.Need-add-t24
-add-t24 c = search needs
+add-t21 : tie.Need-add-t21
+add-t21 c = search needs
 
 add-self : tie.Need-add-self
-add-self c = search needs
+add-self c = record { fits = let p = c .before .before .before .before .before .before .before .before .before .before .before .before .before .before .before .before .before .before .before .before .before .before .pre .0 .indent in omega arith }
 
 add-self-2 : tie.Need-add-self-2
-add-self-2 c = record { fits = let p = c .before .before .before .before .before .before .before .before .before .before .before .before .before .before .before .before .before .before .pre .1 .0 .most in omega arith }
+add-self-2 c = record { fits = let p = c .before .before .before .before .before .before .before .before .before .before .before .before .before .before .before .before .before .before .before .before .before .before .pre .1 .0 .most in omega arith }
 
 same-length : tie.Need-same-length
 same-length c = search needs
@@ -42,17 +56,21 @@ same-length-2 c = search needs
 
 returns : tie.Need-returns
 unfolding run said
-returns c = λ few. let room : c .before .before .before .before .before .before .before .before .before .before .before .before .before .before .before .before .before .before .args .self .«break_count» < length (c .before .before .before .before .before .before .before .before .before .before .before .before .before .before .before .before .before .before .args .stack .now) = let z = c .before .before .before .before .before .before .before .before .before .before .before .before .before .before .before .before .before .before .pre .1 .0 .size in omega arith in does refl (sym (rw (c .before .before .before .push-entry .ensures .0 room, top-pushed (c .before .before .before .before .before .before .before .before .before .before .before .before .before .before .before .before .before .before .args .self .«break_count») (c .before .before .before .before .before .before .before .before .before .before .before .before .before .before .before .before .before .before .args .stack .now) _ room))) refl (rw append-nil (andThen (c .before .before .before .before .before .before .before .before .before .before .before .before .before .write-token .ensures) (c .before .before .before .before .before .before .before .before .before .write-byte .ensures)))
+returns c = λ few. let room : c .before .before .before .before .before .before .before .before .before .before .before .before .before .before .before .before .before .before .before .before .before .before .args .self .«break_count» < length (c .before .before .before .before .before .before .before .before .before .before .before .before .before .before .before .before .before .before .before .before .before .before .args .stack .now) = let z = c .before .before .before .before .before .before .before .before .before .before .before .before .before .before .before .before .before .before .before .before .before .before .pre .1 .0 .size in omega arith in does refl (sym (rw (c .before .before .before .push-entry .ensures .0 room, top-pushed (c .before .before .before .before .before .before .before .before .before .before .before .before .before .before .before .before .before .before .before .before .before .before .args .self .«break_count») (c .before .before .before .before .before .before .before .before .before .before .before .before .before .before .before .before .before .before .before .before .before .before .args .stack .now) _ room))) refl (rw append-nil (andThen (gapped (optionsOf (c .before .before .before .before .before .before .before .before .before .before .before .before .before .before .before .before .before .before .before .before .before .before .args .self .options)) (c .before .before .before .before .before .before .before .before .before .before .before .before .before .before .before .before .before .before .before .before .before .before .args .token .kind) (formatterOf (c .before .before .before .before .before .before .before .before .before .before .before .before .before .before .before .before .before .before .before .before .before .before .args .self) []) _ (c .before .before .before .before .before .before .before .before .before .before .before .before .before .before .before .before .before .before .indent-spaces .ensures) (c .before .before .before .before .before .before .before .before .before .before .before .before .before .before .before .before .before .is-tight .ensures) (c .before .before .before .before .before .before .before .before .before .before .before .before .before .before .before .before .prev-kind .ensures) (c .before .before .before .before .before .before .before .before .before .before .before .before .before .before .before .token-gap .ensures) (c .before .before .before .before .before .before .before .before .before .before .before .before .before .write-spaced .ensures)) (c .before .before .before .before .before .before .before .before .before .write-byte .ensures)))
 
 pub open-list-spec : {M : Type 1} → statement M
 open-list-spec =
     tie.close
     (tie.spec
-    write-token-requires
+    indent-spaces-requires
+    is-tight-requires
+    prev-kind-requires
+    token-gap-requires
+    write-spaced-requires
     write-byte-requires
     add-inner
     push-entry-requires
-    add-t24
+    add-t21
     add-self
     add-self-2
     same-length

@@ -2,8 +2,9 @@
 use mathlib.Core.Path.{refl}
 use borrow.Author.Needs.{needs}
 use Rattle.lookahead.specs.Measure.{shouldBreakSig}
-use Rattle.format.proofs.Does.{seq, updated, yes, no, told}
-use Rattle.format.proofs.Openers.{looked, part-is, opened}
+use Rattle.format.proofs.Does.{updated, told}
+use Rattle.format.proofs.Due.{now, yes, after, signature-kept}
+use Rattle.format.proofs.Openers.{looked, part-is}
 use Rattle.format.proofs.Sink.{nothing}
 use Rattle.format.proofs.formatter.Formatter.open_signature.Statement.{statement}
 use Rattle.format.proofs.formatter.Formatter.open_signature.Tie as tie
@@ -23,20 +24,17 @@ should-break-sig-requires c κs = search needs
 break-signature-requires : tie.Need-break-signature-requires
 break-signature-requires c κs = search needs
 
+add-t17 : tie.Need-add-t17
+add-t17 c = search needs
+
 same-length : tie.Need-same-length
 same-length c = search needs
 
 returns : tie.Need-returns
-returns c = λ s t ts σ. seq (updated refl refl refl nothing) (yes (λ n. told (looked σ (shouldBreakSig (c .before .before .before .before .before .before .before .before .before .before .before .args .self .options .«fn_sig_width»)) (part-is (c .before .before .before .before .before .before .before .before .before .before .before .args .token .lead) (c .before .before .before .before .before .before .before .before .before .before .before .args .rows .now)) (c .before .before .before .before .before .should-break-sig .ensures (c .before .before .before .before .before .before .before .before .before .before .before .args .text .now))) (c .before .before .before .before .if1 .taken)) (c .before .before .break-signature .ensures s))
-
-open-group-requires : tie.Need-open-group-requires
-open-group-requires c κs = search needs
-
-same-length-2 : tie.Need-same-length-2
-same-length-2 c = search needs
+returns c = λ s text t ts σ. after (updated refl refl refl nothing) (yes (λ n. (told (looked σ (shouldBreakSig (c .before .before .before .before .before .before .before .before .before .before .args .self .options .«fn_sig_width»)) (part-is (c .before .before .before .before .before .before .before .before .before .before .args .token .lead) (c .before .before .before .before .before .before .before .before .before .before .args .rows .now)) (c .before .before .before .before .before .should-break-sig .ensures text)) (c .before .before .before .before .if1 .taken))) (now refl (c .before .before .break-signature .ensures s) (updated refl refl refl nothing)))
 
 returns-2 : tie.Need-returns-2
-returns-2 c = λ s t ts σ. seq (updated refl refl refl nothing) (no (λ n. told (looked σ (shouldBreakSig (c .before .before .before .before .before .before .before .before .before .before .before .args .self .options .«fn_sig_width»)) (part-is (c .before .before .before .before .before .before .before .before .before .before .before .args .token .lead) (c .before .before .before .before .before .before .before .before .before .before .before .args .rows .now)) (c .before .before .before .before .before .should-break-sig .ensures (c .before .before .before .before .before .before .before .before .before .before .before .args .text .now))) (c .before .before .before .before .if1 .left)) (opened σ (c .before .before .open-group .ensures s)))
+returns-2 c = λ s text t ts σ. signature-kept σ (told (looked σ (shouldBreakSig (c .before .before .before .before .before .before .before .before .args .self .options .«fn_sig_width»)) (part-is (c .before .before .before .before .before .before .before .before .args .token .lead) (c .before .before .before .before .before .before .before .before .args .rows .now)) (c .before .before .before .should-break-sig .ensures text)) (c .before .before .if1 .left)) refl (updated refl refl refl nothing)
 
 pub open-signature-spec : {M : Type 1} → statement M
 open-signature-spec =
@@ -47,8 +45,7 @@ open-signature-spec =
     part-should-break-sig-end
     should-break-sig-requires
     break-signature-requires
+    add-t17
     same-length
     returns
-    open-group-requires
-    same-length-2
     returns-2)

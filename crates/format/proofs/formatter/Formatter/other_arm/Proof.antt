@@ -1,7 +1,10 @@
 -- `format::formatter::Formatter::other_arm` meets its contract. Assumes nothing.
 use mathlib.Core.Path.{refl}
 use borrow.Author.Needs.{needs}
-use Rattle.format.proofs.Does.{seq, updated}
+use Rattle.push_token.specs.Act.{update}
+use Rattle.push_token.specs.Arms.{trackRecord}
+use Rattle.format.proofs.Does.{updated}
+use Rattle.format.proofs.Due.{later}
 use Rattle.format.proofs.Sink.{nothing}
 use Rattle.format.proofs.formatter.Formatter.other_arm.Statement.{statement}
 use Rattle.format.proofs.formatter.Formatter.other_arm.Tie as tie
@@ -9,15 +12,8 @@ use Rattle.format.proofs.formatter.Formatter.other_arm.Tie as tie
 record-pending-after-requires : tie.Need-record-pending-after-requires
 record-pending-after-requires c κs = search needs
 
-push-lexeme-requires : tie.Need-push-lexeme-requires
-push-lexeme-requires c κs = search needs
-
-same-length : tie.Need-same-length
-same-length c = search needs
-
 returns : tie.Need-returns
-returns c = λ s. seq (updated refl (rw (c .before .before .before .before .record-pending-after .ensures)) refl nothing) (c .before .before .push-lexeme .ensures s)
+returns c = λ s l t k. later {b = λ o. update (trackRecord (t .kind))} refl (updated refl (rw (k, c .record-pending-after .ensures)) refl nothing) refl
 
 pub other-arm-spec : {M : Type 1} → statement M
-other-arm-spec =
-    tie.close (tie.spec record-pending-after-requires push-lexeme-requires same-length returns)
+other-arm-spec = tie.close (tie.spec record-pending-after-requires returns)

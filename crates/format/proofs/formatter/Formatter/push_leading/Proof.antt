@@ -9,10 +9,10 @@ use Rattle.format.proofs.formatter.Formatter.push_leading.Statement.{st
 use Rattle.format.proofs.formatter.Formatter.push_leading.Tie as tie
 
 abbrev Inv-loop : tie.InvT-loop
-Inv-loop out₀ rows text from to f₀ at₀ out f at = Left leadingTrivia rows text from to f₀ out₀ at f out × Held f₀ f
+Inv-loop f₀ out₀ rows text from to at₀ f out at = Left leadingTrivia rows text from to f₀ out₀ at f out × Held f₀ f
 
 abbrev μ-loop : tie.MeasureT-loop
-μ-loop out₀ rows text from to f₀ at₀ out f at = to - at
+μ-loop f₀ out₀ rows text from to at₀ f out at = to - at
 
 loop-holds : tie.Need-loop-holds Inv-loop μ-loop
 loop-holds c = (left-whole (search needs), same)

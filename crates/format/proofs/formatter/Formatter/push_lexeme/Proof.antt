@@ -1,15 +1,29 @@
 -- `format::formatter::Formatter::push_lexeme` meets its contract. Assumes nothing.
-use mathlib.Core.List.{append-nil}
+use mathlib.Core.List.{[], append-nil}
 use mathlib.Core.Path.{refl}
 use borrow.Author.Needs.{needs}
 use Rattle.push_token.specs.Act.{run}
-use Rattle.format.proofs.Does.{does}
 use Rattle.push_token.proofs.Said.{said}
+use Rattle.format.specs.Pen.{optionsOf, formatterOf}
+use Rattle.format.proofs.Does.{does}
+use Rattle.format.proofs.Gaps.{gapped}
 use Rattle.format.proofs.formatter.Formatter.push_lexeme.Statement.{statement}
 use Rattle.format.proofs.formatter.Formatter.push_lexeme.Tie as tie
 
-write-token-requires : tie.Need-write-token-requires
-write-token-requires c κs = search needs
+indent-spaces-requires : tie.Need-indent-spaces-requires
+indent-spaces-requires c κs = search needs
+
+is-tight-requires : tie.Need-is-tight-requires
+is-tight-requires c κs = search needs
+
+prev-kind-requires : tie.Need-prev-kind-requires
+prev-kind-requires c κs = search needs
+
+token-gap-requires : tie.Need-token-gap-requires
+token-gap-requires c κs = search needs
+
+write-spaced-requires : tie.Need-write-spaced-requires
+write-spaced-requires c κs = search needs
 
 minus-is-unary-after-requires : tie.Need-minus-is-unary-after-requires
 minus-is-unary-after-requires c κs = search needs
@@ -19,8 +33,17 @@ same-length c = search needs
 
 returns : tie.Need-returns
 unfolding run said
-returns c = λ s. does refl (rw (c .minus-is-unary-after .ensures)) refl (rw append-nil (c .before .before .before .write-token .ensures))
+returns c = λ s. does refl (rw (c .minus-is-unary-after .ensures)) refl (rw append-nil (gapped (optionsOf (c .before .before .before .before .before .before .before .before .before .before .before .args .self .options)) (c .before .before .before .before .before .before .before .before .before .before .before .args .token .kind) (formatterOf (c .before .before .before .before .before .before .before .before .before .before .before .args .self) []) _ (c .before .before .before .before .before .before .before .before .indent-spaces .ensures) (c .before .before .before .before .before .before .before .is-tight .ensures) (c .before .before .before .before .before .before .prev-kind .ensures) (c .before .before .before .before .before .token-gap .ensures) (c .before .before .before .write-spaced .ensures)))
 
 pub push-lexeme-spec : {M : Type 1} → statement M
 push-lexeme-spec =
-    tie.close (tie.spec write-token-requires minus-is-unary-after-requires same-length returns)
+    tie.close
+    (tie.spec
+    indent-spaces-requires
+    is-tight-requires
+    prev-kind-requires
+    token-gap-requires
+    write-spaced-requires
+    minus-is-unary-after-requires
+    same-length
+    returns)

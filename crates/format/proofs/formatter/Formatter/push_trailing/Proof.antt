@@ -7,10 +7,10 @@ use Rattle.format.proofs.formatter.Formatter.push_trailing.Statement.{s
 use Rattle.format.proofs.formatter.Formatter.push_trailing.Tie as tie
 
 abbrev Inv-loop : tie.InvT-loop
-Inv-loop out₀ rows text from to f₀ at₀ out f at = Left (λ o. trailingTrivia) rows text from to f₀ out₀ at f out
+Inv-loop f₀ out₀ rows text from to at₀ f out at = Left (λ o. trailingTrivia) rows text from to f₀ out₀ at f out
 
 abbrev μ-loop : tie.MeasureT-loop
-μ-loop out₀ rows text from to f₀ at₀ out f at = to - at
+μ-loop f₀ out₀ rows text from to at₀ f out at = to - at
 
 loop-holds : tie.Need-loop-holds Inv-loop μ-loop
 loop-holds c = left-whole (search needs)

@@ -1,7 +1,10 @@
 -- `format::formatter::Formatter::right_bracket_arm` meets its contract. Assumes nothing.
+use mathlib.Core.Path.{refl}
 use borrow.Author.Needs.{needs}
 use Rattle.push_token.specs.Arms.{rightBracketArm}
-use Rattle.format.proofs.Does.{told, yes, no}
+use Rattle.format.proofs.Does.{updated, told}
+use Rattle.format.proofs.Due.{now, yes, no, group-closes}
+use Rattle.format.proofs.Sink.{nothing}
 use Rattle.format.proofs.formatter.Formatter.right_bracket_arm.Statement.{statement}
 use Rattle.format.proofs.formatter.Formatter.right_bracket_arm.Tie as tie
 
@@ -11,22 +14,19 @@ in-broken-list-requires c κs = search needs
 close-array-requires : tie.Need-close-array-requires
 close-array-requires c κs = search needs
 
+close-group-requires : tie.Need-close-group-requires
+close-group-requires c κs = search needs
+
 same-length : tie.Need-same-length
 same-length c = search needs
 
 returns : tie.Need-returns
 unfolding rightBracketArm
-returns c = yes (λ n. told (c .before .before .before .before .before .in-broken-list .ensures) (c .before .before .before .before .if1 .taken)) (c .before .before .close-array .ensures _)
-
-close-group-requires : tie.Need-close-group-requires
-close-group-requires c κs = search needs
-
-same-length-2 : tie.Need-same-length-2
-same-length-2 c = search needs
+returns c = λ t. yes (λ n. told (c .before .before .before .before .before .in-broken-list .ensures) (c .before .before .before .before .if1 .taken)) (now refl (c .before .before .close-array .ensures _) (updated refl refl refl nothing))
 
 returns-2 : tie.Need-returns-2
 unfolding rightBracketArm
-returns-2 c = no (λ n. told (c .before .before .before .before .before .in-broken-list .ensures) (c .before .before .before .before .if1 .left)) (c .before .before .close-group .ensures _)
+returns-2 c = λ t. no (λ n. told (c .before .before .in-broken-list .ensures) (c .before .if1 .left)) (group-closes (c .close-group .ensures .0) (c .close-group .ensures .1 _ _))
 
 pub right-bracket-arm-spec : {M : Type 1} → statement M
 right-bracket-arm-spec =
@@ -34,8 +34,7 @@ right-bracket-arm-spec =
     (tie.spec
     in-broken-list-requires
     close-array-requires
+    close-group-requires
     same-length
     returns
-    close-group-requires
-    same-length-2
     returns-2)

@@ -3,8 +3,8 @@ use borrow.Author.Needs.{needs}
 use Rattle.format.proofs.formatter.Formatter.write_indent.Statement.{statement}
 use Rattle.format.proofs.formatter.Formatter.write_indent.Tie as tie
 
-indent-size-requires : tie.Need-indent-size-requires
-indent-size-requires c κs = search needs
+indent-spaces-requires : tie.Need-indent-spaces-requires
+indent-spaces-requires c κs = search needs
 
 write-spaces-requires : tie.Need-write-spaces-requires
 write-spaces-requires c κs = search needs
@@ -13,8 +13,8 @@ same-length : tie.Need-same-length
 same-length c = search needs
 
 returns : tie.Need-returns
-returns c = rw (c .before .before .before .before .indent-size .ensures) at (c .before .before .write-spaces .ensures)
+returns c = rw (c .before .before .before .before .indent-spaces .ensures) at (c .before .before .write-spaces .ensures)
 
 pub write-indent-spec : {M : Type 1} → statement M
 write-indent-spec =
-    tie.close (tie.spec indent-size-requires write-spaces-requires same-length returns)
+    tie.close (tie.spec indent-spaces-requires write-spaces-requires same-length returns)
