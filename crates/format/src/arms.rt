@@ -617,7 +617,13 @@ impl Formatter {
         let start = token.start;
         let end = token.end;
         let indent = self.indent_spaces();
-        let gap = token_gap(self.at_line_start, indent, self.is_tight(), self.prev_kind(), kind);
+        let gap = token_gap(
+            self.at_line_start,
+            indent,
+            self.is_tight(),
+            self.prev_kind(),
+            kind,
+        );
         let written = write_spaced(out, self.len, gap, text, start, end);
         let fed = write_byte(out, written, b'\n');
         let count = self.break_count;

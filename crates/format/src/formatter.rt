@@ -68,28 +68,28 @@ pub struct Options {
 // more than the index at which refusal 4 holds. `inline_close`, `returned`, `skip_next`, `too_deep` and `lexeme_due` are
 // locals and results of `push_token`; `lexeme_due`: an arm leaves its lexeme to be written, at one place for all arms.
 pub struct Formatter {
-    pub len: usize,
-    pub indent: u32,
-    pub inline_depth: InlineDepth,
-    pub options: Options,
-    pub inline_close: bool,
-    pub prev: Before,
-    pub at_line_start: bool,
-    pub prev_minus_is_unary: bool,
-    pub record_depth: RecordDepth,
-    pub returned: bool,
-    pub sig_break_depth: SignatureDepth,
     pub suppress_newline_at: Suppressed,
-    pub break_count: usize,
-    pub commas: usize,
-    pub too_deep: usize,
-    pub fn_state: u8,
-    pub in_record: bool,
     pub record_pending: bool,
-    pub just_closed_inline: bool,
-    pub skip_next: bool,
-    pub group_depth: GroupDepth,
+    pub options: Options,
     pub lexeme_due: bool,
+    pub just_closed_inline: bool,
+    pub record_depth: RecordDepth,
+    pub at_line_start: bool,
+    pub in_record: bool,
+    pub prev_minus_is_unary: bool,
+    pub inline_close: bool,
+    pub too_deep: usize,
+    pub commas: usize,
+    pub group_depth: GroupDepth,
+    pub returned: bool,
+    pub skip_next: bool,
+    pub prev: Before,
+    pub inline_depth: InlineDepth,
+    pub len: usize,
+    pub fn_state: u8,
+    pub sig_break_depth: SignatureDepth,
+    pub indent: u32,
+    pub break_count: usize,
 }
 
 // A token's place: its kind and lexeme, its index among the tokens, where its leading rows start and where the rows
@@ -267,7 +267,13 @@ impl Formatter {
         let start = token.start;
         let end = token.end;
         let indent = self.indent_spaces();
-        let gap = token_gap(self.at_line_start, indent, self.is_tight(), self.prev_kind(), kind);
+        let gap = token_gap(
+            self.at_line_start,
+            indent,
+            self.is_tight(),
+            self.prev_kind(),
+            kind,
+        );
         let len = write_spaced(out, self.len, gap, text, start, end);
         let unary = self.minus_is_unary_after(kind);
         let prev = Before {
