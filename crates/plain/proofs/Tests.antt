@@ -8,8 +8,8 @@ use lib.Dec.{eqb, leb}
 use borrow.Author.Tests.{eqb-false, ne-eqb, leb-true, leb-false, le-leb}
 use Rattle.report.proofs.Logic.{split}
 use Rattle.report.proofs.Below.{agree-below}
-use Rattle.rows.specs.Kinds.{Eof, Newline, Comma, Dot, DotDot, ColonColon, Hash, Bang, BangHash, Minus}
-use Rattle.push_token.specs.Plain.{endsOperator, beginsDigit, tightBefore}
+use Rattle.rows.specs.Kinds.{Eof, Newline, Dot, DotDot, ColonColon, Hash, Bang, BangHash, Minus}
+use Rattle.push_token.specs.Plain.{tightBefore}
 use Rattle.plain.specs.declared.seen.Seen.{Seen}
 use Rattle.plain.specs.Scan.{mute, armedBehind, opens, behind}
 
@@ -35,8 +35,8 @@ tight-high k h =
     (λ e. rw (le-leb Dot k h) at (agree-below 19 (λ j. leb Dot j && leb j Minus) tightBefore refl k (omega (arith, leb-true k Minus e))))
     (λ e. rw e (sym (tight-none k (λ j l m q. omega (arith, leb-false k Minus e)))))
 
--- ---- what is seen behind a written token
+-- ---- what is seen behind a token, field by field
 
-pub behind-written : (q : Seen) (k : ℕ) (w : List ℕ) → 1 < k → {o t d a p : Bool} → o ≡ endsOperator w → t ≡ tightBefore k → d ≡ beginsDigit w → a ≡ armedBehind q k → p ≡ opens q k →
-    _≡_ {A = Seen} (record { operator = o; tight = t; digit = d; comma = eqb k Comma; armed = a; opened = p }) (behind q k w)
-behind-written q k w h e₁ e₂ e₃ e₄ e₅ = rw (e₁, e₂, e₃, e₄, e₅, ne-eqb k Eof (λ z. omega arith), ne-eqb k Newline (λ z. omega arith))
+pub behind-same : (q : Seen) (k : ℕ) (w : List ℕ) {o t d c a p : Bool} → o ≡ behind q k w .operator → t ≡ behind q k w .tight → d ≡ behind q k w .digit → c ≡ behind q k w .comma → a ≡ armedBehind q k → p ≡ opens q k
+    → _≡_ {A = Seen} (record { operator = o; tight = t; digit = d; comma = c; armed = a; opened = p }) (behind q k w)
+behind-same q k w e₁ e₂ e₃ e₄ e₅ e₆ = rw (e₁, e₂, e₃, e₄, e₅, e₆)

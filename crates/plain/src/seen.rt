@@ -51,18 +51,15 @@ impl Seen {
         !self.collides(kind, lexeme)
     }
 
-    // What is seen behind that token.
+    // What is seen behind that token. Each field is told by itself, so that the struct is made at one place.
     pub fn behind(self, kind: u32, lexeme: &[u8]) -> Self
         ensures { λ r. ⌜ r ≡ behind self kind (now (lexeme .entry)) ⌝ }
     {
-        if kind <= kinds::NEWLINE {
-            return self.behind_mute(kind);
-        }
         Self {
-            operator: ends_operator(lexeme),
-            tight: tight_before(kind),
-            digit: begins_digit(lexeme),
-            comma: kind == kinds::COMMA,
+            operator: self.operator_behind(kind, lexeme),
+            tight: self.tightness_behind(kind),
+            digit: self.digit_behind(kind, lexeme),
+            comma: self.comma_behind(kind),
             armed: self.armed_behind(kind),
             opened: self.opens(kind),
         }
@@ -96,16 +93,40 @@ impl Seen {
         tight_behind(kind)
     }
 
-    // Behind a Newline or an Eof.
-    fn behind_mute(mut self, kind: u32) -> Self
-        requires { ⌜ kind ≤ 1 ⌝ }
-        ensures { λ r. ⌜ ((w : List ℕ) → r ≡ behind self kind w) ⌝ }
+    fn operator_behind(self, kind: u32, lexeme: &[u8]) -> bool
+        ensures { λ r. ⌜ r ≡ behind self kind (now (lexeme .entry)) .operator ⌝ }
     {
-        self.opened = false;
-        if kind == kinds::NEWLINE {
-            self.comma = false;
+        if kind <= kinds::NEWLINE {
+            return self.operator;
         }
-        self
+        ends_operator(lexeme)
+    }
+
+    fn tightness_behind(self, kind: u32) -> bool
+        ensures { λ r. ⌜ ((w : List ℕ) → r ≡ behind self kind w .tight) ⌝ }
+    {
+        if kind <= kinds::NEWLINE {
+            return self.tight;
+        }
+        tight_before(kind)
+    }
+
+    fn digit_behind(self, kind: u32, lexeme: &[u8]) -> bool
+        ensures { λ r. ⌜ r ≡ behind self kind (now (lexeme .entry)) .digit ⌝ }
+    {
+        if kind <= kinds::NEWLINE {
+            return self.digit;
+        }
+        begins_digit(lexeme)
+    }
+
+    fn comma_behind(self, kind: u32) -> bool
+        ensures { λ r. ⌜ ((w : List ℕ) → r ≡ behind self kind w .comma) ⌝ }
+    {
+        if kind == kinds::EOF {
+            return self.comma;
+        }
+        kind == kinds::COMMA
     }
 
     fn armed_behind(self, kind: u32) -> bool
