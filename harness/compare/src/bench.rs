@@ -1,0 +1,210 @@
+//! The benchmark: the Rust and the doors on the same inputs, in one run, as Markdown tables.
+use crate::doors::{self, Options};
+use crate::lists::{list, pack, Packed, Row, MOST_ROWS};
+use crate::{clock, model, rust_side, sheet};
+use rl_lexer::tokentypes::Token;
+use std::hint::black_box;
+
+const DEFAULTS: Options = [1, 4, 40, 40];
+const WIDEST: Options = [1, 4, 65_535, 65_535];
+const SAME_LINE: Options = [0, 4, 40, 40];
+
+/// All tables, or those of usual inputs alone; `repeats` samples for each number, of which the best counts.
+pub fn run(repeats: usize, hostile: bool) {
+    println!("## Layout\n\nNanoseconds of processor time a token, best of {repeats} samples; a hostile list once.\n");
+    println!("| input | options | rows | tokens | text bytes | Rust | ours | ours, output cleared first | ours / Rust |");
+    println!("|---|---|---|---|---|---|---|---|---|");
+    for input in usual_inputs() {
+        input.measure(repeats);
+    }
+    for input in hostile_inputs().iter().filter(|_| hostile) {
+        input.measure(1);
+    }
+    println!("\n## Where our layout's time goes\n\nNanoseconds a token: the checks of options and rows (a call without room \
+        for the first byte), the walk (a list that begins with a trivia row, so that the plain mark is told at once, less \
+        the checks), and the plain mark (the rest).\n");
+    println!("| input | checks | walk | plain mark |");
+    println!("|---|---|---|---|");
+    for input in usual_inputs() {
+        input.measure_parts(repeats);
+    }
+    println!("\n## Reading back and sheets\n\nMillions of bytes a second, best of {repeats} samples.\n");
+    println!("| call | input | bytes | a plain Rust loop | ours | ours / Rust |");
+    println!("|---|---|---|---|---|---|");
+    measure_readers(repeats);
+}
+
+// ---- layouts
+
+struct Input {
+    name: &'static str,
+    options: Options,
+    rows: Vec<Row>,
+    /// Calls in one sample.
+    calls: usize,
+}
+
+impl Input {
+    fn new(name: &'static str, options: Options, rows: Vec<Row>) -> Self {
+        let calls = (MOST_ROWS / rows.len().max(1)).max(1);
+        Input { name, options, rows, calls }
+    }
+
+    fn measure(&self, repeats: usize) {
+        let Packed { rows, text } = pack(&self.rows);
+        let tokens = rust_side::tokens(&model::tokens(&rows, &text).unwrap());
+        let expected = rust_side::text(&tokens, self.options);
+        let mut out = vec![0; expected.len()];
+        let answer = doors::layout(self.options, &rows, &text, &mut out);
+        assert!(answer.refusal != 0 || out == expected.as_bytes(), "{}: the texts differ", self.name);
+
+        let per_token = |ns: f64| ns / (self.calls * tokens.len()) as f64;
+        let rust = per_token(best(repeats, || self.run_rust(&tokens)));
+        let ours = per_token(best(repeats, || self.run_ours(&rows, &text, &mut out)));
+        let cleared = per_token(best(repeats, || self.run_cleared(&rows, &text, &mut out)));
+        let note = if answer.refusal == 0 { String::new() } else { format!(" (refusal {})", answer.refusal) };
+        println!(
+            "| {}{note} | {:?} | {} | {} | {} | {rust:.1} | {ours:.1} | {cleared:.1} | {:.2} |",
+            self.name,
+            self.options,
+            self.rows.len(),
+            tokens.len(),
+            expected.len(),
+            ours / rust
+        );
+    }
+
+    fn measure_parts(&self, repeats: usize) {
+        let mut led = list("l3:;a");
+        led.truncate(1);
+        led.extend_from_slice(&self.rows[..self.rows.len().min(MOST_ROWS - 1)]);
+        let (packed, packed_led) = (pack(&self.rows), pack(&led));
+        let mut out = vec![0; 64 * self.rows.len()];
+        let per_token = |ns: f64| ns / (self.calls * self.rows.len()) as f64;
+        let whole = per_token(best(repeats, || self.run_ours(&packed.rows, &packed.text, &mut out)));
+        let checks = per_token(best(repeats, || self.run_ours(&packed.rows, &packed.text, &mut [])));
+        let unmarked = per_token(best(repeats, || self.run_ours(&packed_led.rows, &packed_led.text, &mut out)));
+        println!("| {} | {checks:.1} | {:.1} | {:.1} |", self.name, unmarked - checks, whole - unmarked);
+    }
+
+    fn run_rust(&self, tokens: &[Token]) {
+        for _ in 0..self.calls {
+            black_box(rust_side::text(black_box(tokens), self.options));
+        }
+    }
+
+    fn run_ours(&self, rows: &[u8], text: &[u8], out: &mut [u8]) {
+        for _ in 0..self.calls {
+            black_box(doors::layout(self.options, black_box(rows), text, out));
+        }
+    }
+
+    fn run_cleared(&self, rows: &[u8], text: &[u8], out: &mut [u8]) {
+        for _ in 0..self.calls {
+            black_box(&mut *out).fill(0);
+            black_box(doors::layout(self.options, black_box(rows), text, out));
+        }
+    }
+}
+
+/// The nanoseconds of the fastest sample.
+fn best(repeats: usize, mut sample: impl FnMut()) -> f64 {
+    let once = |_| {
+        let start = clock::nanoseconds();
+        sample();
+        (clock::nanoseconds() - start) as f64
+    };
+    (0..repeats).map(once).fold(f64::INFINITY, f64::min)
+}
+
+// ---- inputs
+
+const TYPICAL: &str = "record Beacon { orbits : int , kept : bool , name : string } NL NL \
+    fn add ( a : int , b : int ) 34:-> int NL { NL 34:return a 34:+ b NL } NL NL \
+    fn longer ( first : map [ string , int ] , second : int , third : int , fourth : int ) NL { NL \
+    34:if a 34:== 1 { log ( \"s\" , a ) } else { log ( 'c' ) } NL \
+    34:let xs 34:= [ 1 , 2 , 3 , - 1 ] NL \
+    34:let y 34:= xs [ 1 ] . size ( ) 34:* 2.5 NL \
+    call ( alpha , beta , gamma , delta , epsilon , zeta , eta ) NL \
+    34:for x 34:in 1 .. y { 34:if ! x { std :: halt ( null ) } } NL } NL NL";
+
+const SMALL: &str = "fn add ( a : int , b : int ) 34:-> int NL { NL 34:return add ( a , b , 1 ) 34:+ b NL } NL";
+
+const WIDE: &str = "34:let rows 34:= [ [ alpha , beta , gamma , delta ] , call ( epsilon , zeta , eta , theta , iota ) , \
+    [ [ kappa , lambda , mu ] , [ nu , xi , omicron ] , [ pi , rho , sigma ] , [ tau , upsilon , phi ] ] ] NL";
+
+const COMMENTED: &str = "l0:a_line_of_comment;record Beacon { NL l1:what_it_counts;orbits : int , NL \
+    kept : bool ,;r0:behind_it NL l3:;name : string NL } NL l2:a_block;NL l0:one;l0:two;fn add ( a , b ) NL { NL \
+    l0:why;34:return a;r2:here 34:+ b NL } NL";
+
+fn usual_inputs() -> Vec<Input> {
+    vec![
+        Input::new("`a a a a a ,`", DEFAULTS, repeated("a a a a a ,", MOST_ROWS)),
+        Input::new("names of 14 bytes, commas", DEFAULTS, repeated("n n n n n ,".replace('n', "fourteen_bytes").as_str(), MOST_ROWS)),
+        Input::new("functions, records, calls", DEFAULTS, repeated(TYPICAL, MOST_ROWS)),
+        Input::new("the same, SameLine", SAME_LINE, repeated(TYPICAL, MOST_ROWS)),
+        Input::new("a small list", DEFAULTS, list(SMALL)),
+        Input::new("wide broken lists", DEFAULTS, repeated(WIDE, MOST_ROWS)),
+        Input::new("comments", DEFAULTS, repeated(COMMENTED, MOST_ROWS)),
+    ]
+}
+
+/// Each list in full and with half its rows, so that the growth is seen.
+fn hostile_inputs() -> Vec<Input> {
+    let lists: [(&str, Options, fn(usize) -> Vec<Row>); 10] = [
+        ("all `(`", DEFAULTS, |n| repeated("(", n)),
+        ("all `[`", DEFAULTS, |n| repeated("[", n)),
+        ("all `{`", SAME_LINE, |n| repeated("{", n)),
+        ("`( ]`", DEFAULTS, |n| repeated("( ]", n)),
+        ("`(` nested and closed", DEFAULTS, |n| nested("(", ")", n)),
+        ("`[` nested and closed", DEFAULTS, |n| nested("[", "]", n)),
+        ("`{` nested and closed", SAME_LINE, |n| nested("{", "}", n)),
+        ("`[ ,`", DEFAULTS, |n| repeated("[ ,", n)),
+        ("`[ ,`", WIDEST, |n| repeated("[ ,", n)),
+        ("`fn (`", DEFAULTS, |n| repeated("fn (", n)),
+    ];
+    let sizes = [MOST_ROWS / 2, MOST_ROWS];
+    lists.iter().flat_map(|&(name, options, rows)| sizes.map(|n| Input::new(name, options, rows(n)))).collect()
+}
+
+/// So many rows of a list that begins anew at its end.
+fn repeated(words: &str, rows: usize) -> Vec<Row> {
+    list(words).into_iter().cycle().take(rows).collect()
+}
+
+fn nested(open: &str, close: &str, rows: usize) -> Vec<Row> {
+    let mut list = repeated(open, rows / 2);
+    list.extend(repeated(close, rows / 2));
+    list
+}
+
+// ---- readers
+
+fn measure_readers(repeats: usize) {
+    for (name, words) in [("functions, records, calls", TYPICAL), ("wide broken lists", WIDE)] {
+        let rows = repeated(words, MOST_ROWS);
+        let packed = pack(&rows);
+        let tokens = rust_side::tokens(&model::tokens(&packed.rows, &packed.text).unwrap());
+        measure_reading(name, rust_side::text(&tokens, DEFAULTS).as_bytes(), repeats);
+        measure_sheet(name, &sheet::write(&rows), repeats);
+    }
+}
+
+fn measure_reading(name: &str, text: &[u8], repeats: usize) {
+    let mut pieces = vec![0; 2 * text.len()];
+    let rust = best(repeats, || _ = black_box(model::read(black_box(text), usize::MAX)));
+    let ours = best(repeats, || _ = black_box(doors::read_pieces(black_box(text), &mut pieces)));
+    print_speed("`rl_read_pieces`", name, text.len(), rust, ours);
+}
+
+fn measure_sheet(name: &str, sheet: &[u8], repeats: usize) {
+    let (mut rows, mut text) = (vec![0; sheet.len() * 4], vec![0; sheet.len()]);
+    let rust = best(repeats, || _ = black_box(sheet::read(black_box(sheet), usize::MAX, usize::MAX)));
+    let ours = best(repeats, || _ = black_box(doors::read_sheet(black_box(sheet), &mut rows, &mut text)));
+    print_speed("`rl_read_sheet`", name, sheet.len(), rust, ours);
+}
+
+fn print_speed(call: &str, name: &str, bytes: usize, rust: f64, ours: f64) {
+    let speed = |ns: f64| bytes as f64 * 1000.0 / ns;
+    println!("| {call} | {name} | {bytes} | {:.0} | {:.0} | {:.2} |", speed(rust), speed(ours), speed(ours) / speed(rust));
+}
