@@ -10,6 +10,13 @@ pub struct Answer {
     pub numbers: [u64; 3],
 }
 
+impl std::fmt::Display for Answer {
+    fn fmt(&self, f: &mut std::fmt::Formatter) -> std::fmt::Result {
+        let [first, second, third] = self.numbers;
+        write!(f, "{} ({first} {second} {third})", self.refusal)
+    }
+}
+
 pub fn success(first: u64, second: u64, third: u64) -> Answer {
     Answer { refusal: 0, numbers: [first, second, third] }
 }

@@ -1,7 +1,9 @@
 //! Row lists: how they are written down here, and how they are packed into the bytes that a door takes.
 //!
 //! A list is written as words. A word is a token's usual lexeme, `NL`, `EOF`, another identifier, or `KIND:LEXEME`;
-//! before it leading rows `lKIND:TEXT;`, behind it trailing rows `;rKIND:TEXT`, with KIND a trivia kind.
+//! before it leading rows `lKIND:TEXT;`, behind it trailing rows `;rKIND:TEXT`, with KIND a trivia kind. In LEXEME and TEXT
+//! `\s` is a space, `\n` a line feed, `\c` a semicolon, `\b` a backslash.
+use std::collections::HashMap;
 
 /// A row by its bytes instead of its indexes.
 #[derive(Clone, Debug, PartialEq)]
@@ -51,7 +53,17 @@ fn row(part: &str) -> Row {
 }
 
 fn trivia(what: u32, kind: &str, bytes: &str) -> Row {
-    Row { what, kind: kind.parse().unwrap(), bytes: bytes.into() }
+    Row { what, kind: kind.parse().unwrap(), bytes: unescape(bytes) }
+}
+
+fn unescape(written: &str) -> Vec<u8> {
+    let text = written.replace("\\s", " ").replace("\\n", "\n").replace("\\c", ";").replace("\\b", "\\");
+    text.into_bytes()
+}
+
+fn escape(bytes: &[u8]) -> String {
+    let text = String::from_utf8_lossy(bytes).replace('\\', "\\b");
+    text.replace(';', "\\c").replace('\n', "\\n").replace(' ', "\\s")
 }
 
 fn is_number(s: &str) -> bool {
@@ -62,7 +74,7 @@ fn token(word: &str) -> Row {
     let usual = |kind: u32| Row { what: TOKEN, kind, bytes: USUAL[kind as usize].into() };
     match word.split_once(':') {
         Some((kind, bytes)) if is_number(kind) => {
-            return Row { what: TOKEN, kind: kind.parse().unwrap(), bytes: bytes.into() }
+            return Row { what: TOKEN, kind: kind.parse().unwrap(), bytes: unescape(bytes) }
         }
         _ => {}
     }
@@ -73,6 +85,37 @@ fn token(word: &str) -> Row {
             Some(kind) => usual(kind as u32),
             None => Row { what: TOKEN, kind: IDENTIFIER, bytes: word.into() },
         },
+    }
+}
+
+/// Rows as words; a row that names no bytes of the text by its numbers.
+pub fn written(rows: &[u8], text: &[u8]) -> String {
+    let words: Vec<String> = rows.chunks(ROW_BYTES).map(|row| word(row, text)).collect();
+    words.join(" ").replace("; ", ";").replace(" ;r", ";r")
+}
+
+fn word(row: &[u8], text: &[u8]) -> String {
+    let numbers: Vec<usize> =
+        row.chunks_exact(4).map(|n| u32::from_le_bytes(n.try_into().unwrap()) as usize).collect();
+    let bytes = match numbers[..] {
+        [_, _, start, end] => text.get(start..end),
+        _ => None,
+    };
+    match (numbers.first(), bytes) {
+        (Some(0), Some(bytes)) => format!("l{}:{};", numbers[1], escape(bytes)),
+        (Some(2), Some(bytes)) => format!(";r{}:{}", numbers[1], escape(bytes)),
+        (Some(1), Some(bytes)) => usual_word(numbers[1], bytes),
+        _ => format!("{numbers:?} of {} row bytes", row.len()),
+    }
+}
+
+fn usual_word(kind: usize, bytes: &[u8]) -> String {
+    match kind {
+        0 if bytes.is_empty() => "EOF".into(),
+        1 if bytes == b"\n" => "NL".into(),
+        10 if bytes == b";" => ";".into(),
+        2..=34 if bytes == USUAL[kind].as_bytes() => USUAL[kind].into(),
+        _ => format!("{kind}:{}", escape(bytes)),
     }
 }
 
@@ -92,6 +135,25 @@ pub fn pack(list: &[Row]) -> Packed {
         push_row(&mut packed.rows, [row.what, row.kind, start as u32, packed.text.len() as u32]);
     }
     packed
+}
+
+/// Packs the rows' bytes in another order: each once, the last row's first, with a byte between them.
+pub fn pack_shared(list: &[Row]) -> Packed {
+    let mut text = Vec::new();
+    let mut starts: HashMap<&[u8], usize> = HashMap::new();
+    for row in list.iter().rev() {
+        starts.entry(&row.bytes).or_insert_with(|| {
+            text.push(b'#');
+            text.extend_from_slice(&row.bytes);
+            text.len() - row.bytes.len()
+        });
+    }
+    let mut rows = Vec::new();
+    for row in list {
+        let start = starts[&row.bytes[..]];
+        push_row(&mut rows, [row.what, row.kind, start as u32, (start + row.bytes.len()) as u32]);
+    }
+    Packed { rows, text }
 }
 
 pub fn push_row(rows: &mut Vec<u8>, numbers: [u32; 4]) {

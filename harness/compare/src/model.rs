@@ -111,7 +111,7 @@ fn number_end(text: &[u8], start: usize) -> usize {
     i
 }
 
-/// The pieces' starts and ends in turn; in a refusal the space's contents are told by `space` zeros.
+/// What reading a text into so much space answers, and on success the pieces' starts and ends in turn.
 pub fn read(text: &[u8], space: usize) -> (Answer, Vec<u32>) {
     let mut pieces = Vec::new();
     let mut i = 0;
@@ -121,10 +121,10 @@ pub fn read(text: &[u8], space: usize) -> (Answer, Vec<u32>) {
             continue;
         }
         let Some(end) = piece_end(text, i) else {
-            return (refuse(9, i), vec![0; space]);
+            return (refuse(9, i), Vec::new());
         };
         if pieces.len() + 2 > space || end > u32::MAX as usize {
-            return (refuse(10, i), vec![0; space]);
+            return (refuse(10, i), Vec::new());
         }
         pieces.extend([i as u32, end as u32]);
         i = end;

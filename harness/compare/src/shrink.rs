@@ -1,0 +1,67 @@
+//! Makes a difference's list small.
+use crate::doors::Options;
+use crate::difference::Difference;
+use crate::layouts::{Comparer, Rooms};
+use crate::lists::ROW_BYTES;
+
+/// A difference on as few rows as dropping rows leads to, with options nearer to the defaults where they differ too.
+pub fn smaller(found: Difference) -> Difference {
+    let Some(call) = &found.call else { return found };
+    let rows = call.rows.chunks(ROW_BYTES).collect();
+    let few = fewest(rows, |rows: &[&[u8]]| differs(&rows.concat(), &call.text, call.options).is_some()).concat();
+    let mut options = call.options;
+    for (i, value) in [(0, 1), (1, 4), (1, 0), (2, 40), (2, 0), (3, 40), (3, 0)] {
+        let mut other = options;
+        other[i] = value;
+        if differs(&few, &call.text, other).is_some() {
+            options = other;
+        }
+    }
+    differs(&few, &call.text, options).unwrap_or(found)
+}
+
+/// A difference on a list under any output size.
+fn differs(rows: &[u8], text: &[u8], options: Options) -> Option<Difference> {
+    let rooms = if rows.len() < 200 * ROW_BYTES { Rooms::All } else { Rooms::Two(0) };
+    Comparer::new(None).compare(rows, text, &[options], rooms, 0).err()
+}
+
+/// As few items as still fail, by dropping ever shorter runs of them until nothing more can go.
+pub fn fewest<T: Clone>(items: Vec<T>, fails: impl Fn(&[T]) -> bool) -> Vec<T> {
+    let mut kept = items;
+    let mut run = kept.len().next_power_of_two();
+    while run > 0 {
+        let fewer = without_runs(&kept, run, &fails);
+        if run > 1 || fewer.len() == kept.len() {
+            run /= 2;
+        }
+        kept = fewer;
+    }
+    kept
+}
+
+fn without_runs<T: Clone>(items: &[T], run: usize, fails: &impl Fn(&[T]) -> bool) -> Vec<T> {
+    let mut kept = items.to_vec();
+    let mut at = 0;
+    while at < kept.len() {
+        let mut fewer = kept.clone();
+        fewer.drain(at..kept.len().min(at + run));
+        if fails(&fewer) {
+            kept = fewer;
+        } else {
+            at += run;
+        }
+    }
+    kept
+}
+
+#[cfg(test)]
+mod tests {
+    #[test]
+    fn fewest_keeps_what_fails() {
+        let fails = |items: &[u32]| items.contains(&7) && items.contains(&40);
+        assert_eq!(super::fewest((0..100).collect(), fails), [7, 40]);
+        assert_eq!(super::fewest(vec![7, 40], fails), [7, 40]);
+        assert_eq!(super::fewest(vec![1, 2], |_| true), []);
+    }
+}
