@@ -2,7 +2,6 @@
 use crate::doors::{self, Options};
 use crate::lists::{list, pack, Packed, Row, MOST_ROWS};
 use crate::{clock, model, rust_side, sheet};
-use rl_lexer::tokentypes::Token;
 use std::hint::black_box;
 
 const DEFAULTS: Options = [1, 4, 40, 40];
@@ -52,13 +51,14 @@ impl Input {
 
     fn measure(&self, repeats: usize) {
         let Packed { rows, text } = pack(&self.rows);
-        let tokens = rust_side::tokens(&model::tokens(&rows, &text).unwrap());
+        let read = model::tokens(&rows, &text).unwrap();
+        let tokens = rust_side::tokens(&read);
         let expected = rust_side::text(&tokens, self.options);
         let mut out = vec![0; expected.len()];
         let answer = doors::layout(self.options, &rows, &text, &mut out);
-        assert!(answer.refusal != 0 || out == expected.as_bytes(), "{}: the texts differ", self.name);
+        assert!(answer.refusal != 0 || out == expected, "{}: the texts differ", self.name);
 
-        let per_token = |ns: f64| ns / (self.calls * tokens.len()) as f64;
+        let per_token = |ns: f64| ns / (self.calls * read.len()) as f64;
         let rust = per_token(best(repeats, || self.run_rust(&tokens)));
         let ours = per_token(best(repeats, || self.run_ours(&rows, &text, &mut out)));
         let cleared = per_token(best(repeats, || self.run_cleared(&rows, &text, &mut out)));
@@ -68,7 +68,7 @@ impl Input {
             self.name,
             self.options,
             self.rows.len(),
-            tokens.len(),
+            read.len(),
             expected.len(),
             ours / rust
         );
@@ -87,7 +87,7 @@ impl Input {
         println!("| {} | {checks:.1} | {:.1} | {:.1} |", self.name, unmarked - checks, whole - unmarked);
     }
 
-    fn run_rust(&self, tokens: &[Token]) {
+    fn run_rust(&self, tokens: &rust_side::Tokens) {
         for _ in 0..self.calls {
             black_box(rust_side::text(black_box(tokens), self.options));
         }
@@ -185,7 +185,7 @@ fn measure_readers(repeats: usize) {
         let rows = repeated(words, MOST_ROWS);
         let packed = pack(&rows);
         let tokens = rust_side::tokens(&model::tokens(&packed.rows, &packed.text).unwrap());
-        measure_reading(name, rust_side::text(&tokens, DEFAULTS).as_bytes(), repeats);
+        measure_reading(name, &rust_side::text(&tokens, DEFAULTS), repeats);
         measure_sheet(name, &sheet::write(&rows), repeats);
     }
 }

@@ -14,6 +14,7 @@ pub struct LayoutCall {
     pub options: Options,
     pub rows: Vec<u8>,
     pub text: Vec<u8>,
+    pub source: Option<Vec<u8>>,
     pub room: usize,
 }
 
@@ -35,6 +36,9 @@ impl std::fmt::Display for Difference {
 impl std::fmt::Display for LayoutCall {
     fn fmt(&self, f: &mut std::fmt::Formatter) -> std::fmt::Result {
         let rows = written(&self.rows, &self.text);
+        if let Some(source) = &self.source {
+            write!(f, "source {}, ", shown(source))?;
+        }
         write!(f, "options {:?}, an output of {} bytes, the list: {rows}", self.options, self.room)
     }
 }

@@ -10,6 +10,13 @@ pub struct Answer {
     pub numbers: [u64; 3],
 }
 
+impl Answer {
+    /// Of a layout: no refusal, and the plain mark.
+    pub fn is_plain(&self) -> bool {
+        self.refusal == 0 && self.numbers[2] == 1
+    }
+}
+
 impl std::fmt::Display for Answer {
     fn fmt(&self, f: &mut std::fmt::Formatter) -> std::fmt::Result {
         let [first, second, third] = self.numbers;
@@ -30,6 +37,11 @@ pub const REPORT_BYTES: usize = 24;
 /// Layout; reports length, commas and plain.
 pub fn layout(options: Options, rows: &[u8], text: &[u8], out: &mut [u8]) -> Answer {
     reported(|report| raw::layout(options, rows, text, out, report))
+}
+
+/// Layout behind a source's shebang line; reports the same.
+pub fn layout_source(source: &[u8], rows: &[u8], text: &[u8], out: &mut [u8]) -> Answer {
+    reported(|report| raw::layout_source(source, rows, text, out, report))
 }
 
 /// Reads a sheet; reports the rows, the text's bytes and 0.
@@ -73,6 +85,18 @@ pub mod raw {
             report: *mut u8,
             report_len: usize,
         ) -> u32;
+        fn rl_layout_source(
+            source: *const u8,
+            source_len: usize,
+            rows: *const u8,
+            rows_len: usize,
+            text: *const u8,
+            text_len: usize,
+            out: *mut u8,
+            out_len: usize,
+            report: *mut u8,
+            report_len: usize,
+        ) -> u32;
         fn rl_read_sheet(
             sheet: *const u8,
             sheet_len: usize,
@@ -102,6 +126,30 @@ pub mod raw {
                 o[1],
                 o[2],
                 o[3],
+                rows.as_ptr(),
+                rows.len(),
+                text.as_ptr(),
+                text.len(),
+                out.as_mut_ptr(),
+                out.len(),
+                report.as_mut_ptr(),
+                report.len(),
+            )
+        }
+    }
+
+    #[cfg(not(feature = "source"))]
+    pub fn layout_source(_: &[u8], _: &[u8], _: &[u8], _: &mut [u8], _: &mut [u8]) -> u32 {
+        panic!("no door rl_layout_source")
+    }
+
+    #[cfg(feature = "source")]
+    pub fn layout_source(source: &[u8], rows: &[u8], text: &[u8], out: &mut [u8], report: &mut [u8]) -> u32 {
+        // SAFETY: as above.
+        unsafe {
+            rl_layout_source(
+                source.as_ptr(),
+                source.len(),
                 rows.as_ptr(),
                 rows.len(),
                 text.as_ptr(),

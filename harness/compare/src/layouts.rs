@@ -1,11 +1,10 @@
-//! A layout call beside the Rust and the model: the answer, every byte of the output, and demand 3.
+//! Layout calls compared: the answer, every byte of the output, and demand 3.
 use crate::counts::{Counts, Sort};
 use crate::demand3::Texts;
 use crate::difference::{shown, Difference, LayoutCall};
-use crate::doors::{self, refuse, success, Answer, Options};
+use crate::doors::{self, success, Answer, Options};
+use crate::expected::{Call, List};
 use crate::{exhaustive, model};
-use crate::rust_side::{self, Walk};
-use rl_lexer::tokentypes::Token;
 
 /// The sizes of the output that are tried.
 #[derive(Clone, Copy)]
@@ -49,70 +48,51 @@ impl<'t> Comparer<'t> {
         self.counts.add(Sort::Lists);
         let list = List::new(rows, text);
         for (n, &options) in options.iter().enumerate() {
-            let call = Call { list: &list, options, walk: list.walk(options) };
-            self.compare_call(&call, rooms, id << 8 | n as u64).map_err(|(room, said)| {
-                let call = LayoutCall { options, rows: rows.into(), text: text.into(), room };
-                Difference { said, call: Some(call) }
-            })?;
+            self.compare_call(&list.laid_out(options), rooms, id << 8 | n as u64)?;
         }
         Ok(())
     }
 
-    fn compare_call(&mut self, call: &Call, rooms: Rooms, id: u64) -> Result<(), (usize, String)> {
+    /// Lays a list out behind the shebang line of a source.
+    pub fn compare_source(&mut self, rows: &[u8], text: &[u8], source: &[u8], rooms: Rooms) -> Result<(), Difference> {
+        self.counts.add(Sort::Lists);
+        self.compare_call(&List::new(rows, text).with_source(source), rooms, 0)
+    }
+
+    fn compare_call(&mut self, call: &Call, rooms: Rooms, id: u64) -> Result<(), Difference> {
         let enough = call.reach() + SLACK;
-        self.compare_room(call, enough).map_err(|said| (enough, said))?;
-        if call.list.plain && call.expected(enough).refusal == 0 {
-            self.demand3(call, id).map_err(|said| (enough, said))?;
+        if id >> 8 & 15 == 0 && !call.steps_are_the_call() {
+            return Err(difference(call, enough, "the Rust's steps don't lead to the text of its public call".into()));
+        }
+        self.compare_room(call, enough)?;
+        if call.answer(enough).is_plain() {
+            self.demand3(call, id).map_err(|said| difference(call, enough, said))?;
         }
         let others = match rooms {
             Rooms::Two(n) => vec![picked(n, call.reach())],
             Rooms::All => (0..enough).collect(),
             Rooms::Edges => call.edges(),
         };
-        for room in others {
-            self.compare_room(call, room).map_err(|said| (room, said))?;
-        }
-        Ok(())
+        others.into_iter().try_for_each(|room| self.compare_room(call, room))
     }
 
     /// One call of the door.
-    fn compare_room(&mut self, call: &Call, room: usize) -> Result<(), String> {
+    fn compare_room(&mut self, call: &Call, room: usize) -> Result<(), Difference> {
         if self.out.len() < room + GUARD {
             self.out.resize(room + GUARD, 0);
         }
-        self.out[..room + GUARD].fill(MARK);
-        let list = call.list;
-        let answer = doors::layout(call.options, list.rows, list.text, &mut self.out[..room]);
-        let expected = call.expected(room);
-        if answer != expected {
-            return Err(format!("the answer is {answer}, not {expected}{}", self.text_said(call, answer)));
+        let out = &mut self.out[..room + GUARD];
+        out.fill(MARK);
+        let answer = lay_out(call, &mut out[..room]);
+        if let Some(said) = said(call, answer, out) {
+            return Err(difference(call, room, said));
         }
-        self.count(answer);
-        let (written, rest) = self.out.split_at(written(call, answer));
-        if written != &call.text()[..written.len()] {
-            return Err(format!("the text is {}, not {}", shown(written), shown(call.text())));
-        }
-        let fill = if matches!(answer.refusal, 4 | 5) { 0 } else { MARK };
-        let (behind, guard) = rest[..room + GUARD - written.len()].split_at(room - written.len());
-        if behind.iter().any(|&b| b != fill) {
-            return Err(format!("refusal {}: the output's other bytes are not all {fill}", answer.refusal));
-        }
-        if guard.iter().any(|&b| b != MARK) {
-            return Err("bytes behind the output were changed".into());
-        }
+        self.count(call, answer);
         Ok(())
     }
 
-    fn text_said(&self, call: &Call, answer: Answer) -> String {
-        if answer.refusal != 0 {
-            return String::new();
-        }
-        let ours = &self.out[..answer.numbers[0] as usize];
-        format!("; the text is {}, the Rust's is {}", shown(ours), shown(call.text()))
-    }
-
-    fn count(&mut self, answer: Answer) {
-        self.counts.add(Sort::Layouts);
+    fn count(&mut self, call: &Call, answer: Answer) {
+        self.counts.add(if call.source.is_some() { Sort::Sources } else { Sort::Layouts });
         self.counts.add(Sort::of_refusal(answer.refusal));
         if answer.refusal == 0 {
             self.counts.add_many(Sort::Commas, answer.numbers[1]);
@@ -123,9 +103,8 @@ impl<'t> Comparer<'t> {
     /// Demand 3 for a layout whose text stands in the output.
     fn demand3(&mut self, call: &Call, id: u64) -> Result<(), String> {
         let text = call.text();
-        let lexemes = model::lexemes(call.list.tokens.as_ref().unwrap());
-        let commas = call.walk.as_ref().unwrap().commas;
-        let count = lexemes.len() + commas as usize;
+        let lexemes = call.list.lexemes();
+        let count = lexemes.len() + call.commas() as usize;
         self.pieces.clear();
         self.pieces.resize(2 * count, 0);
         let answer = doors::read_pieces(&self.out[..text.len()], &mut self.pieces);
@@ -133,99 +112,54 @@ impl<'t> Comparer<'t> {
             return Err(format!("demand 3: {} reads back as {answer}, {count} pieces are wanted", shown(text)));
         }
         let cut: Vec<&[u8]> = self.pieces.chunks(2).map(|p| &text[p[0] as usize..p[1] as usize]).collect();
-        if model::inserted(&lexemes, &cut) != Some(commas) {
-            return Err(format!("demand 3: the pieces of {} are not the lexemes with {commas} commas", shown(text)));
+        if model::inserted(&lexemes, &cut) != Some(call.commas()) {
+            return Err(format!("demand 3: the pieces of {} are not the lexemes with commas", shown(text)));
         }
         self.counts.add(Sort::ReadBack);
         let Some(texts) = self.texts else { return Ok(()) };
-        match texts.put(text, &model::struck(&lexemes), id) {
-            Ok(seen) => self.counts.add_many(Sort::SeenAgain, seen as u64),
-            Err(other) => {
-                let (rows, named, options) = exhaustive::named(other);
-                let other = LayoutCall { options, rows, text: named, room: text.len() };
-                return Err(format!("demand 3: {} is also a text of other lexemes: {other}", shown(text)));
-            }
-        }
+        let seen = texts.put(text, &model::struck(&lexemes), id).map_err(|other| same_text(text, other))?;
+        self.counts.add_many(Sort::SeenAgain, seen as u64);
         Ok(())
     }
 }
 
-/// A list, as the model and the Rust see it.
-struct List<'a> {
-    rows: &'a [u8],
-    text: &'a [u8],
-    tokens: Result<Vec<model::Token<'a>>, Answer>,
-    rust: Vec<Token>,
-    plain: bool,
-}
-
-impl<'a> List<'a> {
-    fn new(rows: &'a [u8], text: &'a [u8]) -> Self {
-        let tokens = model::tokens(rows, text);
-        let good: &[model::Token] = tokens.as_deref().unwrap_or(&[]);
-        let (rust, plain) = (rust_side::tokens(good), model::plain(good));
-        List { rows, text, tokens, rust, plain }
-    }
-
-    /// The Rust's walk; none where the options or the rows are refused.
-    fn walk(&self, options: Options) -> Option<Walk> {
-        let good = self.tokens.is_ok() && model::bad_option(options).is_none();
-        good.then(|| rust_side::walk(&self.rust, options))
+fn lay_out(call: &Call, out: &mut [u8]) -> Answer {
+    let list = call.list;
+    match call.source {
+        Some(source) => doors::layout_source(source, list.rows, list.text, out),
+        None => doors::layout(call.options, list.rows, list.text, out),
     }
 }
 
-struct Call<'l, 'a> {
-    list: &'l List<'a>,
-    options: Options,
-    walk: Option<Walk>,
+/// How an answer and the bytes after the call, with those behind the lent slice, differ from what they must be.
+fn said(call: &Call, answer: Answer, after: &[u8]) -> Option<String> {
+    let room = after.len() - GUARD;
+    let expected = call.answer(room);
+    let text: &[u8] = if expected.refusal == 0 { call.text() } else { &[] };
+    let (out, guard) = after.split_at(room);
+    let (written, rest) = out.split_at(text.len());
+    if answer != expected || written != text {
+        let texts = format!("the output begins {}, it must {}", shown(written), shown(text));
+        return Some(format!("the answer is {answer}, it must be {expected}; {texts}"));
+    }
+    let fill = if matches!(answer.refusal, 4 | 5) { 0 } else { MARK };
+    if rest.iter().any(|&b| b != fill) {
+        return Some(format!("answer {answer}: the output's other bytes are not all {fill}"));
+    }
+    guard.iter().any(|&b| b != MARK).then(|| "bytes behind the output were changed".into())
 }
 
-impl Call<'_, '_> {
-    fn text(&self) -> &[u8] {
-        self.walk.as_ref().map_or(&[], |w| w.text.as_bytes())
-    }
-
-    /// The bytes that a walk writes if there is room.
-    fn reach(&self) -> usize {
-        match &self.walk {
-            Some(Walk { deep: Some(deep), .. }) => deep.led,
-            Some(walk) => walk.text.len(),
-            None => 0,
-        }
-    }
-
-    fn edges(&self) -> Vec<usize> {
-        let mut lengths = self.walk.as_ref().map_or(Vec::new(), |w| w.after.clone());
-        lengths.push(self.reach());
-        lengths.iter().flat_map(|&n| [n.saturating_sub(1), n]).collect()
-    }
-
-    /// What a layout into an output of a size answers.
-    fn expected(&self, room: usize) -> Answer {
-        if let Some(refusal) = model::bad_option(self.options) {
-            return refusal;
-        }
-        let walk = match (&self.list.tokens, &self.walk) {
-            (Err(refusal), _) => return *refusal,
-            (_, walk) => walk.as_ref().unwrap(),
-        };
-        if let Some(token) = walk.after.iter().position(|&length| length > room) {
-            return refuse(5, token);
-        }
-        match &walk.deep {
-            Some(deep) if deep.led > room => refuse(5, deep.token),
-            Some(deep) => refuse(4, deep.token),
-            None => success(walk.text.len() as u64, walk.commas, self.list.plain as u64),
-        }
-    }
+fn difference(call: &Call, room: usize, said: String) -> Difference {
+    let source = call.source.map(Vec::from);
+    let list = call.list;
+    let call = LayoutCall { options: call.options, rows: list.rows.into(), text: list.text.into(), source, room };
+    Difference { said, call: Some(call) }
 }
 
-fn written(call: &Call, answer: Answer) -> usize {
-    if answer.refusal == 0 {
-        call.text().len()
-    } else {
-        0
-    }
+fn same_text(text: &[u8], other: u64) -> String {
+    let (rows, named, options) = exhaustive::named(other);
+    let other = LayoutCall { options, rows, text: named, source: None, room: text.len() };
+    format!("demand 3: {} is also the text of other lexemes: {other}", shown(text))
 }
 
 /// One size up to the length, as a number picks it.

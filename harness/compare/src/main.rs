@@ -7,6 +7,7 @@ mod demand3;
 mod difference;
 mod doors;
 mod exhaustive;
+mod expected;
 mod layouts;
 mod lists;
 mod long;
@@ -18,6 +19,7 @@ mod sheet;
 mod sheets;
 mod shrink;
 mod small;
+mod sources;
 mod threads;
 
 use counts::{Counts, Sort};
@@ -62,6 +64,10 @@ fn compare(step: u64) {
     run.section("damaged rows and options", || damaged::run(step));
     run.section("the bound on rows", damaged::at_the_row_bound);
     run.section("the bounds on widths", damaged::at_the_width_bounds);
+    if cfg!(feature = "source") {
+        run.section("sources: every output size", sources::run_each);
+        run.section("sources: random lists", || sources::run_random(step));
+    }
     run.section("reading back: every short text", || readings::run_short(step));
     run.section("reading back: every pair of bytes", readings::run_pairs);
     run.section("reading back: random texts, every space", || readings::run_random(step));

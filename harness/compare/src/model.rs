@@ -54,6 +54,16 @@ pub fn bad_option(options: Options) -> Option<Answer> {
     (0..4).find(|&i| options[i] > most[i]).map(|i| refuse(1, i))
 }
 
+/// A source's first line with a line feed, where it is a shebang line; else nothing.
+pub fn shebang(source: &[u8]) -> Vec<u8> {
+    let line = source.split(|&b| b == b'\n').next().unwrap();
+    if line.starts_with(b"#!") && !line.starts_with(b"#![") {
+        [line, b"\n"].concat()
+    } else {
+        Vec::new()
+    }
+}
+
 // ---- reading back
 
 #[derive(Clone, Copy, PartialEq)]

@@ -9,9 +9,16 @@ pub use format::needs_space;
 /// The entries that the broken-group stack has room for in document 01.
 const STACK_ENTRIES: usize = 64;
 
+/// The Rust's tokens of a list.
+pub struct Tokens {
+    tokens: Vec<Token>,
+    /// Whether bytes stand in for those that are no UTF-8.
+    stand_in: bool,
+}
+
 /// What the Rust's walk over a list did.
 pub struct Walk {
-    pub text: String,
+    pub text: Vec<u8>,
     /// The text's length behind each token. A token that was taken along ends where the one before it does.
     pub after: Vec<usize>,
     /// Commas that were written for no Comma token.
@@ -26,21 +33,41 @@ pub struct Deep {
 }
 
 /// Walks up to the end, or to the token that would be the stack's 65th entry.
-pub fn walk(tokens: &[Token], options: Options) -> Walk {
-    let mut walk = step_through(tokens, options);
-    if has_foreign_commas(tokens) {
-        walk.commas = step_through(&without_commas(tokens), options).commas;
+pub fn walk(list: &Tokens, options: Options) -> Walk {
+    let mut walk = step_through(list, options);
+    if has_foreign_commas(&list.tokens) {
+        walk.commas = step_through(&without_commas(list), options).commas;
     }
     walk
 }
 
 /// The text alone, by the Rust's public call.
-pub fn text(tokens: &[Token], options: Options) -> String {
-    format::format_tokens_with(tokens, &format_options(options))
+pub fn text(list: &Tokens, options: Options) -> Vec<u8> {
+    list.real(format::format_tokens_with(&list.tokens, &format_options(options)))
 }
 
-/// The Rust's tokens. Their bytes are UTF-8.
-pub fn tokens(read: &[Read]) -> Vec<Token> {
+/// The text behind a source's shebang line, by the Rust's public call.
+pub fn text_with_source(list: &Tokens, source: &str) -> Vec<u8> {
+    list.real(format::format_source_with_shebang(source, &list.tokens))
+}
+
+impl Tokens {
+    /// The bytes of a text, with those that were stood in for.
+    fn real(&self, text: String) -> Vec<u8> {
+        let mut bytes = text.into_bytes();
+        if self.stand_in {
+            bytes.iter_mut().filter(|b| **b < 8).for_each(|b| *b += 128);
+        }
+        bytes
+    }
+}
+
+pub fn tokens(read: &[Read]) -> Tokens {
+    let is_utf8 = |&(_, bytes): &(u32, &[u8])| std::str::from_utf8(bytes).is_ok();
+    let stand_in = !read.iter().all(|t| {
+        is_utf8(&(t.kind, t.lexeme)) && t.leading.iter().all(is_utf8) && t.trailing.iter().all(is_utf8)
+    });
+    let string = |bytes: &[u8]| string(bytes, stand_in);
     let side = |rows: &[(u32, &[u8])]| rows.iter().map(|&(k, bytes)| trivia(k, string(bytes))).collect();
     let token = |t: &Read| Token {
         token: kind(t.kind),
@@ -48,11 +75,17 @@ pub fn tokens(read: &[Read]) -> Vec<Token> {
         leading_trivia: side(&t.leading),
         trailing_trivia: side(&t.trailing),
     };
-    read.iter().map(token).collect()
+    Tokens { tokens: read.iter().map(token).collect(), stand_in }
 }
 
-fn string(bytes: &[u8]) -> String {
-    std::str::from_utf8(bytes).expect("lexemes are UTF-8").to_string()
+/// The bytes as a string. Of lists that hold other bytes than UTF-8, bytes 128 to 135 are stood in for by 0 to 7, which
+/// then stand for nothing else.
+fn string(bytes: &[u8], stand_in: bool) -> String {
+    if !stand_in {
+        return std::str::from_utf8(bytes).unwrap().to_string();
+    }
+    let ascii = bytes.iter().map(|&b| if (128..136).contains(&b) { b - 128 } else { b }).collect();
+    String::from_utf8(ascii).expect("bytes that nothing stands in for")
 }
 
 fn format_options(options: Options) -> FormatOptions {
@@ -64,9 +97,10 @@ fn format_options(options: Options) -> FormatOptions {
     }
 }
 
-fn step_through(tokens: &[Token], options: Options) -> Walk {
+fn step_through(list: &Tokens, options: Options) -> Walk {
+    let tokens = &list.tokens;
     let mut formatter = format::steps::Steps::new(format_options(options));
-    let mut walk = Walk { text: String::new(), after: Vec::with_capacity(tokens.len()), commas: 0, deep: None };
+    let mut walk = Walk { text: Vec::new(), after: Vec::with_capacity(tokens.len()), commas: 0, deep: None };
     let mut index = 0;
     while index < tokens.len() {
         let before = formatter.text().len();
@@ -81,7 +115,7 @@ fn step_through(tokens: &[Token], options: Options) -> Walk {
         walk.after.resize(next, formatter.text().len());
         index = next;
     }
-    walk.text = formatter.into_text();
+    walk.text = list.real(formatter.into_text());
     walk
 }
 
@@ -118,7 +152,7 @@ fn comment(t: &rl_lexer::tokentypes::Trivia) -> &str {
 }
 
 /// The same tokens with another byte for each comma: as long, and laid out alike.
-fn without_commas(tokens: &[Token]) -> Vec<Token> {
+fn without_commas(list: &Tokens) -> Tokens {
     use rl_lexer::tokentypes::Trivia::{self, *};
     let dotted = |s: &str| s.replace(',', ".");
     let side = |ts: &[Trivia]| {
@@ -137,7 +171,7 @@ fn without_commas(tokens: &[Token]) -> Vec<Token> {
         leading_trivia: side(&t.leading_trivia),
         trailing_trivia: side(&t.trailing_trivia),
     };
-    tokens.iter().map(token).collect()
+    Tokens { tokens: list.tokens.iter().map(token).collect(), stand_in: list.stand_in }
 }
 
 #[allow(dead_code)]

@@ -1,6 +1,5 @@
 //! Makes a difference's list small.
-use crate::doors::Options;
-use crate::difference::Difference;
+use crate::difference::{Difference, LayoutCall};
 use crate::layouts::{Comparer, Rooms};
 use crate::lists::ROW_BYTES;
 
@@ -8,22 +7,26 @@ use crate::lists::ROW_BYTES;
 pub fn smaller(found: Difference) -> Difference {
     let Some(call) = &found.call else { return found };
     let rows = call.rows.chunks(ROW_BYTES).collect();
-    let few = fewest(rows, |rows: &[&[u8]]| differs(&rows.concat(), &call.text, call.options).is_some()).concat();
-    let mut options = call.options;
+    let with_rows = |rows: &[&[u8]]| LayoutCall { rows: rows.concat(), ..call.clone() };
+    let mut small = with_rows(&fewest(rows, |rows| differs(&with_rows(rows)).is_some()));
     for (i, value) in [(0, 1), (1, 4), (1, 0), (2, 40), (2, 0), (3, 40), (3, 0)] {
-        let mut other = options;
-        other[i] = value;
-        if differs(&few, &call.text, other).is_some() {
-            options = other;
+        let mut other = small.clone();
+        other.options[i] = value;
+        if differs(&other).is_some() {
+            small = other;
         }
     }
-    differs(&few, &call.text, options).unwrap_or(found)
+    differs(&small).unwrap_or(found)
 }
 
-/// A difference on a list under any output size.
-fn differs(rows: &[u8], text: &[u8], options: Options) -> Option<Difference> {
-    let rooms = if rows.len() < 200 * ROW_BYTES { Rooms::All } else { Rooms::Two(0) };
-    Comparer::new(None).compare(rows, text, &[options], rooms, 0).err()
+/// A difference on the call's list under any output size.
+fn differs(call: &LayoutCall) -> Option<Difference> {
+    let rooms = if call.rows.len() < 200 * ROW_BYTES { Rooms::All } else { Rooms::Edges };
+    let mut comparer = Comparer::new(None);
+    match &call.source {
+        Some(source) => comparer.compare_source(&call.rows, &call.text, source, rooms).err(),
+        None => comparer.compare(&call.rows, &call.text, &[call.options], rooms, 0).err(),
+    }
 }
 
 /// As few items as still fail, by dropping ever shorter runs of them until nothing more can go.
