@@ -22,7 +22,7 @@ const NARROW_ALLMAN: Options = [1, 3, 7, 8];
 const DEFAULTS: Options = [1, 4, 40, 40];
 const TOP: Options = [1, 16, 65_535, 65_535];
 
-pub const SECTIONS: [Section; 11] = [
+pub const SECTIONS: [Section; 12] = [
     Section {
         name: "brackets and commas",
         words: "( ) [ ] , a",
@@ -34,6 +34,12 @@ pub const SECTIONS: [Section; 11] = [
         words: "{ } record fn NL else a ,",
         longest: 7,
         options: &[BREAK_ALL, SAME_LINE, DEFAULTS],
+    },
+    Section {
+        name: "braces, record, else",
+        words: "{ } record else a",
+        longest: 9,
+        options: &[BREAK_ALL, SAME_LINE],
     },
     Section {
         name: "braces, brackets and commas",

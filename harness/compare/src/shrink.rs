@@ -2,6 +2,7 @@
 use crate::difference::{Difference, LayoutCall};
 use crate::layouts::{Comparer, Rooms};
 use crate::lists::ROW_BYTES;
+use std::time::{Duration, Instant};
 
 /// A difference on as few rows as dropping rows leads to, with options nearer to the defaults where they differ too.
 pub fn smaller(found: Difference) -> Difference {
@@ -21,7 +22,11 @@ pub fn smaller(found: Difference) -> Difference {
 
 /// A difference on the call's list under any output size.
 fn differs(call: &LayoutCall) -> Option<Difference> {
-    let rooms = if call.rows.len() < 200 * ROW_BYTES { Rooms::All } else { Rooms::Edges };
+    let rooms = match call.rows.len() / ROW_BYTES {
+        0..200 => Rooms::All,
+        200..5000 => Rooms::Edges,
+        _ => Rooms::Two(0),
+    };
     let mut comparer = Comparer::new(None);
     match &call.source {
         Some(source) => comparer.compare_source(&call.rows, &call.text, source, rooms).err(),
@@ -29,11 +34,16 @@ fn differs(call: &LayoutCall) -> Option<Difference> {
     }
 }
 
-/// As few items as still fail, by dropping ever shorter runs of them until nothing more can go.
+/// How long a difference is made smaller.
+const PATIENCE: Duration = Duration::from_secs(20);
+
+/// As few items as still fail, by dropping ever shorter runs of them until nothing more can go, or time is up.
 pub fn fewest<T: Clone>(items: Vec<T>, fails: impl Fn(&[T]) -> bool) -> Vec<T> {
+    let end = Instant::now() + PATIENCE;
+    let fails = |items: &[T]| Instant::now() < end && fails(items);
     let mut kept = items;
     let mut run = kept.len().next_power_of_two();
-    while run > 0 {
+    while run > 0 && Instant::now() < end {
         let fewer = without_runs(&kept, run, &fails);
         if run > 1 || fewer.len() == kept.len() {
             run /= 2;
