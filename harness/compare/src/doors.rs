@@ -138,12 +138,6 @@ pub mod raw {
         }
     }
 
-    #[cfg(not(feature = "source"))]
-    pub fn layout_source(_: &[u8], _: &[u8], _: &[u8], _: &mut [u8], _: &mut [u8]) -> u32 {
-        panic!("no door rl_layout_source")
-    }
-
-    #[cfg(feature = "source")]
     pub fn layout_source(source: &[u8], rows: &[u8], text: &[u8], out: &mut [u8], report: &mut [u8]) -> u32 {
         // SAFETY: as above.
         unsafe {

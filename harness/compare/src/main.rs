@@ -64,14 +64,13 @@ fn compare(step: u64) {
     run.section("damaged rows and options", || damaged::run(step));
     run.section("the bound on rows", damaged::at_the_row_bound);
     run.section("the bounds on widths", damaged::at_the_width_bounds);
-    if cfg!(feature = "source") {
-        run.section("sources: every output size", sources::run_each);
-        run.section("sources: random lists", || sources::run_random(step));
-    }
+    run.section("sources: every output size", sources::run_each);
+    run.section("sources: random lists", || sources::run_random(step));
     run.section("reading back: every short text", || readings::run_short(step));
     run.section("reading back: every pair of bytes", readings::run_pairs);
     run.section("reading back: random texts, every space", || readings::run_random(step));
     run.section("sheets: every short string", || sheets::run_short(step));
+    run.section("sheets: every byte at every place", sheets::run_bytes);
     run.section("sheets: random and damaged", || sheets::run_random(step));
     run.section("spaces: every pair of kinds", small::spaces);
     run.section("reports of a wrong size", small::reports);

@@ -39,6 +39,22 @@ fn short_string(number: u64) -> Vec<u8> {
     string
 }
 
+/// A sheet with each byte put in at each place, or in its place, or left out; and each kind on each sort of line.
+pub fn run_bytes() -> Result<Counts, Difference> {
+    const SHEET: &[u8] = b"what kind text\nT 34 a\\n\nL 9 \\\\\n";
+    in_parallel(256, None, |byte, comparer| {
+        (0..SHEET.len()).try_for_each(|at| {
+            let (before, behind) = SHEET.split_at(at);
+            compare(&[before, &[byte as u8], behind].concat(), 48, 9, comparer)?;
+            compare(&[before, &[byte as u8], &behind[1..]].concat(), 48, 9, comparer)?;
+            compare(&[before, &behind[1..]].concat(), 48, 9, comparer)
+        })?;
+        ["L", "T", "R", "L 0", "T 0"].iter().try_for_each(|head| {
+            compare(format!("what kind text\n{head} {byte} x\n").as_bytes(), 16, 1, comparer)
+        })
+    })
+}
+
 /// Random sheets, some damaged, with just enough space, more and less of it; one in `step` tasks.
 pub fn run_random(step: u64) -> Result<Counts, Difference> {
     in_parallel((RANDOM / TASK).div_ceil(step), None, |task, comparer| {

@@ -39,7 +39,7 @@ pub fn reports() -> Result<Counts, Difference> {
     for size in (0..=64).filter(|&n| n != REPORT_BYTES) {
         report_of(size, "[ a , b ]", [1, 4, 40, 40], sheet::NAMES, b"a b", [22, 22])?;
         report_of(size, "l0:c;a;r0:c", [2, 17, 65_536, 0], b"T 35", b"\"", [35, 35])?;
-        counts.add_many(Sort::Reports, 8);
+        counts.add_many(Sort::Reports, 10);
     }
     Ok(counts)
 }
@@ -57,12 +57,13 @@ fn report_of(
     let mut pieces = [MARK_NUMBER; 16];
     let answers = [
         raw::layout(options, &packed.rows, &packed.text, &mut out, &mut report),
+        raw::layout_source(b"#!a", &packed.rows, &packed.text, &mut out, &mut report),
         raw::read_sheet(sheet, &mut out, &mut other, &mut report),
         raw::read_pieces(text, &mut pieces, &mut report),
         raw::needs_space(kinds[0], kinds[1], &mut report),
     ];
     let unchanged = |bytes: &[u8]| bytes.iter().all(|&b| b == MARK);
-    if answers != [11; 4] {
+    if answers != [11; 5] {
         return Err(format!("a report of {size} bytes: the refusals are {answers:?}").into());
     }
     if !unchanged(&report) || !unchanged(&out) || !unchanged(&other) || pieces != [MARK_NUMBER; 16] {
