@@ -3,47 +3,59 @@
 pub enum Sort {
     Lists,
     Layouts,
-    Success,
+    Sources,
+    Readings,
+    Sheets,
+    Spaces,
+    Text,
     Refusal1,
     Refusal2,
     Refusal3,
     Refusal4,
     Refusal5,
+    Refusal6,
+    Refusal7,
+    Refusal8,
+    Refusal9,
+    Refusal10,
+    Refusal11,
     Commas,
     Plain,
     ReadBack,
     SeenAgain,
-    Readings,
-    Sheets,
-    Sources,
-    Spaces,
-    Reports,
 }
 
-const SORTS: [&str; 17] = [
+const SORTS: [&str; 22] = [
     "lists",
     "layouts",
-    "texts equal to the Rust's",
+    "layouts with a source",
+    "readings",
+    "sheets",
+    "spaces",
+    "texts",
     "refusal 1",
     "refusal 2",
     "refusal 3",
     "refusal 4",
     "refusal 5",
+    "refusal 6",
+    "refusal 7",
+    "refusal 8",
+    "refusal 9",
+    "refusal 10",
+    "refusal 11",
     "inserted commas",
     "plain layouts",
     "plain layouts read back",
     "texts of plain layouts seen before",
-    "texts read into pieces",
-    "sheets read",
-    "layouts with a source",
-    "spaces",
-    "reports of a wrong size",
 ];
 
 impl Sort {
+    /// Of a layout's text, or of a refusal.
     pub fn of_refusal(number: u32) -> Sort {
         use Sort::*;
-        [Success, Refusal1, Refusal2, Refusal3, Refusal4, Refusal5][number as usize]
+        let refusals = [Text, Refusal1, Refusal2, Refusal3, Refusal4, Refusal5, Refusal6, Refusal7, Refusal8, Refusal9, Refusal10];
+        *refusals.get(number as usize).unwrap_or(&Refusal11)
     }
 }
 
@@ -57,6 +69,14 @@ impl Counts {
 
     pub fn add_many(&mut self, sort: Sort, n: u64) {
         self.0[sort as usize] += n;
+    }
+
+    /// A call of another door than the layout's, and its refusal.
+    pub fn add_call(&mut self, sort: Sort, refusal: u32) {
+        self.add(sort);
+        if refusal != 0 {
+            self.add(Sort::of_refusal(refusal));
+        }
     }
 
     pub fn of(&self, sort: Sort) -> u64 {

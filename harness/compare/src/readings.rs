@@ -80,26 +80,31 @@ fn random_text(random: &mut Random) -> Vec<u8> {
 }
 
 fn compare(text: &[u8], space: usize, comparer: &mut Comparer) -> Result<(), Difference> {
-    comparer.counts.add(Sort::Readings);
-    if said(text, space).is_none() {
-        return Ok(());
+    match read(text, space) {
+        Ok(refusal) => Ok(comparer.counts.add_call(Sort::Readings, refusal)),
+        Err(said) => {
+            let few = fewest(text.to_vec(), |text| read(text, space).is_err());
+            let said = read(&few, space).err().unwrap_or(said);
+            Err(format!("reading {} into {space} numbers: {said}", shown(&few)).into())
+        }
     }
-    let few = fewest(text.to_vec(), |text| said(text, space).is_some());
-    Err(format!("reading {} into {space} numbers: {}", shown(&few), said(&few, space).unwrap()).into())
 }
 
 const MARK: u32 = 0xd7d7_d7d7;
 const GUARD: usize = 2;
 
-/// How a reading differs from the model's.
-fn said(text: &[u8], space: usize) -> Option<String> {
+/// Reads a text: the refusal, or how the reading differs from the model's.
+fn read(text: &[u8], space: usize) -> Result<u32, String> {
     let mut pieces = vec![MARK; space + GUARD];
     let answer = doors::read_pieces(text, &mut pieces[..space]);
     let (expected, mut slots) = model::read(text, space);
     slots.resize(space, if expected.refusal == 0 { MARK } else { 0 });
     slots.resize(space + GUARD, MARK);
     if answer != expected {
-        return Some(format!("the answer is {answer}, not {expected}"));
+        return Err(format!("the answer is {answer}, it must be {expected}"));
     }
-    (pieces != slots).then(|| format!("the pieces are {pieces:?}, not {slots:?}"))
+    if pieces != slots {
+        return Err(format!("the numbers are {pieces:?}, they must be {slots:?}"));
+    }
+    Ok(answer.refusal)
 }

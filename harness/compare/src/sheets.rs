@@ -22,7 +22,7 @@ pub fn run_short(step: u64) -> Result<Counts, Difference> {
         (first..sheets.min(first + TASK)).try_for_each(|n| {
             let end = short_string(n);
             compare(&[sheet::NAMES, &end].concat(), 40, 9, comparer)?;
-            compare(&[sheet::NAMES, b"T 2", &end].concat(), 32, 2, comparer)
+            compare(&[sheet::NAMES, b"T 2 ", &end].concat(), 32, 2, comparer)
         })
     })
 }
@@ -102,26 +102,28 @@ fn damage(random: &mut Random, sheet: &mut Vec<u8>) {
 }
 
 fn compare(bytes: &[u8], row_space: usize, text_space: usize, comparer: &mut Comparer) -> Result<(), Difference> {
-    comparer.counts.add(Sort::Sheets);
-    let said = |bytes: &[u8]| said(bytes, row_space, text_space);
-    if said(bytes).is_none() {
-        return Ok(());
+    let read = |bytes: &[u8]| read(bytes, row_space, text_space);
+    match read(bytes) {
+        Ok(refusal) => Ok(comparer.counts.add_call(Sort::Sheets, refusal)),
+        Err(said) => {
+            let few = fewest(bytes.to_vec(), |bytes| read(bytes).is_err());
+            let said = read(&few).err().unwrap_or(said);
+            let spaces = format!("{row_space} and {text_space} bytes");
+            Err(format!("reading the sheet {} into {spaces}: {said}", shown(&few)).into())
+        }
     }
-    let few = fewest(bytes.to_vec(), |bytes| said(bytes).is_some());
-    let spaces = format!("{row_space} and {text_space} bytes");
-    Err(format!("reading the sheet {} into {spaces}: {}", shown(&few), said(&few).unwrap()).into())
 }
 
 const MARK: u8 = 0xd7;
 const GUARD: usize = 8;
 
-/// How a reading differs from the model's.
-fn said(bytes: &[u8], row_space: usize, text_space: usize) -> Option<String> {
+/// Reads a sheet: the refusal, or how the reading differs from the model's.
+fn read(bytes: &[u8], row_space: usize, text_space: usize) -> Result<u32, String> {
     let (mut rows, mut text) = (vec![MARK; row_space + GUARD], vec![MARK; text_space + GUARD]);
     let answer = doors::read_sheet(bytes, &mut rows[..row_space], &mut text[..text_space]);
     let (expected, mut expected_rows, mut expected_text) = sheet::read(bytes, row_space, text_space);
     if answer != expected {
-        return Some(format!("the answer is {answer}, not {expected}"));
+        return Err(format!("the answer is {answer}, it must be {expected}"));
     }
     let fill = if matches!(answer.refusal, 7 | 8) { 0 } else { MARK };
     for (slice, space) in [(&mut expected_rows, row_space), (&mut expected_text, text_space)] {
@@ -129,7 +131,10 @@ fn said(bytes: &[u8], row_space: usize, text_space: usize) -> Option<String> {
         slice.resize(space + GUARD, MARK);
     }
     if rows != expected_rows {
-        return Some(format!("the rows are {rows:?}, not {expected_rows:?}"));
+        return Err(format!("the rows are {rows:?}, they must be {expected_rows:?}"));
     }
-    (text != expected_text).then(|| format!("the text is {}, not {}", shown(&text), shown(&expected_text)))
+    if text != expected_text {
+        return Err(format!("the text is {}, it must be {}", shown(&text), shown(&expected_text)));
+    }
+    Ok(answer.refusal)
 }

@@ -16,7 +16,7 @@ pub fn spaces() -> Result<Counts, Difference> {
             if answer != expected {
                 return Err(format!("needs_space({first}, {second}) is {answer}, not {expected}").into());
             }
-            counts.add(Sort::Spaces);
+            counts.add_call(Sort::Spaces, answer.refusal);
         }
     }
     Ok(counts)
@@ -39,7 +39,7 @@ pub fn reports() -> Result<Counts, Difference> {
     for size in (0..=64).filter(|&n| n != REPORT_BYTES) {
         report_of(size, "[ a , b ]", [1, 4, 40, 40], sheet::NAMES, b"a b", [22, 22])?;
         report_of(size, "l0:c;a;r0:c", [2, 17, 65_536, 0], b"T 35", b"\"", [35, 35])?;
-        counts.add_many(Sort::Reports, 10);
+        counts.add_many(Sort::Refusal11, 10);
     }
     Ok(counts)
 }
