@@ -5,7 +5,8 @@ use crate::{clock, model, rust_side, sheet};
 use std::hint::black_box;
 
 const DEFAULTS: Options = [1, 4, 40, 40];
-const WIDEST: Options = [1, 4, 65_535, 65_535];
+const NO_INDENT: Options = [1, 0, 40, 40];
+const WIDEST: Options = [1, 0, 65_535, 65_535];
 const SAME_LINE: Options = [0, 4, 40, 40];
 
 /// All tables, or those of usual inputs alone; `repeats` samples for each number, of which the best counts.
@@ -58,10 +59,16 @@ impl Input {
         let answer = doors::layout(self.options, &rows, &text, &mut out);
         assert!(answer.refusal != 0 || out == expected, "{}: the texts differ", self.name);
 
-        let per_token = |ns: f64| ns / (self.calls * read.len()) as f64;
-        let rust = per_token(best(repeats, || self.run_rust(&tokens)));
-        let ours = per_token(best(repeats, || self.run_ours(&rows, &text, &mut out)));
-        let cleared = per_token(best(repeats, || self.run_cleared(&rows, &text, &mut out)));
+        let mut cleared_out = out.clone();
+        let times = best_of_each(
+            repeats,
+            [
+                &mut || self.run_rust(&tokens),
+                &mut || self.run_ours(&rows, &text, &mut out),
+                &mut || self.run_cleared(&rows, &text, &mut cleared_out),
+            ],
+        );
+        let [rust, ours, cleared] = times.map(|ns| ns / (self.calls * read.len()) as f64);
         let note = if answer.refusal == 0 { String::new() } else { format!(" (refusal {})", answer.refusal) };
         println!(
             "| {}{note} | {:?} | {} | {} | {} | {rust:.1} | {ours:.1} | {cleared:.1} | {:.2} |",
@@ -80,10 +87,16 @@ impl Input {
         led.extend_from_slice(&self.rows[..self.rows.len().min(MOST_ROWS - 1)]);
         let (packed, packed_led) = (pack(&self.rows), pack(&led));
         let mut out = vec![0; 64 * self.rows.len()];
-        let per_token = |ns: f64| ns / (self.calls * self.rows.len()) as f64;
-        let whole = per_token(best(repeats, || self.run_ours(&packed.rows, &packed.text, &mut out)));
-        let checks = per_token(best(repeats, || self.run_ours(&packed.rows, &packed.text, &mut [])));
-        let unmarked = per_token(best(repeats, || self.run_ours(&packed_led.rows, &packed_led.text, &mut out)));
+        let mut led_out = out.clone();
+        let times = best_of_each(
+            repeats,
+            [
+                &mut || self.run_ours(&packed.rows, &packed.text, &mut out),
+                &mut || self.run_ours(&packed.rows, &packed.text, &mut []),
+                &mut || self.run_ours(&packed_led.rows, &packed_led.text, &mut led_out),
+            ],
+        );
+        let [whole, checks, unmarked] = times.map(|ns| ns / (self.calls * self.rows.len()) as f64);
         println!("| {} | {checks:.1} | {:.1} | {:.1} |", self.name, unmarked - checks, whole - unmarked);
     }
 
@@ -107,14 +120,17 @@ impl Input {
     }
 }
 
-/// The nanoseconds of the fastest sample.
-fn best(repeats: usize, mut sample: impl FnMut()) -> f64 {
-    let once = |_| {
-        let start = clock::nanoseconds();
-        sample();
-        (clock::nanoseconds() - start) as f64
-    };
-    (0..repeats).map(once).fold(f64::INFINITY, f64::min)
+/// The nanoseconds of the fastest sample of each. They take turns, so that what else the machine does touches all alike.
+fn best_of_each<const N: usize>(repeats: usize, mut samples: [&mut dyn FnMut(); N]) -> [f64; N] {
+    let mut best = [f64::INFINITY; N];
+    for _ in 0..repeats {
+        for (sample, best) in samples.iter_mut().zip(&mut best) {
+            let start = clock::nanoseconds();
+            sample();
+            *best = best.min((clock::nanoseconds() - start) as f64);
+        }
+    }
+    best
 }
 
 // ---- inputs
@@ -159,7 +175,7 @@ fn hostile_inputs() -> Vec<Input> {
         ("`(` nested and closed", DEFAULTS, |n| nested("(", ")", n)),
         ("`[` nested and closed", DEFAULTS, |n| nested("[", "]", n)),
         ("`{` nested and closed", SAME_LINE, |n| nested("{", "}", n)),
-        ("`[ ,`", DEFAULTS, |n| repeated("[ ,", n)),
+        ("`[ ,`", NO_INDENT, |n| repeated("[ ,", n)),
         ("`[ ,`", WIDEST, |n| repeated("[ ,", n)),
         ("`fn (`", DEFAULTS, |n| repeated("fn (", n)),
     ];
@@ -192,19 +208,29 @@ fn measure_readers(repeats: usize) {
 
 fn measure_reading(name: &str, text: &[u8], repeats: usize) {
     let mut pieces = vec![0; 2 * text.len()];
-    let rust = best(repeats, || _ = black_box(model::read(black_box(text), usize::MAX)));
-    let ours = best(repeats, || _ = black_box(doors::read_pieces(black_box(text), &mut pieces)));
-    print_speed("`rl_read_pieces`", name, text.len(), rust, ours);
+    let times = best_of_each(
+        repeats,
+        [
+            &mut || _ = black_box(model::read(black_box(text), usize::MAX)),
+            &mut || _ = black_box(doors::read_pieces(black_box(text), &mut pieces)),
+        ],
+    );
+    print_speed("`rl_read_pieces`", name, text.len(), times);
 }
 
 fn measure_sheet(name: &str, sheet: &[u8], repeats: usize) {
     let (mut rows, mut text) = (vec![0; sheet.len() * 4], vec![0; sheet.len()]);
-    let rust = best(repeats, || _ = black_box(sheet::read(black_box(sheet), usize::MAX, usize::MAX)));
-    let ours = best(repeats, || _ = black_box(doors::read_sheet(black_box(sheet), &mut rows, &mut text)));
-    print_speed("`rl_read_sheet`", name, sheet.len(), rust, ours);
+    let times = best_of_each(
+        repeats,
+        [
+            &mut || _ = black_box(sheet::read(black_box(sheet), usize::MAX, usize::MAX)),
+            &mut || _ = black_box(doors::read_sheet(black_box(sheet), &mut rows, &mut text)),
+        ],
+    );
+    print_speed("`rl_read_sheet`", name, sheet.len(), times);
 }
 
-fn print_speed(call: &str, name: &str, bytes: usize, rust: f64, ours: f64) {
-    let speed = |ns: f64| bytes as f64 * 1000.0 / ns;
-    println!("| {call} | {name} | {bytes} | {:.0} | {:.0} | {:.2} |", speed(rust), speed(ours), speed(ours) / speed(rust));
+fn print_speed(call: &str, name: &str, bytes: usize, times: [f64; 2]) {
+    let [rust, ours] = times.map(|ns| bytes as f64 * 1000.0 / ns);
+    println!("| {call} | {name} | {bytes} | {rust:.0} | {ours:.0} | {:.2} |", ours / rust);
 }
