@@ -207,11 +207,14 @@ fn measure_readers(repeats: usize) {
 }
 
 fn measure_reading(name: &str, text: &[u8], repeats: usize) {
-    let mut pieces = vec![0; 2 * text.len()];
+    let (mut pieces, mut vec) = (vec![0; 2 * text.len()], Vec::new());
     let times = best_of_each(
         repeats,
         [
-            &mut || _ = black_box(model::read(black_box(text), usize::MAX)),
+            &mut || {
+                vec.clear();
+                black_box(model::read_into(black_box(text), usize::MAX, &mut vec));
+            },
             &mut || _ = black_box(doors::read_pieces(black_box(text), &mut pieces)),
         ],
     );
@@ -220,10 +223,14 @@ fn measure_reading(name: &str, text: &[u8], repeats: usize) {
 
 fn measure_sheet(name: &str, sheet: &[u8], repeats: usize) {
     let (mut rows, mut text) = (vec![0; sheet.len() * 4], vec![0; sheet.len()]);
+    let (mut row_vec, mut text_vec) = (Vec::new(), Vec::new());
     let times = best_of_each(
         repeats,
         [
-            &mut || _ = black_box(sheet::read(black_box(sheet), usize::MAX, usize::MAX)),
+            &mut || {
+                (row_vec.clear(), text_vec.clear());
+                black_box(sheet::read_into(black_box(sheet), [usize::MAX; 2], &mut row_vec, &mut text_vec));
+            },
             &mut || _ = black_box(doors::read_sheet(black_box(sheet), &mut rows, &mut text)),
         ],
     );

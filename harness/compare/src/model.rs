@@ -124,6 +124,15 @@ fn number_end(text: &[u8], start: usize) -> usize {
 /// What reading a text into so much space answers, and on success the pieces' starts and ends in turn.
 pub fn read(text: &[u8], space: usize) -> (Answer, Vec<u32>) {
     let mut pieces = Vec::new();
+    let answer = read_into(text, space, &mut pieces);
+    if answer.refusal != 0 {
+        pieces.clear();
+    }
+    (answer, pieces)
+}
+
+/// The same, into an empty `Vec`.
+pub fn read_into(text: &[u8], space: usize, pieces: &mut Vec<u32>) -> Answer {
     let mut i = 0;
     while i < text.len() {
         if class(text[i]) == Class::Gap {
@@ -131,15 +140,15 @@ pub fn read(text: &[u8], space: usize) -> (Answer, Vec<u32>) {
             continue;
         }
         let Some(end) = piece_end(text, i) else {
-            return (refuse(9, i), Vec::new());
+            return refuse(9, i);
         };
         if pieces.len() + 2 > space || end > u32::MAX as usize {
-            return (refuse(10, i), Vec::new());
+            return refuse(10, i);
         }
         pieces.extend([i as u32, end as u32]);
         i = end;
     }
-    (success(pieces.len() as u64 / 2, 0, 0), pieces)
+    success(pieces.len() as u64 / 2, 0, 0)
 }
 
 // ---- the plain mark

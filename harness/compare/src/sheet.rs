@@ -24,22 +24,31 @@ pub fn write(rows: &[Row]) -> Vec<u8> {
 
 /// What reading a sheet into so much space answers, and on success the bytes that stand first in each slice.
 pub fn read(sheet: &[u8], row_space: usize, text_space: usize) -> (Answer, Vec<u8>, Vec<u8>) {
-    let refused = |number, line| (refuse(number, line), Vec::new(), Vec::new());
-    let Some(lines) = sheet.strip_prefix(NAMES) else {
-        return refused(6, 0);
-    };
     let (mut rows, mut text) = (Vec::new(), Vec::new());
+    let answer = read_into(sheet, [row_space, text_space], &mut rows, &mut text);
+    if answer.refusal != 0 {
+        rows.clear();
+        text.clear();
+    }
+    (answer, rows, text)
+}
+
+/// The same, into an empty `Vec` each.
+pub fn read_into(sheet: &[u8], spaces: [usize; 2], rows: &mut Vec<u8>, text: &mut Vec<u8>) -> Answer {
+    let Some(lines) = sheet.strip_prefix(NAMES) else {
+        return refuse(6, 0);
+    };
     for (number, line) in lines.split_inclusive(|&b| b == b'\n').enumerate() {
         let start = text.len();
-        let Some((what, kind)) = read_line(line, &mut text) else {
-            return refused(7, number + 1);
+        let Some((what, kind)) = read_line(line, text) else {
+            return refuse(7, number + 1);
         };
-        if rows.len() + 16 > row_space || text.len() > text_space || text.len() > u32::MAX as usize {
-            return refused(8, number + 1);
+        if rows.len() + 16 > spaces[0] || text.len() > spaces[1] || text.len() > u32::MAX as usize {
+            return refuse(8, number + 1);
         }
-        push_row(&mut rows, [what, kind, start as u32, text.len() as u32]);
+        push_row(rows, [what, kind, start as u32, text.len() as u32]);
     }
-    (success(rows.len() as u64 / 16, text.len() as u64, 0), rows, text)
+    success(rows.len() as u64 / 16, text.len() as u64, 0)
 }
 
 /// A line's what and kind, with its text put behind the others; none where it breaks its form.
