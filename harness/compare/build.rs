@@ -5,7 +5,8 @@ use std::{env, fs, path::PathBuf};
 fn main() {
     let format = given_or("FORMAT_RS", "../../../shared/docs/src/crates/rl-tooling/src/format.rs");
     let target = PathBuf::from(env::var("OUT_DIR").unwrap()).join("format.rs");
-    fs::copy(&format, target).unwrap_or_else(|e| panic!("format.rs at {}: {e}; name it in FORMAT_RS", format.display()));
+    fs::copy(&format, target)
+        .unwrap_or_else(|e| panic!("format.rs at {}: {e}; name it in FORMAT_RS", format.display()));
 
     let doors = given_or("LIBDOORS", "../../target/staticlib/libdoors.a");
     assert!(doors.exists(), "no {}; `rt staticlib doors` makes it, or name it in LIBDOORS", doors.display());

@@ -12,7 +12,9 @@ const SAME_LINE: Options = [0, 4, 40, 40];
 /// All tables, or those of usual inputs alone; `repeats` samples for each number, of which the best counts.
 pub fn run(repeats: usize, hostile: bool) {
     println!("## Layout\n\nNanoseconds of processor time a token, best of {repeats} samples; a hostile list once.\n");
-    println!("| input | options | rows | tokens | text bytes | Rust | ours | ours, output cleared first | ours / Rust |");
+    println!(
+        "| input | options | rows | tokens | text bytes | Rust | ours | ours, output cleared first | ours / Rust |"
+    );
     println!("|---|---|---|---|---|---|---|---|---|");
     for input in usual_inputs() {
         input.measure(repeats);
@@ -60,14 +62,10 @@ impl Input {
         assert!(answer.refusal != 0 || out == expected, "{}: the texts differ", self.name);
 
         let mut cleared_out = out.clone();
-        let times = best_of_each(
-            repeats,
-            [
-                &mut || self.run_rust(&tokens),
-                &mut || self.run_ours(&rows, &text, &mut out),
-                &mut || self.run_cleared(&rows, &text, &mut cleared_out),
-            ],
-        );
+        let mut rust = || self.run_rust(&tokens);
+        let mut ours = || self.run_ours(&rows, &text, &mut out);
+        let mut cleared = || self.run_cleared(&rows, &text, &mut cleared_out);
+        let times = best_of_each(repeats, [&mut rust, &mut ours, &mut cleared]);
         let [rust, ours, cleared] = times.map(|ns| ns / (self.calls * read.len()) as f64);
         let note = if answer.refusal == 0 { String::new() } else { format!(" (refusal {})", answer.refusal) };
         println!(
@@ -88,14 +86,10 @@ impl Input {
         let (packed, packed_led) = (pack(&self.rows), pack(&led));
         let mut out = vec![0; 64 * self.rows.len()];
         let mut led_out = out.clone();
-        let times = best_of_each(
-            repeats,
-            [
-                &mut || self.run_ours(&packed.rows, &packed.text, &mut out),
-                &mut || self.run_ours(&packed.rows, &packed.text, &mut []),
-                &mut || self.run_ours(&packed_led.rows, &packed_led.text, &mut led_out),
-            ],
-        );
+        let mut whole = || self.run_ours(&packed.rows, &packed.text, &mut out);
+        let mut checks = || self.run_ours(&packed.rows, &packed.text, &mut []);
+        let mut unmarked = || self.run_ours(&packed_led.rows, &packed_led.text, &mut led_out);
+        let times = best_of_each(repeats, [&mut whole, &mut checks, &mut unmarked]);
         let [whole, checks, unmarked] = times.map(|ns| ns / (self.calls * self.rows.len()) as f64);
         println!("| {} | {checks:.1} | {:.1} | {:.1} |", self.name, unmarked - checks, whole - unmarked);
     }
@@ -144,9 +138,12 @@ const TYPICAL: &str = "record Beacon { orbits : int , kept : bool , name : strin
     call ( alpha , beta , gamma , delta , epsilon , zeta , eta ) NL \
     34:for x 34:in 1 .. y { 34:if ! x { std :: halt ( null ) } } NL } NL NL";
 
+const LONG_NAMES: &str = "fourteen_bytes fourteen_bytes fourteen_bytes fourteen_bytes fourteen_bytes ,";
+
 const SMALL: &str = "fn add ( a : int , b : int ) 34:-> int NL { NL 34:return add ( a , b , 1 ) 34:+ b NL } NL";
 
-const WIDE: &str = "34:let rows 34:= [ [ alpha , beta , gamma , delta ] , call ( epsilon , zeta , eta , theta , iota ) , \
+const WIDE: &str =
+    "34:let rows 34:= [ [ alpha , beta , gamma , delta ] , call ( epsilon , zeta , eta , theta , iota ) , \
     [ [ kappa , lambda , mu ] , [ nu , xi , omicron ] , [ pi , rho , sigma ] , [ tau , upsilon , phi ] ] ] NL";
 
 const COMMENTED: &str = "l0:a_line_of_comment;record Beacon { NL l1:what_it_counts;orbits : int , NL \
@@ -156,7 +153,7 @@ const COMMENTED: &str = "l0:a_line_of_comment;record Beacon { NL l1:what_it_coun
 fn usual_inputs() -> Vec<Input> {
     vec![
         Input::new("`a a a a a ,`", DEFAULTS, repeated("a a a a a ,", MOST_ROWS)),
-        Input::new("names of 14 bytes, commas", DEFAULTS, repeated("n n n n n ,".replace('n', "fourteen_bytes").as_str(), MOST_ROWS)),
+        Input::new("names of 14 bytes, commas", DEFAULTS, repeated(LONG_NAMES, MOST_ROWS)),
         Input::new("functions, records, calls", DEFAULTS, repeated(TYPICAL, MOST_ROWS)),
         Input::new("the same, SameLine", SAME_LINE, repeated(TYPICAL, MOST_ROWS)),
         Input::new("a small list", DEFAULTS, list(SMALL)),
@@ -207,33 +204,26 @@ fn measure_readers(repeats: usize) {
 }
 
 fn measure_reading(name: &str, text: &[u8], repeats: usize) {
-    let (mut pieces, mut vec) = (vec![0; 2 * text.len()], Vec::new());
-    let times = best_of_each(
-        repeats,
-        [
-            &mut || {
-                vec.clear();
-                black_box(model::read_into(black_box(text), usize::MAX, &mut vec));
-            },
-            &mut || _ = black_box(doors::read_pieces(black_box(text), &mut pieces)),
-        ],
-    );
+    let (mut pieces, mut kept) = (vec![0; 2 * text.len()], Vec::new());
+    let mut rust = || {
+        kept.clear();
+        black_box(model::read_into(black_box(text), usize::MAX, &mut kept));
+    };
+    let mut ours = || _ = black_box(doors::read_pieces(black_box(text), &mut pieces));
+    let times = best_of_each(repeats, [&mut rust, &mut ours]);
     print_speed("`rl_read_pieces`", name, text.len(), times);
 }
 
 fn measure_sheet(name: &str, sheet: &[u8], repeats: usize) {
     let (mut rows, mut text) = (vec![0; sheet.len() * 4], vec![0; sheet.len()]);
-    let (mut row_vec, mut text_vec) = (Vec::new(), Vec::new());
-    let times = best_of_each(
-        repeats,
-        [
-            &mut || {
-                (row_vec.clear(), text_vec.clear());
-                black_box(sheet::read_into(black_box(sheet), [usize::MAX; 2], &mut row_vec, &mut text_vec));
-            },
-            &mut || _ = black_box(doors::read_sheet(black_box(sheet), &mut rows, &mut text)),
-        ],
-    );
+    let (mut kept_rows, mut kept_text) = (Vec::new(), Vec::new());
+    let mut rust = || {
+        kept_rows.clear();
+        kept_text.clear();
+        black_box(sheet::read_into(black_box(sheet), [usize::MAX; 2], &mut kept_rows, &mut kept_text));
+    };
+    let mut ours = || _ = black_box(doors::read_sheet(black_box(sheet), &mut rows, &mut text));
+    let times = best_of_each(repeats, [&mut rust, &mut ours]);
     print_speed("`rl_read_sheet`", name, sheet.len(), times);
 }
 

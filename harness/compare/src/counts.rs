@@ -54,7 +54,8 @@ impl Sort {
     /// Of a layout's text, or of a refusal.
     pub fn of_refusal(number: u32) -> Sort {
         use Sort::*;
-        let refusals = [Text, Refusal1, Refusal2, Refusal3, Refusal4, Refusal5, Refusal6, Refusal7, Refusal8, Refusal9, Refusal10];
+        let refusals =
+            [Text, Refusal1, Refusal2, Refusal3, Refusal4, Refusal5, Refusal6, Refusal7, Refusal8, Refusal9, Refusal10];
         *refusals.get(number as usize).unwrap_or(&Refusal11)
     }
 }

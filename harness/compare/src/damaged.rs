@@ -1,7 +1,7 @@
 //! Options and rows that are refused, or nearly: refusals 1, 2 and 3.
 use crate::counts::Counts;
-use crate::doors::Options;
 use crate::difference::Difference;
+use crate::doors::Options;
 use crate::layouts::{Comparer, Rooms};
 use crate::lists::{list, pack, Packed, Row, MOST_ROWS, ROW_BYTES};
 use crate::long::some_options;
@@ -66,7 +66,8 @@ fn set_number(random: &mut Random, rows: &mut [u8], size: u32) {
     if rows.len() < 4 {
         return;
     }
-    let bounds = [0, 1, 2, 3, 4, 5, 33, 34, 35, 36, 256, 1 << 24, 1 << 31, u32::MAX, size, size + 1, size.saturating_sub(1)];
+    let bounds =
+        [0, 1, 2, 3, 4, 5, 33, 34, 35, 36, 256, 1 << 24, 1 << 31, u32::MAX, size, size + 1, size.saturating_sub(1)];
     let at = 4 * random.below(rows.len() / 4);
     rows[at..at + 4].copy_from_slice(&random.of(&bounds).to_le_bytes());
 }
@@ -108,7 +109,16 @@ pub fn at_the_width_bounds() -> Result<Counts, Difference> {
 }
 
 fn compare_width(width: u32, length: usize, comparer: &mut Comparer) -> Result<(), Difference> {
-    for words in ["[ X , a ]", "( X , a )", "g ( X , a )", "fn f ( X )", "fn ( X , a )", "fn f ( X , [ a , a ] )", "[ X a ]", "[ a , NL X ] NL"] {
+    for words in [
+        "[ X , a ]",
+        "( X , a )",
+        "g ( X , a )",
+        "fn f ( X )",
+        "fn ( X , a )",
+        "fn f ( X , [ a , a ] )",
+        "[ X a ]",
+        "[ a , NL X ] NL",
+    ] {
         let mut rows = list(words);
         for row in rows.iter_mut().filter(|r| r.bytes == b"X") {
             row.bytes = vec![b'x'; length];

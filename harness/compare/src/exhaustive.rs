@@ -1,9 +1,9 @@
 //! Every short list over several alphabets.
 use crate::counts::Counts;
 use crate::demand3::Texts;
-use crate::doors::Options;
 use crate::difference::Difference;
-use crate::layouts::{Comparer, Rooms};
+use crate::doors::Options;
+use crate::layouts::Rooms;
 use crate::lists::{push_row, symbols, Row};
 use crate::threads::in_parallel;
 
@@ -101,25 +101,21 @@ pub const SECTIONS: [Section; 12] = [
 /// How many lists a task has.
 const TASK: u64 = 4096;
 
-impl Section {
-    /// Compares one in `step` of the tasks.
-    pub fn run(&self, step: u64, texts: &Texts) -> Result<Counts, Difference> {
-        let alphabet = Alphabet::new(self.words);
-        let lists = alphabet.lists(self.longest);
-        let number = SECTIONS.iter().position(|s| s.name == self.name).unwrap() as u64;
-        in_parallel(lists.div_ceil(TASK).div_ceil(step), Some(texts), |task, comparer| {
-            let first = task * step * TASK;
-            (first..lists.min(first + TASK)).try_for_each(|n| self.compare(&alphabet, number << 40 | n, n, comparer))
+/// Compares one in `step` of a section's tasks.
+pub fn run(number: usize, step: u64, texts: &Texts) -> Result<Counts, Difference> {
+    let section = &SECTIONS[number];
+    let alphabet = Alphabet::new(section.words);
+    let lists = alphabet.lists(section.longest);
+    in_parallel(lists.div_ceil(TASK).div_ceil(step), Some(texts), |task, comparer| {
+        let first = task * step * TASK;
+        (first..lists.min(first + TASK)).try_for_each(|n| {
+            let id = (number as u64) << 40 | n;
+            comparer.compare(&alphabet.rows(n), &alphabet.text, section.options, Rooms::Two(n), id)
         })
-    }
-
-    fn compare(&self, alphabet: &Alphabet, id: u64, n: u64, comparer: &mut Comparer) -> Result<(), Difference> {
-        let rows = alphabet.rows(n);
-        comparer.compare(&rows, &alphabet.text, self.options, Rooms::Two(n), id)
-    }
+    })
 }
 
-/// The words of the list that an id names, and its options.
+/// The rows, the text and the options of the list that an id names: section, number and options.
 pub fn named(id: u64) -> (Vec<u8>, Vec<u8>, Options) {
     let section = &SECTIONS[(id >> 48) as usize];
     let alphabet = Alphabet::new(section.words);

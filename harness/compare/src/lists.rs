@@ -21,8 +21,8 @@ pub const MOST_ROWS: usize = 65_535;
 
 /// A usual lexeme for each kind.
 pub const USUAL: [&str; 35] = [
-    "", "\n", "{", "}", "(", ")", "[", "]", ",", ":", ";", "?", ".", "..", "::", "#", "!", "!#", "-", "else", "fn", "record",
-    "a", "1", "b1", "\"s\"", "'c'", "2.5", "true", "null", "arr", "map", "set", "result", "=",
+    "", "\n", "{", "}", "(", ")", "[", "]", ",", ":", ";", "?", ".", "..", "::", "#", "!", "!#", "-", "else", "fn",
+    "record", "a", "1", "b1", "\"s\"", "'c'", "2.5", "true", "null", "arr", "map", "set", "result", "=",
 ];
 
 pub const IDENTIFIER: u32 = 22;
@@ -95,8 +95,7 @@ pub fn written(rows: &[u8], text: &[u8]) -> String {
 }
 
 fn word(row: &[u8], text: &[u8]) -> String {
-    let numbers: Vec<usize> =
-        row.chunks_exact(4).map(|n| u32::from_le_bytes(n.try_into().unwrap()) as usize).collect();
+    let numbers: Vec<usize> = row.chunks_exact(4).map(|n| u32::from_le_bytes(n.try_into().unwrap()) as usize).collect();
     let bytes = match numbers[..] {
         [_, _, start, end] => text.get(start..end),
         _ => None,

@@ -1,7 +1,7 @@
 //! Random lists: uniform over kinds, source-like with faults, and deep nests.
 use crate::counts::Counts;
-use crate::doors::Options;
 use crate::difference::Difference;
+use crate::doors::Options;
 use crate::layouts::{Comparer, Rooms};
 use crate::lists::{list, pack, pack_shared, Packed, Row, IDENTIFIER, LEADING, TOKEN, TRAILING, USUAL};
 use crate::random::Random;
@@ -62,10 +62,30 @@ pub fn some_options(random: &mut Random) -> Options {
 
 /// Lexemes that no lexer sends for a kind.
 const HOSTILE: [&str; 20] = [
-    "", "{", "}", "]", ",", ",,", "a b", "// c", "1.", ".5", "'", "\"", "\"\\", "\n", "\n\n", "\\", "\u{e9}", "\u{1f6f0}", "\t", "\u{0}",
+    "",
+    "{",
+    "}",
+    "]",
+    ",",
+    ",,",
+    "a b",
+    "// c",
+    "1.",
+    ".5",
+    "'",
+    "\"",
+    "\"\\",
+    "\n",
+    "\n\n",
+    "\\",
+    "\u{e9}",
+    "\u{1f6f0}",
+    "\t",
+    "\u{0}",
 ];
 
-const NAMES: [&str; 6] = ["a", "b2", "_", "orbits", "a_name_of_some_length", "another_name_that_is_longer_than_forty_bytes"];
+const NAMES: [&str; 6] =
+    ["a", "b2", "_", "orbits", "a_name_of_some_length", "another_name_that_is_longer_than_forty_bytes"];
 
 const COMMENTS: [&str; 5] = ["", "c", "two words", "a, b", "\n"];
 

@@ -20,6 +20,7 @@ mod sheets;
 mod shrink;
 mod small;
 mod sources;
+mod strings;
 mod threads;
 
 use counts::{Counts, Sort};
@@ -54,8 +55,8 @@ fn fail(said: &str) -> ! {
 fn compare(step: u64) {
     let mut run = Run { start: Instant::now(), total: Counts::default() };
     let texts = demand3::Texts::new();
-    for section in &exhaustive::SECTIONS {
-        run.section(&format!("every short list: {}", section.name), || section.run(step, &texts));
+    for (number, section) in exhaustive::SECTIONS.iter().enumerate() {
+        run.section(&format!("every short list: {}", section.name), || exhaustive::run(number, step, &texts));
     }
     drop(texts);
     for shape in &long::SHAPES {

@@ -6,6 +6,7 @@ use crate::layouts::Comparer;
 use crate::model;
 use crate::random::Random;
 use crate::shrink::fewest;
+use crate::strings;
 use crate::threads::in_parallel;
 
 /// Bytes of every class, and those that a rule names.
@@ -16,28 +17,15 @@ const TASK: u64 = 1000;
 
 /// All short texts over `BYTES`; compares one in `step` tasks.
 pub fn run_short(step: u64) -> Result<Counts, Difference> {
-    let size = BYTES.len() as u64;
-    let texts: u64 = (0..=LONGEST).map(|n| size.pow(n)).sum();
+    let texts = strings::up_to(BYTES, LONGEST);
     in_parallel(texts.div_ceil(TASK).div_ceil(step), None, |task, comparer| {
         let first = task * step * TASK;
         (first..texts.min(first + TASK)).try_for_each(|n| {
-            let text = short_text(n);
+            let text = strings::numbered(BYTES, n);
             compare(&text, 2 * text.len(), comparer)?;
             compare(&text, (n % 8) as usize, comparer)
         })
     })
-}
-
-fn short_text(number: u64) -> Vec<u8> {
-    let size = BYTES.len() as u64;
-    let mut n = number;
-    let mut text = Vec::new();
-    while n > 0 {
-        n -= 1;
-        text.push(BYTES[(n % size) as usize]);
-        n /= size;
-    }
-    text
 }
 
 /// All texts of two bytes, alone and between others.

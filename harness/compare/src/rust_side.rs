@@ -64,9 +64,9 @@ impl Tokens {
 
 pub fn tokens(read: &[Read]) -> Tokens {
     let is_utf8 = |&(_, bytes): &(u32, &[u8])| std::str::from_utf8(bytes).is_ok();
-    let stand_in = !read.iter().all(|t| {
-        is_utf8(&(t.kind, t.lexeme)) && t.leading.iter().all(is_utf8) && t.trailing.iter().all(is_utf8)
-    });
+    let stand_in = !read
+        .iter()
+        .all(|t| is_utf8(&(t.kind, t.lexeme)) && t.leading.iter().all(is_utf8) && t.trailing.iter().all(is_utf8));
     let string = |bytes: &[u8]| string(bytes, stand_in);
     let side = |rows: &[(u32, &[u8])]| rows.iter().map(|&(k, bytes)| trivia(k, string(bytes))).collect();
     let token = |t: &Read| Token {

@@ -7,6 +7,7 @@ use crate::lists::{Row, USUAL};
 use crate::random::Random;
 use crate::sheet;
 use crate::shrink::fewest;
+use crate::strings;
 use crate::threads::in_parallel;
 
 const BYTES: &[u8] = b"TR 013\n\\nx";
@@ -16,27 +17,15 @@ const TASK: u64 = 1000;
 
 /// All short strings over `BYTES` behind the names line, and behind a line's beginning; one in `step` tasks.
 pub fn run_short(step: u64) -> Result<Counts, Difference> {
-    let sheets = (BYTES.len() as u64).pow(LONGEST);
+    let sheets = strings::up_to(BYTES, LONGEST);
     in_parallel(sheets.div_ceil(TASK).div_ceil(step), None, |task, comparer| {
         let first = task * step * TASK;
         (first..sheets.min(first + TASK)).try_for_each(|n| {
-            let end = short_string(n);
+            let end = strings::numbered(BYTES, n);
             compare(&[sheet::NAMES, &end].concat(), 40, 9, comparer)?;
             compare(&[sheet::NAMES, b"T 2 ", &end].concat(), 32, 2, comparer)
         })
     })
-}
-
-fn short_string(number: u64) -> Vec<u8> {
-    let size = BYTES.len() as u64;
-    let mut n = number;
-    let mut string = Vec::new();
-    while n > 0 {
-        n -= 1;
-        string.push(BYTES[(n % size) as usize]);
-        n /= size;
-    }
-    string
 }
 
 /// A sheet with each byte put in at each place, or in its place, or left out; and each kind on each sort of line.
@@ -49,9 +38,9 @@ pub fn run_bytes() -> Result<Counts, Difference> {
             compare(&[before, &[byte as u8], &behind[1..]].concat(), 48, 9, comparer)?;
             compare(&[before, &behind[1..]].concat(), 48, 9, comparer)
         })?;
-        ["L", "T", "R", "L 0", "T 0"].iter().try_for_each(|head| {
-            compare(format!("what kind text\n{head} {byte} x\n").as_bytes(), 16, 1, comparer)
-        })
+        ["L", "T", "R", "L 0", "T 0"]
+            .iter()
+            .try_for_each(|head| compare(format!("what kind text\n{head} {byte} x\n").as_bytes(), 16, 1, comparer))
     })
 }
 

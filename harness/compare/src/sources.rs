@@ -8,12 +8,41 @@ use crate::random::Random;
 use crate::threads::in_parallel;
 
 const SOURCES: [&[u8]; 20] = [
-    b"", b"\n", b"#", b"#!", b"#!\n", b"#!\nfn", b"#![", b"#![x]\n", b"#!/bin/rl", b"#!/bin/rl\nfn f()\n#!x\n", b" #!a\n", b"\n#!a\n",
-    b"#!a\r\nb", b"#! [x]\n", b"#!#![\n", b"!#a\n", b"#a!\n", b"#!\xc3\xa9\n", b"#!\xff\x00\n", b"##!a",
+    b"",
+    b"\n",
+    b"#",
+    b"#!",
+    b"#!\n",
+    b"#!\nfn",
+    b"#![",
+    b"#![x]\n",
+    b"#!/bin/rl",
+    b"#!/bin/rl\nfn f()\n#!x\n",
+    b" #!a\n",
+    b"\n#!a\n",
+    b"#!a\r\nb",
+    b"#! [x]\n",
+    b"#!#![\n",
+    b"!#a\n",
+    b"#a!\n",
+    b"#!\xc3\xa9\n",
+    b"#!\xff\x00\n",
+    b"##!a",
 ];
 
 const LISTS: [&str; 12] = [
-    "", "a", "NL", "NL NL a", "EOF", "a NL NL NL NL b", "record E { }", "l0:c;NL l0:d;a", "l3:;a", "[ a , b ]", "{ NL } else", "l0:c;NL;r9: a",
+    "",
+    "a",
+    "NL",
+    "NL NL a",
+    "EOF",
+    "a NL NL NL NL b",
+    "record E { }",
+    "l0:c;NL l0:d;a",
+    "l3:;a",
+    "[ a , b ]",
+    "{ NL } else",
+    "l0:c;NL;r9: a",
 ];
 
 const RANDOM: u64 = 20_000;
