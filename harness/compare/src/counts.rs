@@ -23,9 +23,10 @@ pub enum Sort {
     Plain,
     ReadBack,
     SeenAgain,
+    Bindings,
 }
 
-const SORTS: [&str; 22] = [
+const SORTS: [&str; 23] = [
     "lists",
     "layouts",
     "layouts with a source",
@@ -48,6 +49,7 @@ const SORTS: [&str; 22] = [
     "plain layouts",
     "plain layouts read back",
     "texts of plain layouts seen before",
+    "calls of the Rust crate",
 ];
 
 impl Sort {

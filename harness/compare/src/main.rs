@@ -1,5 +1,6 @@
 //! The Rust formatter and the doors side by side: harness/README.md tells how to run it.
 mod bench;
+mod bindings;
 mod clock;
 mod counts;
 mod damaged;
@@ -75,6 +76,7 @@ fn compare(step: u64) {
     run.section("sheets: random and damaged", || sheets::run_random(step));
     run.section("spaces: every pair of kinds", small::spaces);
     run.section("reports of a wrong size", small::reports);
+    run.section("the Rust crate over the doors", || bindings::run(step));
     println!("\nno difference in {:.0} s: {}", run.start.elapsed().as_secs_f64(), run.total);
     println!("{} layouts compared", run.total.of(Sort::Layouts));
 }
