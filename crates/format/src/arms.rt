@@ -14,9 +14,9 @@ use crate::formatter::TokenAt;
 use crate::formatter::less;
 use crate::formatter::less32;
 use crate::formatter::token_gap;
+use crate::write::emit_token_text;
 use crate::write::write_byte;
 use crate::write::write_comma;
-use crate::write::write_spaced;
 use lookahead::block_is_single_line;
 use lookahead::next_has_comment;
 use lookahead::should_break_list;
@@ -246,7 +246,7 @@ impl Formatter {
             self = self.empty_record(out, text, token);
         } else {
             if self.opens_block(rows, token) {
-                self = self.open_block(out, token.index);
+                self = self.open_block_multiline(out, token.index);
             } else {
                 self = self.open_one_line(out);
             }
@@ -300,7 +300,7 @@ impl Formatter {
             self.prev_kind(),
             kinds::LEFT_BRACE,
         );
-        let written = write_spaced(out, self.len, gap, text, start, end);
+        let written = emit_token_text(out, self.len, gap, text, start, end);
         let opened = write_byte(out, written, b'{');
         let closed = write_byte(out, opened, b'}');
         let brace = Before {
@@ -376,7 +376,7 @@ impl Formatter {
     }
 
     // The record that it opens or goes deeper in, `open_block_multiline`, and the last kind.
-    fn open_block(mut self, out: &mut [u8], index: u32) -> Self
+    fn open_block_multiline(mut self, out: &mut [u8], index: u32) -> Self
         requires { ⌜ Roomy self ⌝ }
         requires { ⌜ index < 4294967295 ⌝ }
         ensures { λ r. ⌜ ((s : List ℕ) → Does (λ o. update recordEntered ⨾ openBlock o index) (on self s (now (out .entry))) (on r s (now (out .exit)))) ⌝ }
@@ -624,7 +624,7 @@ impl Formatter {
             self.prev_kind(),
             kind,
         );
-        let written = write_spaced(out, self.len, gap, text, start, end);
+        let written = emit_token_text(out, self.len, gap, text, start, end);
         let fed = write_byte(out, written, b'\n');
         let count = self.break_count;
         let group = self.group_depth;

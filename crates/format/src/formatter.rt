@@ -1,7 +1,7 @@
 // The formatter's state, under the names of format.rs. It goes in and comes back by value; the output and the
 // broken-group stack are lent beside it, so that no array is copied.
+use crate::write::emit_token_text;
 use crate::write::write_byte;
-use crate::write::write_spaced;
 use crate::write::write_spaces;
 use lookahead::is_value_kind;
 use lookahead::space_between;
@@ -274,7 +274,7 @@ impl Formatter {
             self.prev_kind(),
             kind,
         );
-        let len = write_spaced(out, self.len, gap, text, start, end);
+        let len = emit_token_text(out, self.len, gap, text, start, end);
         let unary = self.minus_is_unary_after(kind);
         let prev = Before {
             kind: Prev::Kind(kind),

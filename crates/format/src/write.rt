@@ -36,7 +36,7 @@ pub fn write_spaces(out: &mut [u8], len: usize, n: usize) -> usize
 }
 
 // Spaces, and then the bytes of `text` from `start` to `end`. One space and one byte need no loop.
-pub fn write_spaced(
+pub fn emit_token_text(
     out: &mut [u8],
     len: usize,
     spaces: usize,

@@ -24,8 +24,8 @@ prev-kind-requires c κs = search needs
 token-gap-requires : tie.Need-token-gap-requires
 token-gap-requires c κs = search needs
 
-write-spaced-requires : tie.Need-write-spaced-requires
-write-spaced-requires c κs = search needs
+emit-token-text-requires : tie.Need-emit-token-text-requires
+emit-token-text-requires c κs = search needs
 
 write-byte-requires : tie.Need-write-byte-requires
 write-byte-requires c κs = search needs
@@ -38,7 +38,7 @@ same-length c = search needs
 
 returns : tie.Need-returns
 unfolding run said emptyRecord
-returns c = λ s. does refl (rw (c .before .before .before .before .before .before .before .before .before .before .before .before .before .before .before .before .before .before .pre .1)) refl (rw (c .before .before .before .before .before .before .before .before .before .before .before .before .before .before .before .before .before .before .pre .1, append-nil) (andThen (gapped (optionsOf (c .before .before .before .before .before .before .before .before .before .before .before .before .before .before .before .before .before .before .args .self .options)) 2 (formatterOf (c .before .before .before .before .before .before .before .before .before .before .before .before .before .before .before .before .before .before .args .self) []) _ (c .before .before .before .before .before .before .before .before .before .before .before .before .before .before .before .indent-spaces .ensures) (c .before .before .before .before .before .before .before .before .before .before .before .before .before .before .is-tight .ensures) (c .before .before .before .before .before .before .before .before .before .before .before .before .before .prev-kind .ensures) (c .before .before .before .before .before .before .before .before .before .before .before .before .token-gap .ensures) (c .before .before .before .before .before .before .before .before .before .before .write-spaced .ensures)) (andThen (c .before .before .before .before .before .before .write-byte .ensures) (c .before .before .write-byte2 .ensures))))
+returns c = λ s. does refl (rw (c .before .before .before .before .before .before .before .before .before .before .before .before .before .before .before .before .before .before .pre .1)) refl (rw (c .before .before .before .before .before .before .before .before .before .before .before .before .before .before .before .before .before .before .pre .1, append-nil) (andThen (gapped (optionsOf (c .before .before .before .before .before .before .before .before .before .before .before .before .before .before .before .before .before .before .args .self .options)) 2 (formatterOf (c .before .before .before .before .before .before .before .before .before .before .before .before .before .before .before .before .before .before .args .self) []) _ (c .before .before .before .before .before .before .before .before .before .before .before .before .before .before .before .indent-spaces .ensures) (c .before .before .before .before .before .before .before .before .before .before .before .before .before .before .is-tight .ensures) (c .before .before .before .before .before .before .before .before .before .before .before .before .before .prev-kind .ensures) (c .before .before .before .before .before .before .before .before .before .before .before .before .token-gap .ensures) (c .before .before .before .before .before .before .before .before .before .before .emit-token-text .ensures)) (andThen (c .before .before .before .before .before .before .write-byte .ensures) (c .before .before .write-byte2 .ensures))))
 
 pub empty-record-spec : {M : Type 1} → statement M
 empty-record-spec =
@@ -48,7 +48,7 @@ empty-record-spec =
     is-tight-requires
     prev-kind-requires
     token-gap-requires
-    write-spaced-requires
+    emit-token-text-requires
     write-byte-requires
     write-byte-requires-2
     same-length

@@ -15,8 +15,8 @@ empty-record-requires c κs = search needs
 opens-block-requires : tie.Need-opens-block-requires
 opens-block-requires c κs = search needs
 
-open-block-requires : tie.Need-open-block-requires
-open-block-requires c κs = search needs
+open-block-multiline-requires : tie.Need-open-block-multiline-requires
+open-block-multiline-requires c κs = search needs
 
 open-one-line-requires : tie.Need-open-one-line-requires
 open-one-line-requires c κs = search needs
@@ -32,7 +32,7 @@ same-length-2 : tie.Need-same-length-2
 same-length-2 c = search needs
 
 returns-2 : tie.Need-returns-2
-returns-2 c = λ s t ts σ. brace (c .before .before .before .before .before .before .before .before .before .before .before .args .token .index) t ts (no (λ n. told (c .before .before .before .before .before .before .before .empties-record .ensures _ t ts σ) (c .before .before .before .before .before .before .if1 .left)) (yes (λ n. told (c .before .before .before .before .before .opens-block .ensures _ t ts σ) (c .before .before .before .before .if2 .taken)) (c .before .before .open-block .ensures s)))
+returns-2 c = λ s t ts σ. brace (c .before .before .before .before .before .before .before .before .before .before .before .args .token .index) t ts (no (λ n. told (c .before .before .before .before .before .before .before .empties-record .ensures _ t ts σ) (c .before .before .before .before .before .before .if1 .left)) (yes (λ n. told (c .before .before .before .before .before .opens-block .ensures _ t ts σ) (c .before .before .before .before .if2 .taken)) (c .before .before .open-block-multiline .ensures s)))
 
 same-length-3 : tie.Need-same-length-3
 same-length-3 c = search needs
@@ -47,7 +47,7 @@ left-brace-arm-spec =
     empties-record-requires
     empty-record-requires
     opens-block-requires
-    open-block-requires
+    open-block-multiline-requires
     open-one-line-requires
     same-length
     returns

@@ -27,8 +27,8 @@ prev-kind-requires c κs = search needs
 token-gap-requires : tie.Need-token-gap-requires
 token-gap-requires c κs = search needs
 
-write-spaced-requires : tie.Need-write-spaced-requires
-write-spaced-requires c κs = search needs
+emit-token-text-requires : tie.Need-emit-token-text-requires
+emit-token-text-requires c κs = search needs
 
 write-byte-requires : tie.Need-write-byte-requires
 write-byte-requires c κs = search needs
@@ -56,7 +56,7 @@ same-length-2 c = search needs
 
 returns : tie.Need-returns
 unfolding run said
-returns c = λ few. let room : c .before .before .before .before .before .before .before .before .before .before .before .before .before .before .before .before .before .before .before .before .before .before .args .self .«break_count» < length (c .before .before .before .before .before .before .before .before .before .before .before .before .before .before .before .before .before .before .before .before .before .before .args .stack .now) = let z = c .before .before .before .before .before .before .before .before .before .before .before .before .before .before .before .before .before .before .before .before .before .before .pre .1 .0 .size in omega arith in does refl (sym (rw (c .before .before .before .push-entry .ensures .0 room, top-pushed (c .before .before .before .before .before .before .before .before .before .before .before .before .before .before .before .before .before .before .before .before .before .before .args .self .«break_count») (c .before .before .before .before .before .before .before .before .before .before .before .before .before .before .before .before .before .before .before .before .before .before .args .stack .now) _ room))) refl (rw append-nil (andThen (gapped (optionsOf (c .before .before .before .before .before .before .before .before .before .before .before .before .before .before .before .before .before .before .before .before .before .before .args .self .options)) (c .before .before .before .before .before .before .before .before .before .before .before .before .before .before .before .before .before .before .before .before .before .before .args .token .kind) (formatterOf (c .before .before .before .before .before .before .before .before .before .before .before .before .before .before .before .before .before .before .before .before .before .before .args .self) []) _ (c .before .before .before .before .before .before .before .before .before .before .before .before .before .before .before .before .before .before .indent-spaces .ensures) (c .before .before .before .before .before .before .before .before .before .before .before .before .before .before .before .before .before .is-tight .ensures) (c .before .before .before .before .before .before .before .before .before .before .before .before .before .before .before .before .prev-kind .ensures) (c .before .before .before .before .before .before .before .before .before .before .before .before .before .before .before .token-gap .ensures) (c .before .before .before .before .before .before .before .before .before .before .before .before .before .write-spaced .ensures)) (c .before .before .before .before .before .before .before .before .before .write-byte .ensures)))
+returns c = λ few. let room : c .before .before .before .before .before .before .before .before .before .before .before .before .before .before .before .before .before .before .before .before .before .before .args .self .«break_count» < length (c .before .before .before .before .before .before .before .before .before .before .before .before .before .before .before .before .before .before .before .before .before .before .args .stack .now) = let z = c .before .before .before .before .before .before .before .before .before .before .before .before .before .before .before .before .before .before .before .before .before .before .pre .1 .0 .size in omega arith in does refl (sym (rw (c .before .before .before .push-entry .ensures .0 room, top-pushed (c .before .before .before .before .before .before .before .before .before .before .before .before .before .before .before .before .before .before .before .before .before .before .args .self .«break_count») (c .before .before .before .before .before .before .before .before .before .before .before .before .before .before .before .before .before .before .before .before .before .before .args .stack .now) _ room))) refl (rw append-nil (andThen (gapped (optionsOf (c .before .before .before .before .before .before .before .before .before .before .before .before .before .before .before .before .before .before .before .before .before .before .args .self .options)) (c .before .before .before .before .before .before .before .before .before .before .before .before .before .before .before .before .before .before .before .before .before .before .args .token .kind) (formatterOf (c .before .before .before .before .before .before .before .before .before .before .before .before .before .before .before .before .before .before .before .before .before .before .args .self) []) _ (c .before .before .before .before .before .before .before .before .before .before .before .before .before .before .before .before .before .before .indent-spaces .ensures) (c .before .before .before .before .before .before .before .before .before .before .before .before .before .before .before .before .before .is-tight .ensures) (c .before .before .before .before .before .before .before .before .before .before .before .before .before .before .before .before .prev-kind .ensures) (c .before .before .before .before .before .before .before .before .before .before .before .before .before .before .before .token-gap .ensures) (c .before .before .before .before .before .before .before .before .before .before .before .before .before .emit-token-text .ensures)) (c .before .before .before .before .before .before .before .before .before .write-byte .ensures)))
 
 pub open-list-spec : {M : Type 1} → statement M
 open-list-spec =
@@ -66,7 +66,7 @@ open-list-spec =
     is-tight-requires
     prev-kind-requires
     token-gap-requires
-    write-spaced-requires
+    emit-token-text-requires
     write-byte-requires
     add-inner
     push-entry-requires

@@ -22,8 +22,8 @@ prev-kind-requires c κs = search needs
 token-gap-requires : tie.Need-token-gap-requires
 token-gap-requires c κs = search needs
 
-write-spaced-requires : tie.Need-write-spaced-requires
-write-spaced-requires c κs = search needs
+emit-token-text-requires : tie.Need-emit-token-text-requires
+emit-token-text-requires c κs = search needs
 
 minus-is-unary-after-requires : tie.Need-minus-is-unary-after-requires
 minus-is-unary-after-requires c κs = search needs
@@ -33,7 +33,7 @@ same-length c = search needs
 
 returns : tie.Need-returns
 unfolding run said
-returns c = λ s. does refl (rw (c .minus-is-unary-after .ensures)) refl (rw append-nil (gapped (optionsOf (c .before .before .before .before .before .before .before .before .before .before .before .args .self .options)) (c .before .before .before .before .before .before .before .before .before .before .before .args .token .kind) (formatterOf (c .before .before .before .before .before .before .before .before .before .before .before .args .self) []) _ (c .before .before .before .before .before .before .before .before .indent-spaces .ensures) (c .before .before .before .before .before .before .before .is-tight .ensures) (c .before .before .before .before .before .before .prev-kind .ensures) (c .before .before .before .before .before .token-gap .ensures) (c .before .before .before .write-spaced .ensures)))
+returns c = λ s. does refl (rw (c .minus-is-unary-after .ensures)) refl (rw append-nil (gapped (optionsOf (c .before .before .before .before .before .before .before .before .before .before .before .args .self .options)) (c .before .before .before .before .before .before .before .before .before .before .before .args .token .kind) (formatterOf (c .before .before .before .before .before .before .before .before .before .before .before .args .self) []) _ (c .before .before .before .before .before .before .before .before .indent-spaces .ensures) (c .before .before .before .before .before .before .before .is-tight .ensures) (c .before .before .before .before .before .before .prev-kind .ensures) (c .before .before .before .before .before .token-gap .ensures) (c .before .before .before .emit-token-text .ensures)))
 
 pub push-lexeme-spec : {M : Type 1} → statement M
 push-lexeme-spec =
@@ -43,7 +43,7 @@ push-lexeme-spec =
     is-tight-requires
     prev-kind-requires
     token-gap-requires
-    write-spaced-requires
+    emit-token-text-requires
     minus-is-unary-after-requires
     same-length
     returns)

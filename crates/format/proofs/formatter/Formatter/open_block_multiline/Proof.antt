@@ -1,9 +1,9 @@
--- `format::formatter::Formatter::open_block` meets its contract. Assumes nothing.
+-- `format::formatter::Formatter::open_block_multiline` meets its contract. Assumes nothing.
 use borrow.Author.Needs.{needs}
 use Rattle.format.proofs.Does.{seq}
 use Rattle.format.proofs.Openers.{block-same-line, block-allman}
-use Rattle.format.proofs.formatter.Formatter.open_block.Statement.{statement}
-use Rattle.format.proofs.formatter.Formatter.open_block.Tie as tie
+use Rattle.format.proofs.formatter.Formatter.open_block_multiline.Statement.{statement}
+use Rattle.format.proofs.formatter.Formatter.open_block_multiline.Tie as tie
 
 enter-record-requires : tie.Need-enter-record-requires
 enter-record-requires c κs = search needs
@@ -32,8 +32,8 @@ same-length-2 c = search needs
 returns-2 : tie.Need-returns-2
 returns-2 c = λ s. seq (c .before .before .before .before .before .before .before .enter-record .ensures .0 s _) (block-allman (c .before .before .before .before .before .before .before .before .before .args .index) (c .before .before .before .before .enum-told2 .given .1) (c .before .before .open-block-allman .ensures s))
 
-pub open-block-spec : {M : Type 1} → statement M
-open-block-spec =
+pub open-block-multiline-spec : {M : Type 1} → statement M
+open-block-multiline-spec =
     tie.close
     (tie.spec
     enter-record-requires

@@ -1,8 +1,8 @@
--- `format::write::write_spaced` meets its contract. Assumes nothing.
+-- `format::write::emit_token_text` meets its contract. Assumes nothing.
 use borrow.Author.Needs.{needs}
 use Rattle.format.proofs.Sink.{andThen, slice-one}
-use Rattle.format.proofs.write.write_spaced.Statement.{statement}
-use Rattle.format.proofs.write.write_spaced.Tie as tie
+use Rattle.format.proofs.write.emit_token_text.Statement.{statement}
+use Rattle.format.proofs.write.emit_token_text.Tie as tie
 
 write-gap-requires : tie.Need-write-gap-requires
 write-gap-requires c κs = search needs
@@ -31,8 +31,8 @@ same-length-2 c = search needs
 returns-2 : tie.Need-returns-2
 returns-2 c = andThen (c .before .before .before .before .before .before .before .write-gap .ensures) (c .before .before .write-part .ensures)
 
-pub write-spaced-spec : {M : Type 1} → statement M
-write-spaced-spec =
+pub emit-token-text-spec : {M : Type 1} → statement M
+emit-token-text-spec =
     tie.close
     (tie.spec
     write-gap-requires
