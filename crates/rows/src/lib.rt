@@ -1,9 +1,11 @@
 // The rows that the lexer sends, and what is looked at before a layout (document 01, 'The rows arrive').
+ghost use mathlib.Core.Bool.{_||_};
 ghost use mathlib.Core.Path.{_≡_};
 ghost use Prim.Native.Nat.{_+_, _≤_, _<_};
+ghost use lib.Dec.{ltb};
 ghost use lib.ListN.{length};
 ghost use Rattle.rows.specs.Row.{number, rowAt};
-ghost use Rattle.rows.specs.Checks.{mayTrail, topKind, badRow, after};
+ghost use Rattle.rows.specs.Checks.{mayTrail, badRow, after};
 ghost use Rattle.rows.specs.Answer.{reported, checkReport, rowsReport, eachRowReport, rowOf};
 
 pub mod kinds;
@@ -127,32 +129,32 @@ fn check_each_row(rows: &[u8], size: usize) -> Checked
 fn is_bad(row: Row, before: u32, size: usize) -> bool
     ensures { λ r. ⌜ r ≡ badRow size (after before) (rowOf row) ⌝ }
 {
+    if row.what == kinds::TOKEN {
+        return misnames(row, kinds::OTHER, size);
+    }
     if kinds::TRAILING < row.what {
         return true;
     }
-    if top_kind(row.what) < row.kind {
+    if misnames(row, kinds::BLANK_LINE, size) {
         return true;
     }
-    if row.end < row.start {
-        return true;
-    }
-    if size < row.end as usize {
-        return true;
-    }
-    if row.what != kinds::TRAILING {
+    if row.what == kinds::LEADING {
         return false;
     }
     !may_trail(before)
 }
 
-// The highest kind of a row of a what.
-fn top_kind(what: u32) -> u32
-    ensures { λ r. ⌜ r ≡ topKind what ⌝ }
+// Whether a row has a kind above the highest of its what, or names no bytes of the text.
+fn misnames(row: Row, top: u32, size: usize) -> bool
+    ensures { λ r. ⌜ r ≡ (ltb top (row .kind) || ltb (row .end) (row .start) || ltb size (row .end)) ⌝ }
 {
-    if what == kinds::TOKEN {
-        return kinds::OTHER;
+    if top < row.kind {
+        return true;
     }
-    kinds::BLANK_LINE
+    if row.end < row.start {
+        return true;
+    }
+    size < row.end as usize
 }
 
 // Whether a trailing row may follow a row of the what `before`.

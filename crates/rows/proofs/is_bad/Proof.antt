@@ -1,46 +1,79 @@
 -- `rows::is_bad` meets its contract. Assumes nothing.
-use borrow.Author.Tests.{eq-eqb, ne-eqb, lt-ltb, le-ltb}
+use mathlib.Core.Bool.{Bool, true, false, not, _&&_, _||_}
+use mathlib.Core.Path.{_≡_, refl, sym, _∙_}
+use Prim.Native.Nat.{ℕ, _≤_}
+use native.Mathlib.Omega.{arith}
+use lib.Dec.{eqb, ltb}
+use borrow.Author.Tests.{ne-eqb, lt-ltb, le-ltb}
 use borrow.Author.Needs.{needs}
+use Rattle.rows.specs.Kinds.{Leading, TokenRow, Trailing, BlankLine, Other}
+use Rattle.rows.specs.Row.{Row}
+use Rattle.rows.specs.Checks.{topKind, mayTrail, after}
+use Rattle.rows.specs.Answer.{rowOf}
 use Rattle.rows.proofs.is_bad.Statement.{statement}
 use Rattle.rows.proofs.is_bad.Tie as tie
 
-returns : tie.Need-returns
-returns c = rw (lt-ltb _ _ (c .if1 .taken))
+-- what `misnames` answers
+abbrev misnamed : ℕ → ℕ → Row → Bool
+misnamed top size r = ltb top (r .kind) || ltb (r .end) (r .start) || ltb size (r .end)
 
-top-kind-requires : tie.Need-top-kind-requires
-top-kind-requires c κs = search needs
+-- `badRow`, where a trailing row may stand or not
+abbrev bad : ℕ → Bool → Row → Bool
+bad size may r = ltb Trailing (r .what) || ltb (topKind (r .what)) (r .kind) || ltb (r .end) (r .start) || ltb size (r .end) || (eqb (r .what) Trailing && not may)
+
+or-false : (a : Bool) → a || false ≡ a
+or-false true = refl
+or-false false = refl
+
+module _ (size : ℕ) (may : Bool) (r : Row) where
+  token-bad : {m : Bool} → r .what ≡ TokenRow → m ≡ misnamed Other size r → m ≡ bad size may r
+  token-bad w e = e ∙ rw w (sym (or-false (misnamed Other size r)))
+
+  module _ (n : (r .what ≡ TokenRow) → ⊥) (l : r .what ≤ Trailing) where
+    trivia-bad : {m : Bool} → m ≡ misnamed BlankLine size r → m ≡ true → true ≡ bad size may r
+    trivia-bad e t = rw (le-ltb Trailing (r .what) l, ne-eqb (r .what) TokenRow n, sym e ∙ t)
+
+    leading-good : {m : Bool} → m ≡ misnamed BlankLine size r → m ≡ false → r .what ≡ Leading → false ≡ bad size may r
+    leading-good e f z = rw (z, sym e ∙ f)
+
+    trailing-bad : {m b : Bool} → m ≡ misnamed BlankLine size r → m ≡ false → ((r .what ≡ Leading) → ⊥) → b ≡ may → not b ≡ bad size may r
+    trailing-bad e f z p =
+        let w : r .what ≡ Trailing = omega (arith, n, l, z) in
+        rw (w, sym e ∙ f, p)
+
+misnames-requires : tie.Need-misnames-requires
+misnames-requires c κs = search needs
+
+returns : tie.Need-returns
+returns c = token-bad (c .before .before .before .args .size) (mayTrail (after (c .before .before .before .args .before))) (rowOf (c .before .before .before .args .row)) (c .before .if1 .taken) (c .misnames .ensures)
 
 returns-2 : tie.Need-returns-2
-returns-2 c = rw (le-ltb _ _ (c .before .before .before .if1 .left), ← c .before .before .top-kind .ensures, lt-ltb _ _ (c .if2 .taken))
+returns-2 c = rw (lt-ltb _ _ (c .if2 .taken))
+
+misnames-requires-2 : tie.Need-misnames-requires-2
+misnames-requires-2 c κs = search needs
 
 returns-3 : tie.Need-returns-3
-returns-3 c = rw (le-ltb _ _ (c .before .before .before .before .before .if1 .left), ← c .before .before .before .before .top-kind .ensures, le-ltb _ _ (c .before .before .if2 .left), lt-ltb _ _ (c .if3 .taken))
-
-cast-if4 : tie.Need-cast-if4
-cast-if4 c = search needs
+returns-3 c = trivia-bad (c .before .before .before .before .before .before .args .size) (mayTrail (after (c .before .before .before .before .before .before .args .before))) (rowOf (c .before .before .before .before .before .before .args .row)) (c .before .before .before .before .if1 .left) (c .before .before .if2 .left) (c .before .misnames2 .ensures) (c .if3 .taken)
 
 returns-4 : tie.Need-returns-4
-returns-4 c = rw (le-ltb _ _ (c .before .before .before .before .before .before .before .if1 .left), ← c .before .before .before .before .before .before .top-kind .ensures, le-ltb _ _ (c .before .before .before .before .if2 .left), le-ltb _ _ (c .before .before .if3 .left), lt-ltb _ _ (c .if4 .taken))
-
-returns-5 : tie.Need-returns-5
-returns-5 c = rw (le-ltb _ _ (c .before .before .before .before .before .before .before .before .before .if1 .left), ← c .before .before .before .before .before .before .before .before .top-kind .ensures, le-ltb _ _ (c .before .before .before .before .before .before .if2 .left), le-ltb _ _ (c .before .before .before .before .if3 .left), le-ltb _ _ (c .before .before .if4 .left), ne-eqb _ _ (c .if5 .taken))
+returns-4 c = leading-good (c .before .before .before .before .before .before .before .before .args .size) (mayTrail (after (c .before .before .before .before .before .before .before .before .args .before))) (rowOf (c .before .before .before .before .before .before .before .before .args .row)) (c .before .before .before .before .before .before .if1 .left) (c .before .before .before .before .if2 .left) (c .before .before .before .misnames2 .ensures) (c .before .before .if3 .left) (c .if4 .taken)
 
 may-trail-requires : tie.Need-may-trail-requires
 may-trail-requires c κs = search needs
 
-returns-6 : tie.Need-returns-6
-returns-6 c = rw (le-ltb _ _ (c .before .before .before .before .before .before .before .before .before .before .if1 .left), ← c .before .before .before .before .before .before .before .before .before .top-kind .ensures, le-ltb _ _ (c .before .before .before .before .before .before .before .if2 .left), le-ltb _ _ (c .before .before .before .before .before .if3 .left), le-ltb _ _ (c .before .before .before .if4 .left), eq-eqb _ _ (c .before .if5 .left), ← c .may-trail .ensures)
+returns-5 : tie.Need-returns-5
+returns-5 c = trailing-bad (c .before .before .before .before .before .before .before .before .before .args .size) (mayTrail (after (c .before .before .before .before .before .before .before .before .before .args .before))) (rowOf (c .before .before .before .before .before .before .before .before .before .args .row)) (c .before .before .before .before .before .before .before .if1 .left) (c .before .before .before .before .before .if2 .left) (c .before .before .before .before .misnames2 .ensures) (c .before .before .before .if3 .left) (c .before .if4 .left) (c .may-trail .ensures)
 
 pub is-bad-spec : {M : Type 1} → statement M
 is-bad-spec =
     tie.close
     (tie.spec
+    misnames-requires
     returns
-    top-kind-requires
     returns-2
+    misnames-requires-2
     returns-3
-    cast-if4
     returns-4
-    returns-5
     may-trail-requires
-    returns-6)
+    returns-5)
