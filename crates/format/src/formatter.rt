@@ -310,9 +310,14 @@ impl Formatter {
     pub fn fn_state_after(self, kind: u32) -> u8
         ensures { λ r. ⌜ r ≡ trackFnState kind (formatterOf self []) .fnState ⌝ }
     {
+        let state = self.fn_state;
+        if kind != kinds::FN {
+            if state == 0 {
+                return 0;
+            }
+        }
         let signature = self.sig_break_depth;
         let depth = signature.0;
-        let state = self.fn_state;
         if 0 < depth {
             return state;
         }

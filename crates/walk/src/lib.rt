@@ -34,7 +34,7 @@ pub fn walk(new: Formatter, out: &mut [u8], stack: &mut [u32], rows: &[u8], text
     let mut f = new;
     let mut at = 0;
     let mut index: u32 = 0;
-    while at < rows.len() {
+    while ROW_BYTES <= rows.len() - at {
         let row = rows_end(rows, at, kinds::LEADING);
         let next = rows_end(rows, row + ROW_BYTES, kinds::TRAILING);
         let token = token_at(rows, at, row, index);
