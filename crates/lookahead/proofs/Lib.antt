@@ -5,4 +5,5 @@ pub mod Rests
 pub mod Measuring
 pub mod Deciding
 pub mod Looking
+pub mod Lacks
 pub mod Said

@@ -125,7 +125,7 @@ top-bracket p b =
 sig-counts : (m : Measure) (t : Token) → sigCounts m t ≡ counts Signature m (t .kind) (length (t .lexeme))
 sig-counts m t = count-arms Signature m t _ refl
 
-group-counts : (isParen : Bool) (m : Measure) (t : Token) → groupCounts isParen m t ≡ counts (groupOf isParen) m (t .kind) (length (t .lexeme))
+pub group-counts : (isParen : Bool) (m : Measure) (t : Token) → groupCounts isParen m t ≡ counts (groupOf isParen) m (t .kind) (length (t .lexeme))
 group-counts true m t = count-arms Paren m t _ (top-paren (m .parenDepth) (m .bracketDepth))
 group-counts false m t = count-arms Bracket m t _ (top-bracket (m .parenDepth) (m .bracketDepth))
 

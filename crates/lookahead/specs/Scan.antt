@@ -1,6 +1,6 @@
 -- The lookaheads over rows: what the code's loops compute. They say the same as those over tokens (proofs/Tokens.antt).
 -- Assumes nothing.
-use mathlib.Core.Bool.{Bool, true, false, cond, _&&_, _||_}
+use mathlib.Core.Bool.{Bool, true, false, cond, not, _&&_, _||_}
 use mathlib.Core.List.{List, [], _∷_}
 use Prim.Native.Nat.{ℕ, _+_, _-_, _^_, _<_}
 use lib.Dec.{eqb, ltb}
@@ -10,6 +10,13 @@ use Rattle.lookahead.specs.declared.measure.Span.{Span}
 use Rattle.lookahead.specs.declared.measure.Span.the-variants.{Signature, Paren, Bracket}
 use Rattle.lookahead.specs.declared.measure.Measure
 use Rattle.lookahead.specs.Measure.{Measure, more}
+
+-- ---- `behind_last`
+
+-- no row is a token of the kind k
+unfoldable pub lacks : ℕ → List Row → Bool
+lacks k [] = true
+lacks k (r ∷ rs) = not (eqb (r .what) TokenRow && eqb (r .kind) k) && lacks k rs
 
 -- ---- `next_has_comment`
 

@@ -7,9 +7,10 @@ use rows::ROW_BYTES;
 use rows::Row;
 use rows::kinds;
 use rows::row_at;
+ghost use mathlib.Core.Bool.{true};
 ghost use mathlib.Core.List.{List};
 ghost use mathlib.Core.Path.{_≡_};
-ghost use Prim.Native.Nat.{ℕ, _^_, _≤_, _<_};
+ghost use Prim.Native.Nat.{ℕ, _*_, _^_, _≤_, _<_};
 ghost use lib.ListN.{length, drop};
 ghost use Rattle.rows.specs.Row.{rowsOf};
 ghost use Rattle.rows.specs.Token.{tokensOf};
@@ -18,7 +19,7 @@ ghost use Rattle.rows.specs.Answer.{rowOf};
 ghost use Rattle.lookahead.specs.Space.{needsSpace, isValueKind};
 ghost use Rattle.lookahead.specs.Answer.{reported, spaceReport};
 ghost use Rattle.lookahead.specs.Measure.{start, params, sigMeasure, groupMeasure, shouldBreakSig, shouldBreakList, blockIsSingleLine, nextHasComment};
-ghost use Rattle.lookahead.specs.Scan.{isComment, trails, endsLine, closesBlock, opensParenRows, groupOf, measureRows, measureOf, breaksAt};
+ghost use Rattle.lookahead.specs.Scan.{lacks, isComment, trails, endsLine, closesBlock, opensParenRows, groupOf, measureRows, measureOf, breaksAt};
 
 mod measure;
 mod sets;
@@ -75,7 +76,7 @@ pub fn is_value_kind(kind: u32) -> bool
 }
 
 // The lookaheads take the part of the rows that starts at the opener, its own leading rows included, and goes to
-// the end. What they answer holds of every text in which the rows lie; the last two need none.
+// the end. What the first four answer holds of every text in which the rows lie; the others need none.
 
 // Whether a signature breaks: more than 3 params, or wider than `fn_sig_width`.
 pub fn should_break_sig(rows: &[u8], fn_sig_width: u32) -> bool
@@ -189,6 +190,21 @@ pub fn next_has_comment(rows: &[u8]) -> bool
         }
     }
     false
+}
+
+// Behind the last row of the kind; no token of the kind stands from there on.
+pub fn behind_last(rows: &[u8], kind: u32) -> usize
+    ensures { λ r. ⌜ ((j : ℕ) → r ≤ 16 * j → lacks kind (rowsOf (drop (16 * j) (now (rows .entry)))) ≡ true) ⌝ }
+{
+    let mut at = rows.len() - rows.len() % ROW_BYTES;
+    while ROW_BYTES <= at {
+        let row = row_at(rows, at - ROW_BYTES);
+        if row.kind == kind {
+            return at;
+        }
+        at -= ROW_BYTES;
+    }
+    0
 }
 
 // Whether a measure is above what does not break. It stops as soon as that is certain.
