@@ -61,12 +61,6 @@ module _ (w : List ℕ) where
   pub no-operator-first : length w ≡ 0 → false ≡ beginsOperator w
   no-operator-first h = rw (empty w h)
 
-  pub no-operator-last : length w ≡ 0 → false ≡ endsOperator w
-  no-operator-last h = rw (empty w h)
-
-  pub no-digit-first : length w ≡ 0 → false ≡ beginsDigit w
-  no-digit-first h = rw (empty w h)
-
 pub operator-first : (w : List ℕ) → (length w ≡ 0 → ⊥) → operatorByte (getD w 0 0) ≡ beginsOperator w
 operator-first [] n = absurd (n refl)
 operator-first (b ∷ w) n = refl

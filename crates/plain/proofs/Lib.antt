@@ -1,4 +1,5 @@
 pub mod Bytes
+pub mod Runs
 pub mod Fixed
 pub mod Tests
 pub mod Rows

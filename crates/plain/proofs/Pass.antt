@@ -2,7 +2,7 @@
 use mathlib.Core.Bool.{Bool, true, false}
 use mathlib.Core.List.{List, _∷_}
 use mathlib.Core.Option.{none}
-use mathlib.Core.Path.{_≡_, sym, _∙_}
+use mathlib.Core.Path.{_≡_, refl, sym, _∙_}
 use Prim.Native.Nat.{ℕ, _+_, _-_, _≤_, _<_}
 use native.Mathlib.Omega.{arith}
 use lib.ListN.{length, take, drop}
@@ -15,9 +15,9 @@ use Rattle.rows.specs.Checks.{atStart, badFrom}
 use Rattle.rows.proofs.Sound.{in-bounds}
 use Rattle.lookahead.proofs.Rests.{here, over}
 use Rattle.push_token.specs.Plain.{plain}
-use Rattle.plain.specs.declared.seen.Seen.{Seen}
-use Rattle.plain.specs.Scan.{unseen, fits, behind, plainRows}
+use Rattle.plain.specs.Scan.{Facts, unseen, fits, behind, plainRows, isName}
 use Rattle.plain.proofs.Bytes.{part-slice}
+use Rattle.plain.proofs.Tests.{name-fits}
 use Rattle.plain.proofs.Rows.{pass}
 
 -- a row's bytes, as the code takes them
@@ -25,15 +25,15 @@ abbrev part : List ℕ → Row → List ℕ
 part text r = take (r .end - r .start) (drop (r .start) text)
 
 -- at the loop's head
-pub record Left (rows text : List ℕ) (q : Seen) (at : ℕ) : Type 0 where
+pub record Left (rows text : List ℕ) (q : Facts) (at : ℕ) : Type 0 where
   pub within : at ≤ length rows
   pub bounds : InBounds text (rowsOf (drop at rows))
   pub mark : plain (tokensOf rows text) ≡ plainRows text q (rowsOf (drop at rows))
 
-pub start : (rows text : List ℕ) → badFrom (length text) atStart 0 (rowsOf rows) ≡ none → {q : Seen} → q ≡ unseen → Left rows text q 0
+pub start : (rows text : List ℕ) → badFrom (length text) atStart 0 (rowsOf rows) ≡ none → {q : Facts} → q ≡ unseen → Left rows text q 0
 start rows text e z = rw z (record { within = omega arith; bounds = in-bounds text atStart 0 (rowsOf rows) e; mark = pass rows text e })
 
-module _ {rows text : List ℕ} {q : Seen} {at : ℕ} (σ : Left rows text q at) where
+module _ {rows text : List ℕ} {q : Facts} {at : ℕ} (σ : Left rows text q at) where
   module _ {r : Row} (h : 16 ≤ length rows - at) (e : r ≡ rowAt rows at) where
     next : rowsOf (drop at rows) ≡ r ∷ rowsOf (drop (at + 16) rows)
     next = here rows at (σ .within) h e
@@ -57,13 +57,16 @@ module _ {rows text : List ℕ} {q : Seen} {at : ℕ} (σ : Left rows text q at)
       unfolding plainRows
       unfit f z = sym (σ .mark ∙ rw (next, eq-eqb (r .what) TokenRow t, ← lexeme, ← f, z))
 
-      pub more : {x : Bool} → x ≡ fits q (r .kind) (part text r) → x ≡ true → {s : Seen} → s ≡ behind q (r .kind) (part text r) → Left rows text s (at + 16)
+      pub more : {x : Bool} → x ≡ fits q (r .kind) (part text r) → x ≡ true → {s : Facts} → s ≡ behind q (r .kind) (part text r) → Left rows text s (at + 16)
       unfolding plainRows
       more f z g = record {
         within = omega (arith, σ .within);
         bounds = bounded .1;
         mark = σ .mark ∙ rw (next, eq-eqb (r .what) TokenRow t, ← lexeme, ← f, z, g);
       }
+
+      pub more-name : {x : Bool} → x ≡ isName (r .kind) (part text r) → x ≡ true → {s : Facts} → s ≡ behind q (r .kind) (part text r) → Left rows text s (at + 16)
+      more-name n z g = more (name-fits (r .kind) (part text r) (sym n ∙ z) q) refl g
 
   pub finished : length rows - at < 16 → true ≡ plain (tokensOf rows text)
   unfolding plainRows

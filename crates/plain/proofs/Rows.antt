@@ -21,8 +21,7 @@ use Rattle.push_token.specs.Plain.{isMute, hasItsLexeme, readsWhole, endsOperat
 use Rattle.push_token.specs.PlainScan
 use Rattle.push_token.specs.PlainScan.{see, plainFrom}
 use Rattle.push_token.proofs.PlainScan.{plain-scan}
-use Rattle.plain.specs.declared.seen.Seen.{Seen}
-use Rattle.plain.specs.Scan.{unseen, mute, forbids, collides, fits, behind, plainRows}
+use Rattle.plain.specs.Scan.{Facts, unseen, mute, forbids, collides, fits, behind, plainRows}
 
 -- ---- what the code keeps of what has been seen
 
@@ -31,8 +30,8 @@ abbrev ofLast : (Token → Bool) → Option Token → Bool
 ofLast f none = false
 ofLast f (some t) = f t
 
-abbrev seenOf : PlainScan.Seen → Bool → Seen
-seenOf q opened = record {
+abbrev factsAt : PlainScan.Seen → Bool → Facts
+factsAt q opened = record {
   operator = ofLast (λ t. endsOperator (t .lexeme)) (q .last);
   tight = ofLast (λ t. tightBefore (t .kind)) (q .last);
   digit = ofLast (λ t. beginsDigit (t .lexeme)) (q .last);
@@ -41,7 +40,7 @@ seenOf q opened = record {
   opened = opened;
 }
 
-behind-is : (q : PlainScan.Seen) (opened : Bool) (t : Token) → behind (seenOf q opened) (t .kind) (t .lexeme) ≡ seenOf (see q t) (eqb (t .kind) LeftBrace && q .armed)
+behind-is : (q : PlainScan.Seen) (opened : Bool) (t : Token) → behind (factsAt q opened) (t .kind) (t .lexeme) ≡ factsAt (see q t) (eqb (t .kind) LeftBrace && q .armed)
 behind-is q opened t = split (isMute t) (λ e. rw e) (λ e. rw e)
 
 -- ---- the clauses at one token
@@ -56,7 +55,7 @@ meets false b x = refl
 meets true false x = refl
 meets true true x = refl
 
-clause₄-is : (q : PlainScan.Seen) (opened : Bool) (t : Token) → clause₄ (q .last) t ≡ mute (t .kind) || not (collides (seenOf q opened) (t .kind) (t .lexeme))
+clause₄-is : (q : PlainScan.Seen) (opened : Bool) (t : Token) → clause₄ (q .last) t ≡ mute (t .kind) || not (collides (factsAt q opened) (t .kind) (t .lexeme))
 clause₄-is q opened t = go (q .last)
   where
     go : (last : Option Token) → clause₄ last t
@@ -76,7 +75,7 @@ order : (f h r c : Bool) → f && (h && r && c) ≡ h && (r && (c && f))
 order f h r c = and-comm f (h && r && c) ∙ simp and-assoc
 
 -- the code's test by the kinds that it asks for: h and r are clauses 2 and 3, c clause 4
-by-kind : (s : Seen) (k : ℕ) (h r c : Bool) → (mute k ≡ true → h ≡ true) → mute k || (not (forbids s k) && (h && r && c))
+by-kind : (s : Facts) (k : ℕ) (h r c : Bool) → (mute k ≡ true → h ≡ true) → mute k || (not (forbids s k) && (h && r && c))
     ≡ not (eqb k RightBrace && s .opened) && (h && ((mute k || r) && ((mute k || c) && ((mute k || not (eqb k Dot && s .digit)) && not (eqb k LeftBrace && s .comma)))))
 by-kind s k h r c m =
     split (eqb k Eof) (λ e. let z = eqb-true k Eof e in rw (m (rw z), z))
@@ -91,8 +90,8 @@ mute-lexeme : (k : ℕ) (w : List ℕ) → mute k ≡ true → hasItsLexeme k w 
 unfolding hasItsLexeme
 mute-lexeme k w e = or-cases (eqb k Eof) (eqb k Newline || false) e (λ z. rw (eqb-true k Eof z)) (λ z. rw (eqb-true k Newline (or-cases (eqb k Newline) false z (λ y. y) impossible′)))
 
-fits-is : (q : PlainScan.Seen) (opened : Bool) (t : Token) → fits (seenOf q opened) (t .kind) (t .lexeme) ≡ clauses q opened t
-fits-is q opened t = rw (clause₄-is q opened t, clause₅-is q t) (by-kind (seenOf q opened) (t .kind) (clause₂ t) (readsWhole (t .lexeme)) (not (collides (seenOf q opened) (t .kind) (t .lexeme))) (mute-lexeme (t .kind) (t .lexeme)))
+fits-is : (q : PlainScan.Seen) (opened : Bool) (t : Token) → fits (factsAt q opened) (t .kind) (t .lexeme) ≡ clauses q opened t
+fits-is q opened t = rw (clause₄-is q opened t, clause₅-is q t) (by-kind (factsAt q opened) (t .kind) (clause₂ t) (readsWhole (t .lexeme)) (not (collides (factsAt q opened) (t .kind) (t .lexeme))) (mute-lexeme (t .kind) (t .lexeme)))
 
 -- ---- trivia rows
 
@@ -141,7 +140,7 @@ emptied : (next brace armed : Bool) → not (next && (brace && armed)) ≡ not (
 emptied next brace armed = ap not (and-comm next (brace && armed) ∙ and-assoc brace armed next)
 
 rows-plain : (text : List ℕ) (q : PlainScan.Seen) (opened : Bool) (b : Before) (i : ℕ) (rs : List Row) → badFrom (length text) b i rs ≡ none →
-    plainRows text (seenOf q opened) rs ≡ not (trails rs) && (not (nextIs RightBrace (tokensFrom text [] rs) && opened) && plainFrom q (tokensFrom text [] rs))
+    plainRows text (factsAt q opened) rs ≡ not (trails rs) && (not (nextIs RightBrace (tokensFrom text [] rs) && opened) && plainFrom q (tokensFrom text [] rs))
 unfolding plainRows tokensFrom plainFrom
 rows-plain text q opened b i [] e = refl
 rows-plain text q opened b i (r ∷ rs) e =

@@ -1,17 +1,31 @@
--- The plain mark over rows, in one pass, as the code takes it. proofs/Rows.antt shows that it is document 01's mark.
+-- The plain mark over rows, in one pass: the facts that its clauses ask for, and the state from which the code derives them.
+-- proofs/Rows.antt shows that the pass is document 01's mark.
 -- Assumes nothing.
 use mathlib.Core.Bool.{Bool, true, false, cond, not, _&&_, _||_}
 use mathlib.Core.List.{List, [], _∷_}
 use Prim.Native.Nat.{ℕ}
-use lib.Dec.{eqb}
-use Rattle.rows.specs.Kinds.{TokenRow, Eof, Newline, LeftBrace, RightBrace, LeftParen, RightParen, LeftBracket, RightBracket, Comma, Colon, Semicolon, Question, Dot, Hash, Bang, Minus, Record, oneOf}
+use lib.Dec.{eqb, ltb}
+use Rattle.rows.specs.Kinds.{TokenRow, Eof, Newline, LeftBrace, RightBrace, LeftParen, RightParen, LeftBracket, RightBracket, Comma, Semicolon, Question, Dot, Else, Record, oneOf}
 use Rattle.rows.specs.Row.{Row}
 use Rattle.rows.specs.Token.{bytesOf}
-use Rattle.push_token.specs.Plain.{hasItsLexeme, readsWhole, beginsOperator, endsOperator, beginsDigit, tightBefore, tightBehind}
+use Rattle.pieces.specs.Class.{class, digit, isWord}
+use Rattle.push_token.specs.Plain.{operatorByte, hasItsLexeme, readsWhole, beginsOperator, endsOperator, beginsDigit, tightBefore, tightBehind}
 use Rattle.plain.specs.declared.seen.Seen.{Seen}
 
+-- ---- what the clauses ask of the tokens before a token
+
+-- of the last token but Newline and Eof: its lexeme ends with an operator byte, its kind is one that no operator byte may follow directly, its lexeme begins with a digit;
+-- of all tokens: the last but Eof is a Comma, there is a Record and no `{` since, the last is the first `{` after a Record
+pub record Facts : Type 0 where
+  pub operator : Bool
+  pub tight : Bool
+  pub digit : Bool
+  pub comma : Bool
+  pub armed : Bool
+  pub opened : Bool
+
 -- before the first token
-abbrev pub unseen : Seen
+abbrev pub unseen : Facts
 unseen = record { operator = false; tight = false; digit = false; comma = false; armed = false; opened = false }
 
 -- Newline and Eof
@@ -21,45 +35,72 @@ mute k = oneOf (Eof ∷ Newline ∷ []) k
 -- ---- whether a token of the kind k and the lexeme w may come next
 
 -- clauses 5, 6 and 7
-abbrev pub forbids : Seen → ℕ → Bool
+abbrev pub forbids : Facts → ℕ → Bool
 forbids q k = cond (eqb k Dot) (q .digit) (cond (eqb k LeftBrace) (q .comma) (cond (eqb k RightBrace) (q .opened) false))
 
 -- clause 4
-abbrev pub collides : Seen → ℕ → List ℕ → Bool
+abbrev pub collides : Facts → ℕ → List ℕ → Bool
 collides q k w = q .operator && (beginsOperator w && (q .tight || tightBehind k))
 
-abbrev pub fits : Seen → ℕ → List ℕ → Bool
+abbrev pub fits : Facts → ℕ → List ℕ → Bool
 fits q k w = mute k || (not (forbids q k) && ((hasItsLexeme k w && readsWhole w) && not (collides q k w)))
 
 -- ---- what is seen behind it
 
-abbrev pub armedBehind : Seen → ℕ → Bool
-armedBehind q k = cond (eqb k Record) true (not (eqb k LeftBrace) && q .armed)
+abbrev pub armedBehind : Bool → ℕ → Bool
+armedBehind armed k = cond (eqb k Record) true (not (eqb k LeftBrace) && armed)
 
-abbrev pub opens : Seen → ℕ → Bool
+abbrev pub opens : Facts → ℕ → Bool
 opens q k = eqb k LeftBrace && q .armed
 
-abbrev pub behind : Seen → ℕ → List ℕ → Seen
+abbrev pub behind : Facts → ℕ → List ℕ → Facts
 behind q k w = record {
   operator = cond (mute k) (q .operator) (endsOperator w);
   tight = cond (mute k) (q .tight) (tightBefore k);
   digit = cond (mute k) (q .digit) (beginsDigit w);
   comma = cond (eqb k Eof) (q .comma) (eqb k Comma);
-  armed = armedBehind q k;
+  armed = armedBehind (q .armed) k;
   opened = opens q k;
 }
 
 -- ---- the pass
 
-unfoldable pub plainRows : List ℕ → Seen → List Row → Bool
+unfoldable pub plainRows : List ℕ → Facts → List Row → Bool
 plainRows text q [] = true
 plainRows text q (r ∷ rs) = eqb (r .what) TokenRow && (fits q (r .kind) (bytesOf text r) && plainRows text (behind q (r .kind) (bytesOf text r)) rs)
 
+-- ---- the facts, from the code's state
+
+abbrev pub factsOf : Seen → Facts
+factsOf s = record {
+  operator = operatorByte (s .tail);
+  tight = tightBefore (s .near);
+  digit = digit (s .head);
+  comma = eqb (s .last) Comma;
+  armed = s .armed;
+  opened = eqb (s .last) LeftBrace && s .first;
+}
+
+-- ---- runs of bytes
+
+abbrev pub all : (ℕ → Bool) → List ℕ → Bool
+all f [] = true
+all f (b ∷ w) = f b && all f w
+
+-- w has bytes, and all are in the set f
+abbrev pub runOf : (ℕ → Bool) → List ℕ → Bool
+runOf f [] = false
+runOf f (b ∷ w) = f b && all f w
+
+-- a kind above those with fixed lexemes, and a run of word bytes
+abbrev pub isName : ℕ → List ℕ → Bool
+isName k w = ltb Else k && runOf (λ b. isWord (class b)) w
+
 -- ---- lexemes of one byte
 
--- the byte of a kind whose lexeme is one byte, or 0
-unfoldable pub singleOf : ℕ → ℕ
-singleOf k =
+-- the byte of a kind whose lexeme is one byte, and no operator byte; or 0
+unfoldable pub bracketOf : ℕ → ℕ
+bracketOf k =
     cond (eqb k LeftBrace) 123
     (cond (eqb k RightBrace) 125
     (cond (eqb k LeftParen) 40
@@ -67,11 +108,6 @@ singleOf k =
     (cond (eqb k LeftBracket) 91
     (cond (eqb k RightBracket) 93
     (cond (eqb k Comma) 44
-    (cond (eqb k Colon) 58
     (cond (eqb k Semicolon) 59
     (cond (eqb k Question) 63
-    (cond (eqb k Dot) 46
-    (cond (eqb k Hash) 35
-    (cond (eqb k Bang) 33
-    (cond (eqb k Minus) 45
-    0)))))))))))))
+    0))))))))

@@ -1,29 +1,69 @@
-// A lexeme by itself: clauses 2 and 3, and the bytes at its ends.
+// A lexeme by itself: clauses 2 and 3, and its bytes.
 use pieces::Next;
 use pieces::next_piece;
 use rows::kinds;
 ghost use mathlib.Core.Bool.{_&&_};
 ghost use mathlib.Core.List.{[], _∷_};
 ghost use mathlib.Core.Path.{_≡_};
-ghost use Rattle.pieces.specs.Class.{digit};
-ghost use Rattle.push_token.specs.Plain.{sameBytes, operatorByte, hasItsLexeme, readsWhole, beginsOperator, endsOperator, beginsDigit};
-ghost use Rattle.plain.specs.Scan.{singleOf};
+ghost use Rattle.pieces.specs.Class.{class, digit, within, isWord};
+ghost use Rattle.push_token.specs.Plain.{sameBytes, operatorByte, hasItsLexeme, readsWhole, beginsOperator};
+ghost use Rattle.plain.specs.Scan.{bracketOf, isName, runOf};
+
+// Whether the kind has no fixed lexeme and the lexeme is a run of word bytes, which reads as one piece.
+pub fn is_name(kind: u32, lexeme: &[u8]) -> bool
+    ensures { λ r. ⌜ r ≡ isName kind (now (lexeme .entry)) ⌝ }
+{
+    if kind <= kinds::ELSE {
+        return false;
+    }
+    is_words(lexeme)
+}
+
+// The byte of a kind whose lexeme is one byte, and no operator byte; or 0.
+pub fn bracket_of(kind: u32) -> u8
+    ensures { λ r. ⌜ r ≡ bracketOf kind ⌝ }
+{
+    match kind {
+        kinds::LEFT_BRACE => b'{',
+        kinds::RIGHT_BRACE => b'}',
+        kinds::LEFT_PAREN => b'(',
+        kinds::RIGHT_PAREN => b')',
+        kinds::LEFT_BRACKET => b'[',
+        kinds::RIGHT_BRACKET => b']',
+        kinds::COMMA => b',',
+        kinds::SEMICOLON => b';',
+        kinds::QUESTION => b'?',
+        _ => 0,
+    }
+}
 
 // Whether the lexeme is its kind's, where that has a fixed one, and reads as one piece that is the whole of it.
+// Brackets are asked for before.
 pub fn is_itself(kind: u32, lexeme: &[u8]) -> bool
+    requires { ⌜ bracketOf kind ≡ 0 ⌝ }
     ensures { λ r. ⌜ r ≡ hasItsLexeme kind (now (lexeme .entry)) && readsWhole (now (lexeme .entry)) ⌝ }
 {
-    let single = single_of(kind);
-    if single != 0 {
-        return is_single(lexeme, single);
-    }
     match kind {
+        kinds::COLON => is_single(lexeme, b':'),
+        kinds::DOT => is_single(lexeme, b'.'),
         kinds::DOT_DOT => is_pair(lexeme, b'.'),
         kinds::COLON_COLON => is_pair(lexeme, b':'),
-        kinds::ELSE => is_else(lexeme),
+        kinds::HASH => is_single(lexeme, b'#'),
+        kinds::BANG => is_single(lexeme, b'!'),
         kinds::BANG_HASH => is_operators(lexeme),
+        kinds::MINUS => is_single(lexeme, b'-'),
+        kinds::ELSE => is_else(lexeme),
         _ => reads_whole(lexeme),
     }
+}
+
+pub fn is_single(lexeme: &[u8], b: u8) -> bool
+    ensures { λ r. ⌜ r ≡ sameBytes (now (lexeme .entry)) (b ∷ []) ⌝ }
+{
+    if lexeme.len() != 1 {
+        return false;
+    }
+    lexeme[0] == b
 }
 
 pub fn begins_operator(lexeme: &[u8]) -> bool
@@ -35,54 +75,98 @@ pub fn begins_operator(lexeme: &[u8]) -> bool
     is_operator(lexeme[0])
 }
 
-pub fn ends_operator(lexeme: &[u8]) -> bool
-    ensures { λ r. ⌜ r ≡ endsOperator (now (lexeme .entry)) ⌝ }
+pub fn is_digit(b: u8) -> bool
+    ensures { λ r. ⌜ r ≡ digit b ⌝ }
+{
+    if 48 <= b {
+        return b <= 57;
+    }
+    false
+}
+
+// The operator bytes below 64, and those of 64–127, as bits.
+const OPERATOR_LOW: u64 = 0x7400_ec7a_0000_0000;
+
+const OPERATOR_HIGH: u64 = 0x5000_0001_5000_0001;
+
+pub fn is_operator(b: u8) -> bool
+    ensures { λ r. ⌜ r ≡ operatorByte b ⌝ }
+{
+    let k = b as u32;
+    if k < 64 {
+        return (OPERATOR_LOW >> k) % 2 == 1;
+    }
+    if k < 128 {
+        let j = k - 64;
+        return (OPERATOR_HIGH >> j) % 2 == 1;
+    }
+    false
+}
+
+// The word bytes, in the same way.
+const WORD_LOW: u64 = 0x03ff_0000_0000_0000;
+
+const WORD_HIGH: u64 = 0x07ff_fffe_87ff_fffe;
+
+// Most are small letters: these are asked for first.
+fn is_word(b: u8) -> bool
+    ensures { λ r. ⌜ r ≡ isWord (class b) ⌝ }
+{
+    if is_small(b) {
+        return true;
+    }
+    let k = b as u32;
+    if k < 64 {
+        return (WORD_LOW >> k) % 2 == 1;
+    }
+    if k < 128 {
+        let j = k - 64;
+        return (WORD_HIGH >> j) % 2 == 1;
+    }
+    true
+}
+
+fn is_small(b: u8) -> bool
+    ensures { λ r. ⌜ r ≡ within 97 122 b ⌝ }
+{
+    if 97 <= b {
+        return b <= 122;
+    }
+    false
+}
+
+// Whether there are bytes, and all are word bytes.
+fn is_words(lexeme: &[u8]) -> bool
+    ensures { λ r. ⌜ r ≡ runOf (λ b. isWord (class b)) (now (lexeme .entry)) ⌝ }
 {
     if lexeme.len() == 0 {
         return false;
     }
-    is_operator(lexeme[lexeme.len() - 1])
+    let mut i = 0;
+    while i < lexeme.len() {
+        if !is_word(lexeme[i]) {
+            return false;
+        }
+        i += 1;
+    }
+    true
 }
 
-pub fn begins_digit(lexeme: &[u8]) -> bool
-    ensures { λ r. ⌜ r ≡ beginsDigit (now (lexeme .entry)) ⌝ }
+// Whether there are bytes, and all are operator bytes.
+fn is_operators(lexeme: &[u8]) -> bool
+    ensures { λ r. ⌜ r ≡ runOf operatorByte (now (lexeme .entry)) ⌝ }
 {
     if lexeme.len() == 0 {
         return false;
     }
-    is_digit(lexeme[0])
-}
-
-// The byte of a kind whose lexeme is one byte, or 0.
-fn single_of(kind: u32) -> u8
-    ensures { λ r. ⌜ r ≡ singleOf kind ⌝ }
-{
-    match kind {
-        kinds::LEFT_BRACE => b'{',
-        kinds::RIGHT_BRACE => b'}',
-        kinds::LEFT_PAREN => b'(',
-        kinds::RIGHT_PAREN => b')',
-        kinds::LEFT_BRACKET => b'[',
-        kinds::RIGHT_BRACKET => b']',
-        kinds::COMMA => b',',
-        kinds::COLON => b':',
-        kinds::SEMICOLON => b';',
-        kinds::QUESTION => b'?',
-        kinds::DOT => b'.',
-        kinds::HASH => b'#',
-        kinds::BANG => b'!',
-        kinds::MINUS => b'-',
-        _ => 0,
+    let mut i = 0;
+    while i < lexeme.len() {
+        if !is_operator(lexeme[i]) {
+            return false;
+        }
+        i += 1;
     }
-}
-
-fn is_single(lexeme: &[u8], b: u8) -> bool
-    ensures { λ r. ⌜ r ≡ sameBytes (now (lexeme .entry)) (b ∷ []) ⌝ }
-{
-    if lexeme.len() != 1 {
-        return false;
-    }
-    lexeme[0] == b
+    true
 }
 
 // The byte twice.
@@ -116,19 +200,13 @@ fn is_else(lexeme: &[u8]) -> bool
     lexeme[3] == b'e'
 }
 
-// One piece begun with an operator byte: it has no other bytes.
-fn is_operators(lexeme: &[u8]) -> bool
-    ensures { λ r. ⌜ r ≡ beginsOperator (now (lexeme .entry)) && readsWhole (now (lexeme .entry)) ⌝ }
-{
-    if !begins_operator(lexeme) {
-        return false;
-    }
-    reads_whole(lexeme)
-}
-
+// A run of operator bytes is one piece: it is asked for first, as the most frequent here.
 fn reads_whole(lexeme: &[u8]) -> bool
     ensures { λ r. ⌜ r ≡ readsWhole (now (lexeme .entry)) ⌝ }
 {
+    if is_operators(lexeme) {
+        return true;
+    }
     let next = next_piece(lexeme, 0);
     match next {
         Next::Piece(start, end) => {
@@ -140,32 +218,4 @@ fn reads_whole(lexeme: &[u8]) -> bool
         Next::End => false,
         Next::Unreadable(_) => false,
     }
-}
-
-// The operator bytes below 64, and those of 64–127, as bits.
-const OPERATOR_LOW: u64 = 0x7400_ec7a_0000_0000;
-
-const OPERATOR_HIGH: u64 = 0x5000_0001_5000_0001;
-
-fn is_operator(b: u8) -> bool
-    ensures { λ r. ⌜ r ≡ operatorByte b ⌝ }
-{
-    let k = b as u32;
-    if k < 64 {
-        return (OPERATOR_LOW >> k) % 2 == 1;
-    }
-    if k < 128 {
-        let j = k - 64;
-        return (OPERATOR_HIGH >> j) % 2 == 1;
-    }
-    false
-}
-
-fn is_digit(b: u8) -> bool
-    ensures { λ r. ⌜ r ≡ digit b ⌝ }
-{
-    if 48 <= b {
-        return b <= 57;
-    }
-    false
 }

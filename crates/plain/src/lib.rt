@@ -1,4 +1,5 @@
 // The plain mark (document 01), in one pass over rows that were checked.
+use crate::lexeme::is_name;
 use crate::seen::Seen;
 use rows::ROW_BYTES;
 use rows::kinds;
@@ -29,10 +30,15 @@ pub fn plain_mark(rows: &[u8], text: &[u8]) -> bool
         let start = row.start as usize;
         let end = row.end as usize;
         let lexeme = &text[start..end];
-        if !seen.fits(row.kind, lexeme) {
-            return false;
+        let kind = row.kind;
+        if is_name(kind, lexeme) {
+            seen = seen.behind_name(kind, lexeme); // it fits always
+        } else {
+            if !seen.fits(kind, lexeme) {
+                return false;
+            }
+            seen = seen.behind(kind, lexeme);
         }
-        seen = seen.behind(row.kind, lexeme);
         at += ROW_BYTES;
     }
     true

@@ -1,43 +1,45 @@
-// What the clauses of the plain mark ask of the tokens before a token.
-use crate::lexeme::begins_digit;
+// What is kept of the tokens before a token, and what the clauses of the plain mark make of it.
 use crate::lexeme::begins_operator;
-use crate::lexeme::ends_operator;
+use crate::lexeme::bracket_of;
+use crate::lexeme::is_digit;
 use crate::lexeme::is_itself;
+use crate::lexeme::is_operator;
+use crate::lexeme::is_single;
 use rows::kinds;
-ghost use mathlib.Core.List.{List};
+ghost use mathlib.Core.Bool.{true};
 ghost use mathlib.Core.Path.{_≡_};
-ghost use Prim.Native.Nat.{ℕ, _≤_};
 ghost use Rattle.push_token.specs.Plain.{tightBefore, tightBehind};
-ghost use Rattle.plain.specs.Scan.{unseen, fits, forbids, collides, behind, armedBehind, opens};
+ghost use Rattle.plain.specs.Scan.{unseen, fits, forbids, collides, behind, armedBehind, factsOf, isName};
 
+// Kinds and bytes as they came: a clause derives what it asks where it asks it.
 pub struct Seen {
     // of the last token but Newline and Eof
-    pub operator: bool, // its lexeme ends with an operator byte
-    pub tight: bool, // its kind is one that no operator byte may follow directly
-    pub digit: bool, // its lexeme begins with a digit
+    pub near: u32, // its kind
+    pub last: u32, // the kind of the last token but Eof
+    pub head: u8, // its first byte
+    pub tail: u8, // its last byte, or another that is as little an operator byte
     // of all tokens
-    pub comma: bool, // the last but Eof is a Comma
     pub armed: bool, // a Record, and no `{` since
-    pub opened: bool, // the last is the first `{` after a Record
+    pub first: bool, // where `last` is a `{`: it is the first after a Record, and the last token of all
 }
 
 impl Seen {
     pub fn new() -> Self
-        ensures { λ r. ⌜ r ≡ unseen ⌝ }
+        ensures { λ r. ⌜ factsOf r ≡ unseen ⌝ }
     {
         Self {
-            operator: false,
-            tight: false,
-            digit: false,
-            comma: false,
+            near: 0,
+            last: 0,
+            head: 0,
+            tail: 0,
             armed: false,
-            opened: false,
+            first: false,
         }
     }
 
     // Whether a token may come next.
     pub fn fits(self, kind: u32, lexeme: &[u8]) -> bool
-        ensures { λ r. ⌜ r ≡ fits self kind (now (lexeme .entry)) ⌝ }
+        ensures { λ r. ⌜ r ≡ fits (factsOf self) kind (now (lexeme .entry)) ⌝ }
     {
         if kind <= kinds::NEWLINE {
             return true;
@@ -45,107 +47,97 @@ impl Seen {
         if self.forbids(kind) {
             return false;
         }
+        let bracket = bracket_of(kind);
+        if bracket != 0 {
+            return is_single(lexeme, bracket);
+        }
         if !is_itself(kind, lexeme) {
             return false;
         }
         !self.collides(kind, lexeme)
     }
 
-    // What is seen behind that token. Each field is told by itself, so that the struct is made at one place.
-    pub fn behind(self, kind: u32, lexeme: &[u8]) -> Self
-        ensures { λ r. ⌜ r ≡ behind self kind (now (lexeme .entry)) ⌝ }
+    // What is seen behind a token that fits.
+    pub fn behind(mut self, kind: u32, lexeme: &[u8]) -> Self
+        requires { ⌜ fits (factsOf self) kind (now lexeme) ≡ true ⌝ }
+        ensures { λ r. ⌜ factsOf r ≡ behind (factsOf self) kind (now (lexeme .entry)) ⌝ }
     {
-        Self {
-            operator: self.operator_behind(kind, lexeme),
-            tight: self.tightness_behind(kind),
-            digit: self.digit_behind(kind, lexeme),
-            comma: self.comma_behind(kind),
-            armed: self.armed_behind(kind),
-            opened: self.opens(kind),
+        if kinds::NEWLINE < kind {
+            self.near = kind;
+            self.last = kind;
+            self.head = lexeme[0];
+            self.tail = lexeme[lexeme.len() - 1];
+            self.first = self.armed;
+            self.armed = armed_behind(self.armed, kind);
+        } else {
+            self.first = false;
+            if kind == kinds::NEWLINE {
+                self.last = kind;
+            }
         }
+        self
+    }
+
+    // The same behind a name, which always fits.
+    pub fn behind_name(mut self, kind: u32, lexeme: &[u8]) -> Self
+        requires { ⌜ isName kind (now lexeme) ≡ true ⌝ }
+        ensures { λ r. ⌜ factsOf r ≡ behind (factsOf self) kind (now (lexeme .entry)) ⌝ }
+    {
+        self.near = kind;
+        self.last = kind;
+        self.head = lexeme[0];
+        self.tail = b'A'; // it ends with a word byte: any will do
+        self.armed = armed_behind(self.armed, kind);
+        self
     }
 
     // Clauses 5, 6 and 7: a Dot behind a digit, a `{` behind a comma, a `}` that leaves a record empty.
     fn forbids(self, kind: u32) -> bool
-        ensures { λ r. ⌜ r ≡ forbids self kind ⌝ }
+        ensures { λ r. ⌜ r ≡ forbids (factsOf self) kind ⌝ }
     {
         match kind {
-            kinds::DOT => self.digit,
-            kinds::LEFT_BRACE => self.comma,
-            kinds::RIGHT_BRACE => self.opened,
+            kinds::DOT => is_digit(self.head),
+            kinds::LEFT_BRACE => self.last == kinds::COMMA,
+            kinds::RIGHT_BRACE => self.opened(),
             _ => false,
         }
     }
 
-    // Clause 4: two operator bytes would meet.
-    fn collides(self, kind: u32, lexeme: &[u8]) -> bool
-        ensures { λ r. ⌜ r ≡ collides self kind (now (lexeme .entry)) ⌝ }
+    // The last token is the first `{` after a Record.
+    fn opened(self) -> bool
+        ensures { λ r. ⌜ r ≡ factsOf self .opened ⌝ }
     {
-        if !self.operator {
+        if self.last != kinds::LEFT_BRACE {
             return false;
         }
+        self.first
+    }
+
+    // Clause 4: two operator bytes would meet.
+    fn collides(self, kind: u32, lexeme: &[u8]) -> bool
+        ensures { λ r. ⌜ r ≡ collides (factsOf self) kind (now (lexeme .entry)) ⌝ }
+    {
         if !begins_operator(lexeme) {
             return false;
         }
-        if self.tight {
+        if !is_operator(self.tail) {
+            return false;
+        }
+        if tight_before(self.near) {
             return true;
         }
         tight_behind(kind)
     }
+}
 
-    fn operator_behind(self, kind: u32, lexeme: &[u8]) -> bool
-        ensures { λ r. ⌜ r ≡ behind self kind (now (lexeme .entry)) .operator ⌝ }
-    {
-        if kind <= kinds::NEWLINE {
-            return self.operator;
-        }
-        ends_operator(lexeme)
-    }
-
-    fn tightness_behind(self, kind: u32) -> bool
-        ensures { λ r. ⌜ ((w : List ℕ) → r ≡ behind self kind w .tight) ⌝ }
-    {
-        if kind <= kinds::NEWLINE {
-            return self.tight;
-        }
-        tight_before(kind)
-    }
-
-    fn digit_behind(self, kind: u32, lexeme: &[u8]) -> bool
-        ensures { λ r. ⌜ r ≡ behind self kind (now (lexeme .entry)) .digit ⌝ }
-    {
-        if kind <= kinds::NEWLINE {
-            return self.digit;
-        }
-        begins_digit(lexeme)
-    }
-
-    fn comma_behind(self, kind: u32) -> bool
-        ensures { λ r. ⌜ ((w : List ℕ) → r ≡ behind self kind w .comma) ⌝ }
-    {
-        if kind == kinds::EOF {
-            return self.comma;
-        }
-        kind == kinds::COMMA
-    }
-
-    fn armed_behind(self, kind: u32) -> bool
-        ensures { λ r. ⌜ r ≡ armedBehind self kind ⌝ }
-    {
-        match kind {
-            kinds::RECORD => true,
-            kinds::LEFT_BRACE => false,
-            _ => self.armed,
-        }
-    }
-
-    fn opens(self, kind: u32) -> bool
-        ensures { λ r. ⌜ r ≡ opens self kind ⌝ }
-    {
-        if kind == kinds::LEFT_BRACE {
-            return self.armed;
-        }
-        false
+// Whether a Record has come, and no `{` since.
+fn armed_behind(armed: bool, kind: u32) -> bool
+    ensures { λ r. ⌜ r ≡ armedBehind armed kind ⌝ }
+{
+    match kind {
+        kinds::RECORD => true,
+        kinds::LEFT_BRACE => false,
+        _ => armed,
     }
 }
 

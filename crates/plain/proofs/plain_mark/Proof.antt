@@ -1,14 +1,17 @@
 -- `plain::plain_mark` meets its contract. Assumes nothing.
+use mathlib.Core.Logic.{⊎-elim}
+use mathlib.Core.Path.{sym, _∙_}
 use Prim.Native.Nat.{_-_}
 use lib.ListN.{length}
 use borrow.Author.Needs.{needs}
 use borrow.Author.Tests.{not-true, not-false}
-use Rattle.plain.proofs.Pass.{Left, start, inside, trivia, unfit, more, finished}
+use Rattle.plain.specs.Scan.{factsOf}
+use Rattle.plain.proofs.Pass.{Left, start, inside, trivia, unfit, more, more-name, finished}
 use Rattle.plain.proofs.plain_mark.Statement.{statement}
 use Rattle.plain.proofs.plain_mark.Tie as tie
 
 abbrev Inv-loop : tie.InvT-loop
-Inv-loop rows text seen₀ at₀ seen at = Left rows text seen at
+Inv-loop rows text seen₀ at₀ seen at = Left rows text (factsOf seen) at
 
 abbrev μ-loop : tie.MeasureT-loop
 μ-loop rows text seen₀ at₀ seen at = length rows - at
@@ -43,14 +46,20 @@ part-lexeme-start c = inside (c .before .before .before .before .before .before 
 part-lexeme-end : tie.Need-part-lexeme-end Inv-loop μ-loop
 part-lexeme-end c = inside (c .before .before .before .before .before .before .loop .inv) (search needs) (c .before .before .before .before .row-at .ensures) .within
 
+is-name-requires : tie.Need-is-name-requires Inv-loop μ-loop
+is-name-requires c κs = search needs
+
+behind-name-requires : tie.Need-behind-name-requires Inv-loop μ-loop
+behind-name-requires c κs = sym (c .before .is-name .ensures) ∙ c .if2 .taken
+
 fits-requires : tie.Need-fits-requires Inv-loop μ-loop
 fits-requires c κs = search needs
 
 returns-2 : tie.Need-returns-2 Inv-loop μ-loop
-returns-2 c = unfit (c .before .before .before .before .before .before .before .before .before .loop .inv) (search needs) (c .before .before .before .before .before .before .before .row-at .ensures) (c .before .before .before .before .before .if1 .left) (c .before .fits2 .ensures) (not-true _ (c .if2 .taken))
+returns-2 c = unfit (c .before .before .before .before .before .before .before .before .before .before .before .loop .inv) (search needs) (c .before .before .before .before .before .before .before .before .before .row-at .ensures) (c .before .before .before .before .before .before .before .if1 .left) (c .before .fits2 .ensures) (not-true _ (c .if3 .taken))
 
 behind-requires : tie.Need-behind-requires Inv-loop μ-loop
-behind-requires c κs = search needs
+behind-requires c κs = sym (c .before .fits2 .ensures) ∙ not-false _ (c .if3 .left)
 
 add-at : tie.Need-add-at Inv-loop μ-loop
 add-at c = search needs
@@ -59,7 +68,11 @@ loop-less : tie.Need-loop-less Inv-loop μ-loop
 loop-less c = search needs
 
 loop-again : tie.Need-loop-again Inv-loop μ-loop
-loop-again c = more (c .before .before .before .before .before .before .before .before .before .before .loop .inv) (search needs) (c .before .before .before .before .before .before .before .before .row-at .ensures) (c .before .before .before .before .before .before .if1 .left) (c .before .before .fits2 .ensures) (not-false _ (c .before .if2 .left)) (c .behind .ensures)
+loop-again c =
+    ⊎-elim
+    (λ w. rw (w .2) (more-name (c .before .before .before .before .before .before .before .before .before .loop .inv) (search needs) (c .before .before .before .before .before .before .before .row-at .ensures) (c .before .before .before .before .before .if1 .left) (c .before .is-name .ensures) (w .0 .taken) (w .1 .ensures)))
+    (λ w. rw (w .4) (more (c .before .before .before .before .before .before .before .before .before .loop .inv) (search needs) (c .before .before .before .before .before .before .before .row-at .ensures) (c .before .before .before .before .before .if1 .left) (w .1 .ensures) (not-false _ (w .2 .left)) (w .3 .ensures)))
+    (c .if2 .came)
 
 returns-3 : tie.Need-returns-3 Inv-loop μ-loop
 returns-3 c = finished (c .before .loop .inv) (search needs)
@@ -80,6 +93,8 @@ plain-mark-spec =
     sub-lexeme
     part-lexeme-start
     part-lexeme-end
+    is-name-requires
+    behind-name-requires
     fits-requires
     returns-2
     behind-requires

@@ -1,18 +1,15 @@
 -- `plain::lexeme::is_itself` meets its contract. Assumes nothing.
 use mathlib.Core.Path.{_∙_}
 use borrow.Author.Needs.{needs}
-use Rattle.plain.proofs.Fixed.{itself-single, itself-dots, itself-colons, itself-else, itself-operators, itself-other}
+use Rattle.plain.proofs.Fixed.{itself-colon, itself-dot, itself-dots, itself-colons, itself-hash, itself-bang, itself-operators, itself-minus, itself-else, itself-other}
 use Rattle.plain.proofs.lexeme.is_itself.Statement.{statement}
 use Rattle.plain.proofs.lexeme.is_itself.Tie as tie
-
-single-of-requires : tie.Need-single-of-requires
-single-of-requires c κs = search needs
 
 is-single-requires : tie.Need-is-single-requires
 is-single-requires c κs = search needs
 
-returns : tie.Need-returns
-returns c = c .is-single .ensures ∙ itself-single (c .before .before .before .before .args .kind) (c .before .before .before .before .args .lexeme .now) (c .before .before .single-of .ensures) (c .before .if1 .taken)
+is-single-requires-2 : tie.Need-is-single-requires-2
+is-single-requires-2 c κs = search needs
 
 is-pair-requires : tie.Need-is-pair-requires
 is-pair-requires c κs = search needs
@@ -20,44 +17,75 @@ is-pair-requires c κs = search needs
 is-pair-requires-2 : tie.Need-is-pair-requires-2
 is-pair-requires-2 c κs = search needs
 
-is-else-requires : tie.Need-is-else-requires
-is-else-requires c κs = search needs
+is-single-requires-3 : tie.Need-is-single-requires-3
+is-single-requires-3 c κs = search needs
+
+is-single-requires-4 : tie.Need-is-single-requires-4
+is-single-requires-4 c κs = search needs
 
 is-operators-requires : tie.Need-is-operators-requires
 is-operators-requires c κs = search needs
 
+is-single-requires-5 : tie.Need-is-single-requires-5
+is-single-requires-5 c κs = search needs
+
+is-else-requires : tie.Need-is-else-requires
+is-else-requires c κs = search needs
+
 reads-whole-requires : tie.Need-reads-whole-requires
 reads-whole-requires c κs = search needs
 
+returns : tie.Need-returns
+returns c = c .is-single .ensures ∙ itself-colon (c .before .before .before .args .lexeme .now) (c .before .match .keys1)
+
 returns-2 : tie.Need-returns-2
-returns-2 c = c .is-pair .ensures ∙ itself-dots (c .before .before .before .before .before .args .lexeme .now) (c .before .match .keys1)
+returns-2 c = c .is-single2 .ensures ∙ itself-dot (c .before .before .before .args .lexeme .now) (c .before .match .keys2)
 
 returns-3 : tie.Need-returns-3
-returns-3 c = c .is-pair2 .ensures ∙ itself-colons (c .before .before .before .before .before .args .lexeme .now) (c .before .match .keys2)
+returns-3 c = c .is-pair .ensures ∙ itself-dots (c .before .before .before .args .lexeme .now) (c .before .match .keys3)
 
 returns-4 : tie.Need-returns-4
-returns-4 c = c .is-else .ensures ∙ itself-else (c .before .before .before .before .before .args .lexeme .now) (c .before .match .keys3)
+returns-4 c = c .is-pair2 .ensures ∙ itself-colons (c .before .before .before .args .lexeme .now) (c .before .match .keys4)
 
 returns-5 : tie.Need-returns-5
-returns-5 c = c .is-operators .ensures ∙ itself-operators (c .before .before .before .before .before .args .lexeme .now) (c .before .match .keys4)
+returns-5 c = c .is-single3 .ensures ∙ itself-hash (c .before .before .before .args .lexeme .now) (c .before .match .keys5)
 
 returns-6 : tie.Need-returns-6
-returns-6 c = c .reads-whole .ensures ∙ itself-other (c .before .before .before .before .before .args .kind) (c .before .before .before .before .before .args .lexeme .now) (c .before .before .before .single-of .ensures) (c .before .before .if1 .left) (c .before .match .rest .0 .0 .0 .1) (c .before .match .rest .0 .0 .1) (c .before .match .rest .0 .1) (c .before .match .rest .1)
+returns-6 c = c .is-single4 .ensures ∙ itself-bang (c .before .before .before .args .lexeme .now) (c .before .match .keys6)
+
+returns-7 : tie.Need-returns-7
+returns-7 c = c .is-operators .ensures ∙ itself-operators (c .before .before .before .args .lexeme .now) (c .before .match .keys7)
+
+returns-8 : tie.Need-returns-8
+returns-8 c = c .is-single5 .ensures ∙ itself-minus (c .before .before .before .args .lexeme .now) (c .before .match .keys8)
+
+returns-9 : tie.Need-returns-9
+returns-9 c = c .is-else .ensures ∙ itself-else (c .before .before .before .args .lexeme .now) (c .before .match .keys9)
+
+returns-10 : tie.Need-returns-10
+returns-10 c = c .reads-whole .ensures ∙ itself-other (c .before .before .before .args .kind) (c .before .before .before .args .lexeme .now) (c .before .before .before .pre) (c .before .match .rest .0 .0 .0 .0 .0 .0 .0 .0 .1) (c .before .match .rest .0 .0 .0 .0 .0 .0 .0 .1) (c .before .match .rest .0 .0 .0 .0 .0 .0 .1) (c .before .match .rest .0 .0 .0 .0 .0 .1) (c .before .match .rest .0 .0 .0 .0 .1) (c .before .match .rest .0 .0 .0 .1) (c .before .match .rest .0 .0 .1) (c .before .match .rest .0 .1) (c .before .match .rest .1)
 
 pub is-itself-spec : {M : Type 1} → statement M
 is-itself-spec =
     tie.close
     (tie.spec
-    single-of-requires
     is-single-requires
-    returns
+    is-single-requires-2
     is-pair-requires
     is-pair-requires-2
-    is-else-requires
+    is-single-requires-3
+    is-single-requires-4
     is-operators-requires
+    is-single-requires-5
+    is-else-requires
     reads-whole-requires
+    returns
     returns-2
     returns-3
     returns-4
     returns-5
-    returns-6)
+    returns-6
+    returns-7
+    returns-8
+    returns-9
+    returns-10)

@@ -1,38 +1,40 @@
 -- `plain::seen::Seen::behind` meets its contract. Assumes nothing.
-use Rattle.plain.proofs.Tests.{behind-same}
+use native.Mathlib.Omega.{arith}
 use borrow.Author.Needs.{needs}
+use Rattle.plain.specs.Scan.{factsOf}
+use Rattle.plain.proofs.Tests.{fits-some, behind-written, behind-newline, behind-eof}
 use Rattle.plain.proofs.seen.Seen.behind.Statement.{statement}
 use Rattle.plain.proofs.seen.Seen.behind.Tie as tie
 
-operator-behind-requires : tie.Need-operator-behind-requires
-operator-behind-requires c κs = search needs
+shared-slice-read-self : tie.Need-shared-slice-read-self
+shared-slice-read-self c = let n = fits-some (factsOf (c .before .before .before .args .self)) (c .before .before .before .args .kind) (c .before .before .before .args .lexeme .now) (c .before .if1 .taken) (c .before .before .before .pre) in search needs
 
-tightness-behind-requires : tie.Need-tightness-behind-requires
-tightness-behind-requires c κs = search needs
+sub-self : tie.Need-sub-self
+sub-self c = let n = fits-some (factsOf (c .before .before .before .args .self)) (c .before .before .before .args .kind) (c .before .before .before .args .lexeme .now) (c .before .if1 .taken) (c .before .before .before .pre) in search needs
 
-digit-behind-requires : tie.Need-digit-behind-requires
-digit-behind-requires c κs = search needs
-
-comma-behind-requires : tie.Need-comma-behind-requires
-comma-behind-requires c κs = search needs
+shared-slice-read-self-2 : tie.Need-shared-slice-read-self-2
+shared-slice-read-self-2 c = let n = fits-some (factsOf (c .before .before .before .before .args .self)) (c .before .before .before .before .args .kind) (c .before .before .before .before .args .lexeme .now) (c .before .before .if1 .taken) (c .before .before .before .before .pre) in search needs
 
 armed-behind-requires : tie.Need-armed-behind-requires
 armed-behind-requires c κs = search needs
 
-opens-requires : tie.Need-opens-requires
-opens-requires c κs = search needs
-
 returns : tie.Need-returns
-returns c = behind-same (c .before .before .before .before .before .before .before .args .self) (c .before .before .before .before .before .before .before .args .kind) (c .before .before .before .before .before .before .before .args .lexeme .now) (c .before .before .before .before .before .operator-behind .ensures) (c .before .before .before .before .tightness-behind .ensures (c .before .before .before .before .before .before .before .args .lexeme .now)) (c .before .before .before .digit-behind .ensures) (c .before .before .comma-behind .ensures (c .before .before .before .before .before .before .before .args .lexeme .now)) (c .before .armed-behind .ensures) (c .opens .ensures)
+returns c = behind-written (c .before .before .before .before .before .args .self) (c .before .before .before .before .before .args .kind) (c .before .before .before .before .before .args .lexeme .now) (c .before .before .before .if1 .taken) (fits-some (factsOf (c .before .before .before .before .before .args .self)) (c .before .before .before .before .before .args .kind) (c .before .before .before .before .before .args .lexeme .now) (c .before .before .before .if1 .taken) (c .before .before .before .before .before .pre)) (c .armed-behind .ensures)
+
+returns-2 : tie.Need-returns-2
+returns-2 c = behind-newline (c .before .before .before .args .self) (c .before .before .before .args .kind) (c .before .before .before .args .lexeme .now) (c .if2 .taken)
+
+returns-3 : tie.Need-returns-3
+returns-3 c = behind-eof (c .before .before .before .args .self) (c .before .before .before .args .kind) (c .before .before .before .args .lexeme .now) (search needs)
 
 pub behind-spec : {M : Type 1} → statement M
 behind-spec =
     tie.close
     (tie.spec
-    operator-behind-requires
-    tightness-behind-requires
-    digit-behind-requires
-    comma-behind-requires
+    shared-slice-read-self
+    sub-self
+    shared-slice-read-self-2
     armed-behind-requires
-    opens-requires
-    returns)
+    returns
+    returns-2
+    returns-3)

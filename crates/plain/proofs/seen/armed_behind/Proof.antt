@@ -1,7 +1,7 @@
--- `plain::seen::Seen::armed_behind` meets its contract. Assumes nothing.
+-- `plain::seen::armed_behind` meets its contract. Assumes nothing.
 use borrow.Author.Tests.{ne-eqb}
-use Rattle.plain.proofs.seen.Seen.armed_behind.Statement.{statement}
-use Rattle.plain.proofs.seen.Seen.armed_behind.Tie as tie
+use Rattle.plain.proofs.seen.armed_behind.Statement.{statement}
+use Rattle.plain.proofs.seen.armed_behind.Tie as tie
 
 returns : tie.Need-returns
 returns c = rw (c .match .keys1)

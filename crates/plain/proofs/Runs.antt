@@ -1,0 +1,122 @@
+-- Runs of bytes of one set: counted off by the loops, and read as one piece. Assumes nothing.
+use mathlib.Core.Bool.{Bool, true, false, cond, _&&_}
+use mathlib.Core.List.{List, [], _∷_}
+use mathlib.Core.Path.{_≡_, refl, sym, _∙_}
+use Prim.Native.Nat.{ℕ, suc, _+_, _≤_, _<_}
+use native.Mathlib.Nat.{add-zero, add-suc, suc-add}
+use native.Mathlib.Numerals.{add-one}
+use native.Mathlib.Omega.{arith}
+use lib.Dec.{eqb}
+use lib.ListN.{length, getD, drop, drop-of-length-le}
+use lib.Seq.{drop-cons}
+use borrow.Author.Tests.{eq-eqb}
+use Rattle.report.proofs.Logic.{split, impossible′, and-left, and-right}
+use Rattle.report.proofs.Below.{agree-below}
+use Rattle.pieces.specs.declared.bytes.Class.{Class}
+use Rattle.pieces.specs.declared.bytes.Class.the-variants.{Gap, Single, Quote, Word, Operator, Unclassed}
+use Rattle.pieces.specs.Class.{class, digit, within, isWord, isOperator}
+use Rattle.pieces.specs.Reading.{done, piece, Kind, word, number, operator, inside, takes, join, opens, begin, peek, read}
+use Rattle.pieces.proofs.Sets.{word-of, operator-of}
+use Rattle.pieces.proofs.Whole.{Solid}
+use Rattle.push_token.specs.Plain.{operatorByte, onlyOperators, readsWhole, beginsOperator, endsOperator}
+use Rattle.plain.specs.Scan.{all, runOf}
+
+-- ---- the loops
+
+module _ (f : ℕ → Bool) (w : List ℕ) where
+  pub run-empty : length w ≡ 0 → false ≡ runOf f w
+  run-empty h = go w h
+    where
+      go : (w : List ℕ) → length w ≡ 0 → false ≡ runOf f w
+      go [] h = refl
+      go (b ∷ w) h = absurd (omega arith)
+
+  pub run-start : (length w ≡ 0 → ⊥) → runOf f w ≡ all f (drop 0 w)
+  run-start n = go w n
+    where
+      go : (w : List ℕ) → (length w ≡ 0 → ⊥) → runOf f w ≡ all f w
+      go [] n = absurd (n refl)
+      go (b ∷ w) n = refl
+
+  module _ (i : ℕ) (e : runOf f w ≡ all f (drop i w)) where
+    module _ (h : i < length w) where
+      here : drop i w ≡ getD w i 0 ∷ drop (i + 1) w
+      here = rw (add-one i) (drop-cons w i 0 h)
+
+      pub run-more : f (getD w i 0) ≡ true → runOf f w ≡ all f (drop (i + 1) w)
+      run-more t = e ∙ rw (here, t)
+
+      pub run-stop : f (getD w i 0) ≡ false → false ≡ runOf f w
+      run-stop t = sym (e ∙ rw (here, t))
+
+    pub run-out : length w ≤ i → true ≡ runOf f w
+    run-out h = sym (e ∙ rw (drop-of-length-le w h))
+
+-- ---- what is known of a run
+
+pub run-some : (f : ℕ → Bool) (w : List ℕ) → runOf f w ≡ true → length w ≡ 0 → ⊥
+run-some f [] e h = impossible′ e
+run-some f (b ∷ w) e h = omega arith
+
+-- ---- read
+
+-- a kind of piece that takes the bytes of a set
+module _ (k : Kind) (f : ℕ → Bool) (taken : (b p : ℕ) → f b ≡ true → join (inside k) b p ≡ takes k) (solid : Solid k) where
+  goes-on : (w : List ℕ) (s i : ℕ) → all f w ≡ true → read w (inside k) s i ≡ piece s (i + length w) done
+  unfolding read
+  goes-on [] s i e = solid s i done ∙ rw add-zero
+  goes-on (b ∷ w) s i e = rw (taken b (peek w) (and-left (f b) (all f w) e), add-suc, ← suc-add) (goes-on w s (suc i) (and-right (f b) (all f w) e))
+
+  whole : (b : ℕ) (w : List ℕ) → begin (class b) b ≡ opens k → all f w ≡ true → readsWhole (b ∷ w) ≡ true
+  unfolding readsWhole read
+  whole b w o e = rw (o, goes-on w 0 1 e) (eq-eqb (1 + length w) (suc (length w)) (omega arith))
+
+abbrev isWordByte : ℕ → Bool
+isWordByte b = isWord (class b)
+
+-- the first byte and the others
+module _ (f : ℕ → Bool) (b : ℕ) (w : List ℕ) (e : runOf f (b ∷ w) ≡ true) where
+  first : f b ≡ true
+  first = and-left (f b) (all f w) e
+
+  others : all f w ≡ true
+  others = and-right (f b) (all f w) e
+
+pub words-whole : (w : List ℕ) → runOf isWordByte w ≡ true → readsWhole w ≡ true
+words-whole [] e = impossible′ e
+words-whole (b ∷ w) e =
+    let c = word-of (class b) (first isWordByte b w e) in
+    let o = others isWordByte b w e in
+    split (digit b)
+    (λ d. whole number isWordByte (λ b p h. rw (word-of (class b) h)) (λ s i r. refl) b w (rw (c, d)) o)
+    (λ d. whole word isWordByte (λ b p h. rw h) (λ s i r. refl) b w (rw (c, d)) o)
+
+pub operators-whole : (w : List ℕ) → runOf operatorByte w ≡ true → readsWhole w ≡ true
+operators-whole [] e = impossible′ e
+operators-whole (b ∷ w) e =
+    whole operator operatorByte (λ b p h. rw h) (λ s i r. refl) b w (rw (operator-of (class b) (first operatorByte b w e))) (others operatorByte b w e)
+
+-- ---- no word byte is an operator byte
+
+apart : (c : Class) → isWord c ≡ true → isOperator c ≡ false
+apart Gap e = refl
+apart Single e = refl
+apart Quote e = refl
+apart Word e = refl
+apart Operator e = impossible′ e
+apart Unclassed e = refl
+
+pub words-begin : (w : List ℕ) → runOf isWordByte w ≡ true → beginsOperator w ≡ false
+words-begin [] e = refl
+words-begin (b ∷ w) e = apart (class b) (first isWordByte b w e)
+
+pub words-end : (w : List ℕ) → runOf isWordByte w ≡ true → endsOperator w ≡ false
+words-end [] e = refl
+words-end (b ∷ []) e = apart (class b) (first isWordByte b [] e)
+words-end (b ∷ c ∷ w) e = words-end (c ∷ w) (others isWordByte b (c ∷ w) e)
+
+-- ---- small letters are word bytes
+
+pub small-word : (b : ℕ) → b < 256 → within 97 122 b ≡ true → isWord (class b) ≡ true
+unfolding class
+small-word b h e = and-right (within 97 122 b) (isWord (class b)) (agree-below 256 (λ b. within 97 122 b && isWord (class b)) (within 97 122) refl b h ∙ e)
