@@ -6,7 +6,7 @@ use Prim.Native.Nat.{ℕ, _<_}
 use native.Mathlib.Omega.{arith}
 use lib.Dec.{eqb}
 use borrow.Author.Tests.{eqb-true, ne-eqb}
-use Rattle.report.proofs.Logic.{split, impossible′}
+use Rattle.report.proofs.Logic.{split}
 use Rattle.rows.specs.Kinds.{LeftBrace, RightBrace, LeftParen, RightParen, LeftBracket, RightBracket, Comma, Colon, Semicolon, Question, Dot, DotDot, ColonColon, Hash, Bang, BangHash, Minus, Else}
 use Rattle.pieces.specs.Class.{class}
 use Rattle.pieces.specs.Reading.{read}
@@ -74,38 +74,8 @@ module _ (k : ℕ) (w : List ℕ) {b : ℕ} (e : b ≡ bracketOf k) where
   pub bracket-begins : sameBytes w (b ∷ []) ≡ true → beginsOperator w ≡ false
   bracket-begins s = rw (same-eq w (b ∷ []) s) (byte .begins)
 
-module _ {k : ℕ} (w : List ℕ) where
-  pub itself-colon : k ≡ Colon → sameBytes w (58 ∷ []) ≡ itself k w
-  unfolding hasItsLexeme readsWhole read class
-  itself-colon e = rw e (fixed w (58 ∷ []) refl)
-
-  pub itself-dot : k ≡ Dot → sameBytes w (46 ∷ []) ≡ itself k w
-  unfolding hasItsLexeme readsWhole read class
-  itself-dot e = rw e (fixed w (46 ∷ []) refl)
-
-  pub itself-dots : k ≡ DotDot → sameBytes w (46 ∷ 46 ∷ []) ≡ itself k w
-  unfolding hasItsLexeme readsWhole read class
-  itself-dots e = rw e (fixed w (46 ∷ 46 ∷ []) refl)
-
-  pub itself-colons : k ≡ ColonColon → sameBytes w (58 ∷ 58 ∷ []) ≡ itself k w
-  unfolding hasItsLexeme readsWhole read class
-  itself-colons e = rw e (fixed w (58 ∷ 58 ∷ []) refl)
-
-  pub itself-hash : k ≡ Hash → sameBytes w (35 ∷ []) ≡ itself k w
-  unfolding hasItsLexeme readsWhole read class
-  itself-hash e = rw e (fixed w (35 ∷ []) refl)
-
-  pub itself-bang : k ≡ Bang → sameBytes w (33 ∷ []) ≡ itself k w
-  unfolding hasItsLexeme readsWhole read class
-  itself-bang e = rw e (fixed w (33 ∷ []) refl)
-
-  pub itself-minus : k ≡ Minus → sameBytes w (45 ∷ []) ≡ itself k w
-  unfolding hasItsLexeme readsWhole read class
-  itself-minus e = rw e (fixed w (45 ∷ []) refl)
-
-  pub itself-else : k ≡ Else → sameBytes w (101 ∷ 108 ∷ 115 ∷ 101 ∷ []) ≡ itself k w
-  unfolding hasItsLexeme readsWhole read class
-  itself-else e = rw e (fixed w (101 ∷ 108 ∷ 115 ∷ 101 ∷ []) refl)
+pub itself-fixed : {k : ℕ} (j : ℕ) (w v : List ℕ) → k ≡ j → hasItsLexeme j w ≡ sameBytes w v → readsWhole v ≡ true → sameBytes w v ≡ itself k w
+itself-fixed j w v e h r = rw (e, h) (fixed w v r)
 
 -- a BangHash is a run of operator bytes, which is one piece
 only : (w : List ℕ) → onlyOperators w ≡ all operatorByte w

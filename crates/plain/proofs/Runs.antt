@@ -1,5 +1,5 @@
 -- Runs of bytes of one set: counted off by the loops, and read as one piece. Assumes nothing.
-use mathlib.Core.Bool.{Bool, true, false, cond, _&&_}
+use mathlib.Core.Bool.{Bool, true, false, _&&_}
 use mathlib.Core.List.{List, [], _∷_}
 use mathlib.Core.Path.{_≡_, refl, sym, _∙_}
 use Prim.Native.Nat.{ℕ, suc, _+_, _≤_, _<_}
@@ -18,41 +18,33 @@ use Rattle.pieces.specs.Class.{class, digit, within, isWord, isOperator}
 use Rattle.pieces.specs.Reading.{done, piece, Kind, word, number, operator, inside, takes, join, opens, begin, peek, read}
 use Rattle.pieces.proofs.Sets.{word-of, operator-of}
 use Rattle.pieces.proofs.Whole.{Solid}
-use Rattle.push_token.specs.Plain.{operatorByte, onlyOperators, readsWhole, beginsOperator, endsOperator}
-use Rattle.plain.specs.Scan.{all, runOf}
+use Rattle.push_token.specs.Plain.{operatorByte, readsWhole, beginsOperator, endsOperator}
+use Rattle.plain.specs.Scan.{isWordByte, all, runOf}
 
 -- ---- the loops
 
-module _ (f : ℕ → Bool) (w : List ℕ) where
-  pub run-empty : length w ≡ 0 → false ≡ runOf f w
-  run-empty h = go w h
-    where
-      go : (w : List ℕ) → length w ≡ 0 → false ≡ runOf f w
-      go [] h = refl
-      go (b ∷ w) h = absurd (omega arith)
+pub run-empty : (f : ℕ → Bool) (w : List ℕ) → length w ≡ 0 → false ≡ runOf f w
+run-empty f [] h = refl
+run-empty f (b ∷ w) h = absurd (omega arith)
 
-  pub run-start : (length w ≡ 0 → ⊥) → runOf f w ≡ all f (drop 0 w)
-  run-start n = go w n
-    where
-      go : (w : List ℕ) → (length w ≡ 0 → ⊥) → runOf f w ≡ all f w
-      go [] n = absurd (n refl)
-      go (b ∷ w) n = refl
+pub run-start : (f : ℕ → Bool) (w : List ℕ) → (length w ≡ 0 → ⊥) → runOf f w ≡ all f (drop 0 w)
+run-start f [] n = absurd (n refl)
+run-start f (b ∷ w) n = refl
 
-  module _ (i : ℕ) (e : runOf f w ≡ all f (drop i w)) where
-    module _ (h : i < length w) where
-      here : drop i w ≡ getD w i 0 ∷ drop (i + 1) w
-      here = rw (add-one i) (drop-cons w i 0 h)
+-- at the loop's head
+module _ (f : ℕ → Bool) (w : List ℕ) (i : ℕ) (e : runOf f w ≡ all f (drop i w)) where
+  module _ (h : i < length w) where
+    here : drop i w ≡ getD w i 0 ∷ drop (i + 1) w
+    here = rw (add-one i) (drop-cons w i 0 h)
 
-      pub run-more : f (getD w i 0) ≡ true → runOf f w ≡ all f (drop (i + 1) w)
-      run-more t = e ∙ rw (here, t)
+    pub run-more : f (getD w i 0) ≡ true → runOf f w ≡ all f (drop (i + 1) w)
+    run-more t = e ∙ rw (here, t)
 
-      pub run-stop : f (getD w i 0) ≡ false → false ≡ runOf f w
-      run-stop t = sym (e ∙ rw (here, t))
+    pub run-stop : f (getD w i 0) ≡ false → false ≡ runOf f w
+    run-stop t = sym (e ∙ rw (here, t))
 
-    pub run-out : length w ≤ i → true ≡ runOf f w
-    run-out h = sym (e ∙ rw (drop-of-length-le w h))
-
--- ---- what is known of a run
+  pub run-out : length w ≤ i → true ≡ runOf f w
+  run-out h = sym (e ∙ rw (drop-of-length-le w h))
 
 pub run-some : (f : ℕ → Bool) (w : List ℕ) → runOf f w ≡ true → length w ≡ 0 → ⊥
 run-some f [] e h = impossible′ e
@@ -70,9 +62,6 @@ module _ (k : Kind) (f : ℕ → Bool) (taken : (b p : ℕ) → f b ≡ true →
   whole : (b : ℕ) (w : List ℕ) → begin (class b) b ≡ opens k → all f w ≡ true → readsWhole (b ∷ w) ≡ true
   unfolding readsWhole read
   whole b w o e = rw (o, goes-on w 0 1 e) (eq-eqb (1 + length w) (suc (length w)) (omega arith))
-
-abbrev isWordByte : ℕ → Bool
-isWordByte b = isWord (class b)
 
 -- the first byte and the others
 module _ (f : ℕ → Bool) (b : ℕ) (w : List ℕ) (e : runOf f (b ∷ w) ≡ true) where

@@ -10,11 +10,11 @@ use borrow.Author.Tests.{eqb-false, ne-eqb, ltb-true, leb-true, leb-false, le-le
 use Rattle.report.proofs.Logic.{split, impossible′, and-left, and-right}
 use Rattle.report.proofs.Below.{agree-below}
 use Rattle.rows.specs.Kinds.{Eof, Newline, LeftBrace, RightBrace, Dot, DotDot, ColonColon, Hash, Bang, BangHash, Minus, Else}
-use Rattle.pieces.specs.Class.{class, isWord}
+use Rattle.pieces.specs.Class.{class}
 use Rattle.pieces.specs.Reading.{read}
 use Rattle.push_token.specs.Plain.{sameBytes, operatorByte, hasItsLexeme, readsWhole, tightBefore}
 use Rattle.plain.specs.declared.seen.Seen.{Seen}
-use Rattle.plain.specs.Scan.{Facts, mute, forbids, collides, fits, armedBehind, behind, factsOf, runOf, isName, bracketOf}
+use Rattle.plain.specs.Scan.{Facts, mute, forbids, collides, fits, armedBehind, behind, factsOf, isWordByte, runOf, isName, bracketOf}
 use Rattle.plain.proofs.Bytes.{digit-first, operator-last}
 use Rattle.plain.proofs.Runs.{run-some, words-whole, words-begin, words-end}
 use Rattle.plain.proofs.Fixed.{itself-bracket, bracket-begins, above-free}
@@ -61,7 +61,7 @@ fits-bracket q k w h f {b} e n =
 -- a name
 module _ (k : ℕ) (w : List ℕ) (e : isName k w ≡ true) where
   abbrev isWords : Bool
-  isWords = runOf (λ b. isWord (class b)) w
+  isWords = runOf isWordByte w
 
   above : Else < k
   above = ltb-true Else k (and-left (ltb Else k) isWords e)
@@ -73,7 +73,7 @@ module _ (k : ℕ) (w : List ℕ) (e : isName k w ≡ true) where
   run = and-right (ltb Else k) isWords e
 
   pub name-some : length w ≡ 0 → ⊥
-  name-some = run-some (λ b. isWord (class b)) w run
+  name-some = run-some isWordByte w run
 
   pub name-fits : (q : Facts) → true ≡ fits q k w
   name-fits q = sym (rw (not-kind Eof (omega arith), not-kind Newline (omega arith), not-kind Dot (omega arith), not-kind LeftBrace (omega arith), not-kind RightBrace (omega arith), above-free k w above, words-whole w run, words-begin w run, and-false (q .operator)))

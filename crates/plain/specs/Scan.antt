@@ -83,6 +83,9 @@ factsOf s = record {
 
 -- ---- runs of bytes
 
+abbrev pub isWordByte : ℕ → Bool
+isWordByte b = isWord (class b)
+
 abbrev pub all : (ℕ → Bool) → List ℕ → Bool
 all f [] = true
 all f (b ∷ w) = f b && all f w
@@ -94,7 +97,7 @@ runOf f (b ∷ w) = f b && all f w
 
 -- a kind above those with fixed lexemes, and a run of word bytes
 abbrev pub isName : ℕ → List ℕ → Bool
-isName k w = ltb Else k && runOf (λ b. isWord (class b)) w
+isName k w = ltb Else k && runOf isWordByte w
 
 -- ---- lexemes of one byte
 

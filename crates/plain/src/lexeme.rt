@@ -5,9 +5,9 @@ use rows::kinds;
 ghost use mathlib.Core.Bool.{_&&_};
 ghost use mathlib.Core.List.{[], _∷_};
 ghost use mathlib.Core.Path.{_≡_};
-ghost use Rattle.pieces.specs.Class.{class, digit, within, isWord};
+ghost use Rattle.pieces.specs.Class.{digit, within};
 ghost use Rattle.push_token.specs.Plain.{sameBytes, operatorByte, hasItsLexeme, readsWhole, beginsOperator};
-ghost use Rattle.plain.specs.Scan.{bracketOf, isName, runOf};
+ghost use Rattle.plain.specs.Scan.{bracketOf, isName, isWordByte, runOf};
 
 // Whether the kind has no fixed lexeme and the lexeme is a run of word bytes, which reads as one piece.
 pub fn is_name(kind: u32, lexeme: &[u8]) -> bool
@@ -110,7 +110,7 @@ const WORD_HIGH: u64 = 0x07ff_fffe_87ff_fffe;
 
 // Most are small letters: these are asked for first.
 fn is_word(b: u8) -> bool
-    ensures { λ r. ⌜ r ≡ isWord (class b) ⌝ }
+    ensures { λ r. ⌜ r ≡ isWordByte b ⌝ }
 {
     if is_small(b) {
         return true;
@@ -137,7 +137,7 @@ fn is_small(b: u8) -> bool
 
 // Whether there are bytes, and all are word bytes.
 fn is_words(lexeme: &[u8]) -> bool
-    ensures { λ r. ⌜ r ≡ runOf (λ b. isWord (class b)) (now (lexeme .entry)) ⌝ }
+    ensures { λ r. ⌜ r ≡ runOf isWordByte (now (lexeme .entry)) ⌝ }
 {
     if lexeme.len() == 0 {
         return false;

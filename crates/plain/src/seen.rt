@@ -13,14 +13,12 @@ ghost use Rattle.plain.specs.Scan.{unseen, fits, forbids, collides, behi
 
 // Kinds and bytes as they came: a clause derives what it asks where it asks it.
 pub struct Seen {
-    // of the last token but Newline and Eof
-    pub near: u32, // its kind
+    pub near: u32, // the kind of the last token but Newline and Eof
     pub last: u32, // the kind of the last token but Eof
-    pub head: u8, // its first byte
-    pub tail: u8, // its last byte, or another that is as little an operator byte
-    // of all tokens
+    pub head: u8, // the first byte of the last lexeme but those of Newline and Eof
+    pub tail: u8, // its last byte; behind a name, any word byte
     pub armed: bool, // a Record, and no `{` since
-    pub first: bool, // where `last` is a `{`: it is the first after a Record, and the last token of all
+    pub first: bool, // tells where `last` is a `{`: it is the first after a Record, and no Eof is behind it
 }
 
 impl Seen {

@@ -1,7 +1,12 @@
 -- `plain::lexeme::is_itself` meets its contract. Assumes nothing.
-use mathlib.Core.Path.{_∙_}
+use mathlib.Core.List.{[], _∷_}
+use mathlib.Core.Path.{refl, _∙_}
 use borrow.Author.Needs.{needs}
-use Rattle.plain.proofs.Fixed.{itself-colon, itself-dot, itself-dots, itself-colons, itself-hash, itself-bang, itself-operators, itself-minus, itself-else, itself-other}
+use Rattle.rows.specs.Kinds.{Colon, Dot, DotDot, ColonColon, Hash, Bang, Minus, Else}
+use Rattle.pieces.specs.Class.{class}
+use Rattle.pieces.specs.Reading.{read}
+use Rattle.push_token.specs.Plain.{hasItsLexeme, readsWhole}
+use Rattle.plain.proofs.Fixed.{itself-fixed, itself-operators, itself-other}
 use Rattle.plain.proofs.lexeme.is_itself.Statement.{statement}
 use Rattle.plain.proofs.lexeme.is_itself.Tie as tie
 
@@ -36,31 +41,39 @@ reads-whole-requires : tie.Need-reads-whole-requires
 reads-whole-requires c κs = search needs
 
 returns : tie.Need-returns
-returns c = c .is-single .ensures ∙ itself-colon (c .before .before .before .args .lexeme .now) (c .before .match .keys1)
+unfolding hasItsLexeme readsWhole read class
+returns c = c .is-single .ensures ∙ itself-fixed Colon (c .before .before .before .args .lexeme .now) (58 ∷ []) (c .before .match .keys1) refl refl
 
 returns-2 : tie.Need-returns-2
-returns-2 c = c .is-single2 .ensures ∙ itself-dot (c .before .before .before .args .lexeme .now) (c .before .match .keys2)
+unfolding hasItsLexeme readsWhole read class
+returns-2 c = c .is-single2 .ensures ∙ itself-fixed Dot (c .before .before .before .args .lexeme .now) (46 ∷ []) (c .before .match .keys2) refl refl
 
 returns-3 : tie.Need-returns-3
-returns-3 c = c .is-pair .ensures ∙ itself-dots (c .before .before .before .args .lexeme .now) (c .before .match .keys3)
+unfolding hasItsLexeme readsWhole read class
+returns-3 c = c .is-pair .ensures ∙ itself-fixed DotDot (c .before .before .before .args .lexeme .now) (46 ∷ 46 ∷ []) (c .before .match .keys3) refl refl
 
 returns-4 : tie.Need-returns-4
-returns-4 c = c .is-pair2 .ensures ∙ itself-colons (c .before .before .before .args .lexeme .now) (c .before .match .keys4)
+unfolding hasItsLexeme readsWhole read class
+returns-4 c = c .is-pair2 .ensures ∙ itself-fixed ColonColon (c .before .before .before .args .lexeme .now) (58 ∷ 58 ∷ []) (c .before .match .keys4) refl refl
 
 returns-5 : tie.Need-returns-5
-returns-5 c = c .is-single3 .ensures ∙ itself-hash (c .before .before .before .args .lexeme .now) (c .before .match .keys5)
+unfolding hasItsLexeme readsWhole read class
+returns-5 c = c .is-single3 .ensures ∙ itself-fixed Hash (c .before .before .before .args .lexeme .now) (35 ∷ []) (c .before .match .keys5) refl refl
 
 returns-6 : tie.Need-returns-6
-returns-6 c = c .is-single4 .ensures ∙ itself-bang (c .before .before .before .args .lexeme .now) (c .before .match .keys6)
+unfolding hasItsLexeme readsWhole read class
+returns-6 c = c .is-single4 .ensures ∙ itself-fixed Bang (c .before .before .before .args .lexeme .now) (33 ∷ []) (c .before .match .keys6) refl refl
 
 returns-7 : tie.Need-returns-7
 returns-7 c = c .is-operators .ensures ∙ itself-operators (c .before .before .before .args .lexeme .now) (c .before .match .keys7)
 
 returns-8 : tie.Need-returns-8
-returns-8 c = c .is-single5 .ensures ∙ itself-minus (c .before .before .before .args .lexeme .now) (c .before .match .keys8)
+unfolding hasItsLexeme readsWhole read class
+returns-8 c = c .is-single5 .ensures ∙ itself-fixed Minus (c .before .before .before .args .lexeme .now) (45 ∷ []) (c .before .match .keys8) refl refl
 
 returns-9 : tie.Need-returns-9
-returns-9 c = c .is-else .ensures ∙ itself-else (c .before .before .before .args .lexeme .now) (c .before .match .keys9)
+unfolding hasItsLexeme readsWhole read class
+returns-9 c = c .is-else .ensures ∙ itself-fixed Else (c .before .before .before .args .lexeme .now) (101 ∷ 108 ∷ 115 ∷ 101 ∷ []) (c .before .match .keys9) refl refl
 
 returns-10 : tie.Need-returns-10
 returns-10 c = c .reads-whole .ensures ∙ itself-other (c .before .before .before .args .kind) (c .before .before .before .args .lexeme .now) (c .before .before .before .pre) (c .before .match .rest .0 .0 .0 .0 .0 .0 .0 .0 .1) (c .before .match .rest .0 .0 .0 .0 .0 .0 .0 .1) (c .before .match .rest .0 .0 .0 .0 .0 .0 .1) (c .before .match .rest .0 .0 .0 .0 .0 .1) (c .before .match .rest .0 .0 .0 .0 .1) (c .before .match .rest .0 .0 .0 .1) (c .before .match .rest .0 .0 .1) (c .before .match .rest .0 .1) (c .before .match .rest .1)

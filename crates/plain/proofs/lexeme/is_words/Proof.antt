@@ -4,23 +4,22 @@ use Prim.Native.Nat.{_-_}
 use lib.ListN.{length, drop}
 use borrow.Author.Needs.{needs}
 use borrow.Author.Tests.{not-true, not-false}
-use Rattle.pieces.specs.Class.{class, isWord}
-use Rattle.plain.specs.Scan.{all, runOf}
+use Rattle.plain.specs.Scan.{isWordByte, all, runOf}
 use Rattle.plain.proofs.Runs.{run-empty, run-start, run-more, run-stop, run-out}
 use Rattle.plain.proofs.lexeme.is_words.Statement.{statement}
 use Rattle.plain.proofs.lexeme.is_words.Tie as tie
 
 abbrev Inv-loop : tie.InvT-loop
-Inv-loop lexeme i₀ i = runOf (λ b. isWord (class b)) lexeme ≡ all (λ b. isWord (class b)) (drop i lexeme)
+Inv-loop lexeme i₀ i = runOf isWordByte lexeme ≡ all isWordByte (drop i lexeme)
 
 abbrev μ-loop : tie.MeasureT-loop
 μ-loop lexeme i₀ i = length lexeme - i
 
 returns : tie.Need-returns Inv-loop μ-loop
-returns c = run-empty (λ b. isWord (class b)) (c .before .before .args .lexeme .now) (c .if1 .taken)
+returns c = run-empty isWordByte (c .before .before .args .lexeme .now) (c .if1 .taken)
 
 loop-holds : tie.Need-loop-holds Inv-loop μ-loop
-loop-holds c = run-start (λ b. isWord (class b)) (c .before .before .args .lexeme .now) (c .if1 .left)
+loop-holds c = run-start isWordByte (c .before .before .args .lexeme .now) (c .if1 .left)
 
 shared-slice-read-is-word : tie.Need-shared-slice-read-is-word Inv-loop μ-loop
 shared-slice-read-is-word c = search needs
@@ -29,7 +28,7 @@ is-word-requires : tie.Need-is-word-requires Inv-loop μ-loop
 is-word-requires c κs = search needs
 
 returns-2 : tie.Need-returns-2 Inv-loop μ-loop
-returns-2 c = run-stop (λ b. isWord (class b)) (c .before .before .before .before .before .before .before .args .lexeme .now) (c .before .before .before .before .loop .i) (c .before .before .before .before .loop .inv) (search needs) (sym (c .before .is-word .ensures) ∙ not-true _ (c .if2 .taken))
+returns-2 c = run-stop isWordByte (c .before .before .before .before .before .before .before .args .lexeme .now) (c .before .before .before .before .loop .i) (c .before .before .before .before .loop .inv) (search needs) (sym (c .before .is-word .ensures) ∙ not-true _ (c .if2 .taken))
 
 add-i : tie.Need-add-i Inv-loop μ-loop
 add-i c = search needs
@@ -38,10 +37,10 @@ loop-less : tie.Need-loop-less Inv-loop μ-loop
 loop-less c = search needs
 
 loop-again : tie.Need-loop-again Inv-loop μ-loop
-loop-again c = run-more (λ b. isWord (class b)) (c .before .before .before .before .before .before .before .args .lexeme .now) (c .before .before .before .before .loop .i) (c .before .before .before .before .loop .inv) (search needs) (sym (c .before .is-word .ensures) ∙ not-false _ (c .if2 .left))
+loop-again c = run-more isWordByte (c .before .before .before .before .before .before .before .args .lexeme .now) (c .before .before .before .before .loop .i) (c .before .before .before .before .loop .inv) (search needs) (sym (c .before .is-word .ensures) ∙ not-false _ (c .if2 .left))
 
 returns-3 : tie.Need-returns-3 Inv-loop μ-loop
-returns-3 c = run-out (λ b. isWord (class b)) (c .before .before .before .before .args .lexeme .now) (c .before .loop .i) (c .before .loop .inv) (search needs)
+returns-3 c = run-out isWordByte (c .before .before .before .before .args .lexeme .now) (c .before .loop .i) (c .before .loop .inv) (search needs)
 
 pub is-words-spec : {M : Type 1} → statement M
 is-words-spec =
