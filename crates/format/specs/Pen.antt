@@ -1,15 +1,18 @@
 -- The state that the code holds, with the broken-group stack and the output beside it, and what it stands for.
 -- Assumes nothing.
+use mathlib.Core.Bool.{true}
 use mathlib.Core.List.{List, [], _∷_}
 use mathlib.Core.Option.{Option, none, some}
 use mathlib.Core.Path.{_≡_}
 use Prim.Native.Nat.{ℕ, zero, suc, _≤_, _<_}
 use lib.ListN.{length, take, drop, getD}
 use lib.Seq.{slice}
+use Rattle.rows.specs.Kinds.{Comma, RightBrace}
 use Rattle.rows.specs.Row.{rowsOf}
 use Rattle.rows.specs.Bounds.{InBounds}
 use Rattle.rows.specs.Options
 use Rattle.rows.specs.Token
+use Rattle.lookahead.specs.Scan.{lacks}
 use Rattle.push_token.specs.Formatter
 use Rattle.push_token.specs.Act.{State, state}
 use Rattle.format.specs.declared.formatter.Formatter.{Formatter}
@@ -136,10 +139,12 @@ lexemeOf token text = slice (token .start) (token .end) text
 abbrev pub lone : TokenAt → List ℕ → Token.Token
 lone token text = record { kind = token .kind; lexeme = lexemeOf token text; leading = []; trailing = [] }
 
--- its leading rows and the rows behind it start in the rows
+-- its leading rows and the rows behind it start in the rows, and its `ends` are true
 pub record Ahead (token : TokenAt) (rows : List ℕ) : Type 0 where
   pub lead : token .lead ≤ length rows
   pub behind : token .behind ≤ length rows
+  pub commas : token .ends .commas ≤ token .lead → lacks Comma (rowsOf (drop (token .lead) rows)) ≡ true
+  pub braces : token .ends .braces ≤ token .lead → lacks RightBrace (rowsOf (drop (token .lead) rows)) ≡ true
 
 -- it stands for the definition's token t, before the tokens ts
 pub record Stands (token : TokenAt) (rows text : List ℕ) (t : Token.Token) (ts : List Token.Token) : Type 0 where

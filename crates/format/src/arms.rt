@@ -281,6 +281,10 @@ impl Formatter {
             return false;
         }
         let lead = token.lead;
+        let ends = token.ends;
+        if ends.braces <= lead {
+            return true;
+        }
         !block_is_single_line(&rows[lead..])
     }
 
@@ -521,8 +525,12 @@ impl Formatter {
             if self.in_record {
                 return false;
             }
-            let options = self.options;
             let lead = token.lead;
+            let ends = token.ends;
+            if ends.commas <= lead {
+                return false;
+            }
+            let options = self.options;
             return should_break_list(&rows[lead..], options.list_width);
         }
         false

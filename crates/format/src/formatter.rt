@@ -92,8 +92,14 @@ pub struct Formatter {
     pub break_count: usize,
 }
 
+// Behind the last Comma and behind the last `}` of all rows: from there on no list breaks, and no block is one line.
+pub struct Ends {
+    pub commas: usize,
+    pub braces: usize,
+}
+
 // A token's place: its kind and lexeme, its index among the tokens, where its leading rows start and where the rows
-// behind its own row do.
+// behind its own row do, and what the rows hold no more of.
 pub struct TokenAt {
     pub kind: u32,
     pub start: usize,
@@ -101,6 +107,7 @@ pub struct TokenAt {
     pub index: u32,
     pub lead: usize,
     pub behind: usize,
+    pub ends: Ends,
 }
 
 // One less, and 0 of 0.

@@ -18,6 +18,7 @@ use Rattle.push_token.specs.Emit.{isSome}
 use Rattle.push_token.specs.PushToken.{turn, begun}
 use Rattle.push_token.specs.Layout.{Ended, finished, stopped, checked, layFrom}
 use Rattle.format.specs.declared.formatter.Formatter.{Formatter}
+use Rattle.format.specs.declared.formatter.Ends.{Ends}
 use Rattle.format.specs.declared.formatter.TokenAt.{TokenAt}
 use Rattle.format.specs.Pen.{Pen, on, stateOf, opts, formatterOf, signatureOf, tooDeepOf, topFirst, Roomy, Stands}
 use Rattle.format.specs.Does.{Does, Arrives}
@@ -25,7 +26,7 @@ use Rattle.format.proofs.Does.{far}
 use Rattle.format.proofs.Sink.{later}
 use Rattle.walk.specs.declared.Walked.{Walked}
 use Rattle.walk.specs.declared.Walked.the-variants.{Finished, Deep, Full}
-use Rattle.walk.specs.Walk.{Fresh, TokenAtRow, TokenRows, Trivial, Walks, walkOf, walkedOf, Laid}
+use Rattle.walk.specs.Walk.{Fresh, Ending, TokenAtRow, TokenRows, Trivial, Walks, walkOf, walkedOf, Laid}
 use Rattle.push_token.proofs.Growth.{depth, Grown, turn-grown}
 use Rattle.walk.proofs.Place.{Head, head-first, rowOf, nextOf, tokenHere, tokensNext, tokens-here, tokens-next, head-next, next-within, stands, trivial, token-rows}
 
@@ -244,12 +245,12 @@ pub record Placed (rows text : List ℕ) (at i : ℕ) (token : TokenAt) (x : ℕ
   pub index : token .index ≡ i
   pub next : x ≡ nextOf rows (rowOf rows at)
 
-pub placed : {rows text : List ℕ} {p₀ p : Pen} {i at : ℕ} {token : TokenAt} {r x : ℕ} → Walks rows text → Going rows text p₀ i at p → at < length rows → r ≡ rowOf rows at → x ≡ nextOf rows r → TokenAtRow rows at r i token → Placed rows text at i token x
-placed {rows} {text} {i = i} {at = at} {token = token} ω γ h e g τ =
-    let here = subst (λ k. TokenAtRow rows at k i token) e τ in
+pub placed : {rows text : List ℕ} {p₀ p : Pen} {i at : ℕ} {ends : Ends} {token : TokenAt} {r x : ℕ} → Walks rows text → Ending rows ends → Going rows text p₀ i at p → at < length rows → r ≡ rowOf rows at → x ≡ nextOf rows r → TokenAtRow rows at r i ends token → Placed rows text at i token x
+placed {rows} {text} {i = i} {at = at} {ends = ends} {token = token} ω ε γ h e g τ =
+    let here = subst (λ k. TokenAtRow rows at k i ends token) e τ in
     let x = g ∙ ap (nextOf rows) e in
     record {
-      whole = subst (λ k. TokenRows token rows text k) (sym x) (token-rows ω (γ .head) h here (let f = few-tokens ω γ in omega arith));
+      whole = subst (λ k. TokenRows token rows text k) (sym x) (token-rows ω (γ .head) h here ε (let f = few-tokens ω γ in omega arith));
       stands = stands ω (γ .head) h here;
       trivial = subst (λ k. Trivial token k rows text (tokenHere rows text at)) (sym x) (trivial ω (γ .head) h here);
       index = τ .index;

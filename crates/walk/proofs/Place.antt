@@ -1,21 +1,24 @@
 -- A token's rows in the lent slice: what the walk knows where a token's rows begin. Assumes nothing.
+use mathlib.Core.Bool.{true}
 use mathlib.Core.List.{List, [], _∷_, map}
-use mathlib.Core.Path.{_≡_, refl, sym, ap, _∙_}
+use mathlib.Core.Path.{_≡_, refl, sym, ap, subst, _∙_}
 use Prim.Native.Nat.{ℕ, zero, suc, _+_, _-_, _*_, _/_, _≤_, _<_}
 use native.Mathlib.Omega.{arith}
 use lib.ListN.{length, getD, take, drop, length-drop}
 use lib.Seq.{drop-drop}
-use Rattle.rows.specs.Kinds.{Leading, Trailing}
+use Rattle.rows.specs.Kinds.{Leading, Trailing, Comma, RightBrace}
 use Rattle.rows.specs.Row.{Row, rowAt, firstRows, rowsOf}
 use Rattle.rows.specs.Bounds.{Inside, InBounds}
 use Rattle.rows.specs.Checks.{atStart, badFrom}
 use Rattle.rows.specs.Token.{Token, bytesOf, triviaOf, tokensFrom, tokensOf}
 use Rattle.rows.proofs.RowList.{rows-cons, part-cons, rows-drop, rows-length, row-drop, row-index}
 use Rattle.rows.proofs.Sound.{in-bounds, first-sound}
+use Rattle.lookahead.specs.Scan.{lacks}
+use Rattle.format.specs.declared.formatter.Ends.{Ends}
 use Rattle.format.specs.declared.formatter.TokenAt.{TokenAt}
 use Rattle.format.specs.Pen.{Names, Ahead, Stands}
 use Rattle.format.specs.Trivia.{Part, triviaIn}
-use Rattle.walk.specs.Walk.{runRows, TokenAtRow, TokenRows, Trivial, Walks}
+use Rattle.walk.specs.Walk.{runRows, Ending, TokenAtRow, TokenRows, Trivial, Walks}
 use Rattle.walk.proofs.Runs.{Checked, checked-behind, trailing-run, tokens-behind, run-ends, run-most, no-trail, TokenFirst, token-first}
 
 -- ---- rows by number
@@ -150,9 +153,13 @@ module _ {rows text : List ℕ} {at : ℕ} (ω : Walks rows text) (η : Head row
   unfolding tokensOf
   tokens-next = rw (← rows-next) (sym (tokens-behind text (rowsOf (drop (rowOf rows at + 16) rows))))
 
+  -- what is known at each whole row is known here
+  lacking : (k e : ℕ) → ((j : ℕ) → e ≤ 16 * j → lacks k (rowsOf (drop (16 * j) rows)) ≡ true) → e ≤ at → lacks k (rowsOf (drop at rows)) ≡ true
+  lacking k e ε l = subst (λ n. lacks k (rowsOf (drop n rows)) ≡ true) (sym (η .whole)) (ε (at / 16) (let w = η .whole in omega arith))
+
   -- ---- what the code's token stands for
 
-  module _ {i : ℕ} {token : TokenAt} (τ : TokenAtRow rows at (rowOf rows at) i token) where
+  module _ {i : ℕ} {ends : Ends} {token : TokenAt} (τ : TokenAtRow rows at (rowOf rows at) i ends token) where
     pub stands : Stands token rows text (tokenHere rows text at) (tokensNext rows text at)
     stands =
         record {
@@ -169,8 +176,8 @@ module _ {rows text : List ℕ} {at : ℕ} (ω : Walks rows text) (η : Head row
         let b : (nextOf rows (rowOf rows at) - (rowOf rows at + 16)) / 16 ≡ m = omega arith in
         record { leading = rw (τ .lead, τ .behind, a); trailing = rw (τ .behind, b) }
 
-    pub token-rows : i < 4294967295 → TokenRows token rows text (nextOf rows (rowOf rows at))
-    token-rows few =
+    pub token-rows : Ending rows ends → i < 4294967295 → TokenRows token rows text (nextOf rows (rowOf rows at))
+    token-rows ε few =
         let inside = rw row-here at (bounds-get text n nothing (rowsOf (drop at rows)) (first .short) bounds) in
         let r = row-inside in
         let x = next-within in
@@ -178,7 +185,13 @@ module _ {rows text : List ℕ} {at : ℕ} (ω : Walks rows text) (η : Head row
         let b : (nextOf rows (rowOf rows at) - (rowOf rows at + 16)) / 16 ≡ m = omega arith in
         record {
           names = record { ordered = rw (τ .start, τ .end) (inside .ordered); within = rw (τ .end) (inside .within); index = rw (τ .index) few };
-          ahead = record { lead = rw (τ .lead) (omega arith); behind = rw (τ .behind) r };
+          ahead =
+              record {
+                lead = rw (τ .lead) (omega arith);
+                behind = rw (τ .behind) r;
+                commas = rw (τ .lead, τ .ends) (lacking Comma (ends .commas) (ε .commas));
+                braces = rw (τ .lead, τ .ends) (lacking RightBrace (ends .braces) (ε .braces));
+              };
           own = rw (τ .behind) (omega arith);
           leads = rw (τ .lead, τ .behind) (record { ordered = omega arith; within = omega arith; whole = rw a (omega arith); bounds = rw (a, leads-are) (bounds-take text n (rowsOf (drop at rows)) bounds) });
           trails = rw (τ .behind) (record { ordered = omega arith; within = x; whole = rw b refl; bounds = rw (b, trails-are) (bounds-take text m (rowsOf (drop (rowOf rows at + 16) rows)) (in-bounds text (behind .before) (behind .number) (rowsOf (drop (rowOf rows at + 16) rows)) (behind .good))) });

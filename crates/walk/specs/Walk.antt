@@ -8,14 +8,17 @@ use Prim.Native.Nat.{ℕ, zero, suc, _+_, _-_, _*_, _/_, _%_, _≤_, _<_}
 use lib.Dec.{eqb}
 use lib.ListN.{length, drop}
 use Rattle.report.specs.Report.{deep, full}
+use Rattle.rows.specs.Kinds.{Comma, RightBrace}
 use Rattle.rows.specs.Row.{Row, rowAt, rowsOf}
 use Rattle.rows.specs.Checks.{atStart, badFrom}
 use Rattle.rows.specs.Token.{Token, Trivia, tokensOf}
+use Rattle.lookahead.specs.Scan.{lacks}
 use Rattle.push_token.specs.Formatter.{new}
 use Rattle.push_token.specs.Act.{State, Act, update, _⨾_, nothing, if}
 use Rattle.push_token.specs.Emit.{trackFnState, trailingTrivia}
 use Rattle.push_token.specs.Layout.{Ended, finished, stopped, lay}
 use Rattle.format.specs.declared.formatter.Formatter.{Formatter}
+use Rattle.format.specs.declared.formatter.Ends.{Ends}
 use Rattle.format.specs.declared.formatter.TokenAt.{TokenAt}
 use Rattle.walk.specs.declared.Walked.{Walked}
 use Rattle.walk.specs.declared.Walked.the-variants.{Finished, Deep, Full}
@@ -27,14 +30,20 @@ unfoldable pub runRows : ℕ → List Row → ℕ
 runRows what [] = zero
 runRows what (r ∷ rs) = cond (eqb (r .what) what) (suc (runRows what rs)) zero
 
+-- from `ends` on the rows have no Comma, and no `}`
+pub record Ending (rows : List ℕ) (ends : Ends) : Type 0 where
+  pub commas : (j : ℕ) → ends .commas ≤ 16 * j → lacks Comma (rowsOf (drop (16 * j) rows)) ≡ true
+  pub braces : (j : ℕ) → ends .braces ≤ 16 * j → lacks RightBrace (rowsOf (drop (16 * j) rows)) ≡ true
+
 -- the token of the row at an index
-pub record TokenAtRow (rows : List ℕ) (first row number : ℕ) (token : TokenAt) : Type 0 where
+pub record TokenAtRow (rows : List ℕ) (first row number : ℕ) (last : Ends) (token : TokenAt) : Type 0 where
   pub kind : token .kind ≡ rowAt rows row .kind
   pub start : token .start ≡ rowAt rows row .start
   pub end : token .end ≡ rowAt rows row .end
   pub index : token .index ≡ number
   pub lead : token .lead ≡ first
   pub behind : token .behind ≡ row + 16
+  pub ends : token .ends ≡ last
 
 -- the rows of a token: leading ones, its own, and trailing ones up to `next`
 pub record TokenRows (token : TokenAt) (rows text : List ℕ) (next : ℕ) : Type 0 where

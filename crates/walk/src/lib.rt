@@ -1,7 +1,9 @@
 // The walk over checked rows: `push_token` for each token, and how it ends.
 use crate::token::push_token;
+use format::formatter::Ends;
 use format::formatter::Formatter;
 use format::formatter::TokenAt;
+use lookahead::behind_last;
 use rows::ROW_BYTES;
 use rows::kinds;
 use rows::row_at;
@@ -14,7 +16,7 @@ ghost use Rattle.rows.specs.Token.{Token};
 ghost use Rattle.push_token.specs.PushToken.{turn};
 ghost use Rattle.format.specs.Pen.{Roomy, StackRoom, Stands, on};
 ghost use Rattle.format.specs.Does.{Does};
-ghost use Rattle.walk.specs.Walk.{Fresh, runRows, TokenAtRow, TokenRows, Trivial, Walks, Laid};
+ghost use Rattle.walk.specs.Walk.{Fresh, runRows, Ending, TokenAtRow, TokenRows, Trivial, Walks, Laid};
 
 mod token;
 
@@ -31,13 +33,14 @@ pub fn walk(new: Formatter, out: &mut [u8], stack: &mut [u32], rows: &[u8], text
     requires { ⌜ Walks (now rows) (now text) ⌝ }
     ensures { λ r. ⌜ Laid (now (rows .entry)) (now (text .entry)) (on new (now (stack .entry)) (now (out .entry))) r (now (out .exit)) ⌝ }
 {
+    let ends = ends_of(rows);
     let mut f = new;
     let mut at = 0;
     let mut index: u32 = 0;
     while ROW_BYTES <= rows.len() - at {
         let row = rows_end(rows, at, kinds::LEADING);
         let next = rows_end(rows, row + ROW_BYTES, kinds::TRAILING);
-        let token = token_at(rows, at, row, index);
+        let token = token_at(rows, at, row, index, ends);
         f = turn(f, out, stack, rows, text, token, next);
         let len = f.len;
         if out.len() < len {
@@ -55,6 +58,16 @@ pub fn walk(new: Formatter, out: &mut [u8], stack: &mut [u32], rows: &[u8], text
     let len = f.len;
     let commas = f.commas;
     Walked::Finished(len, commas)
+}
+
+// What stands for the last time in the rows, looked for once.
+fn ends_of(rows: &[u8]) -> Ends
+    ensures { λ r. ⌜ Ending (now (rows .entry)) r ⌝ }
+{
+    Ends {
+        commas: behind_last(rows, kinds::COMMA),
+        braces: behind_last(rows, kinds::RIGHT_BRACE),
+    }
 }
 
 // One token of the walk: nothing for one that was taken along.
@@ -98,9 +111,9 @@ fn rows_end(rows: &[u8], at: usize, what: u32) -> usize
 }
 
 // The token whose row stands at `row`, behind leading rows from `lead` on.
-fn token_at(rows: &[u8], lead: usize, row: usize, index: u32) -> TokenAt
+fn token_at(rows: &[u8], lead: usize, row: usize, index: u32, ends: Ends) -> TokenAt
     requires { ⌜ row + 16 ≤ length (now rows) ⌝ }
-    ensures { λ r. ⌜ TokenAtRow (now (rows .entry)) lead row index r ⌝ }
+    ensures { λ r. ⌜ TokenAtRow (now (rows .entry)) lead row index ends r ⌝ }
 {
     let found = row_at(rows, row);
     TokenAt {
@@ -110,5 +123,6 @@ fn token_at(rows: &[u8], lead: usize, row: usize, index: u32) -> TokenAt
         index,
         lead,
         behind: row + ROW_BYTES,
+        ends,
     }
 }

@@ -1,13 +1,18 @@
 -- `format::formatter::Formatter::breaks_list` meets its contract. Assumes nothing.
+use mathlib.Core.Path.{refl, sym}
 use borrow.Author.Needs.{needs}
 use borrow.Author.Tests.{eq-eqb, ne-eqb}
 use Rattle.lookahead.specs.Measure.{shouldBreakList}
+use Rattle.lookahead.proofs.Lacks.{no-comma}
 use Rattle.format.proofs.Openers.{looked, part-is}
 use Rattle.format.proofs.formatter.Formatter.breaks_list.Statement.{statement}
 use Rattle.format.proofs.formatter.Formatter.breaks_list.Tie as tie
 
 returns : tie.Need-returns
 returns c = λ text t ts σ. rw (eq-eqb _ _ (c .before .if1 .taken), c .if2 .taken)
+
+returns-2 : tie.Need-returns-2
+returns-2 c = λ text t ts σ. rw (eq-eqb _ _ (c .before .before .before .before .if1 .taken), c .before .before .before .if2 .left) (looked σ (shouldBreakList (c .before .before .before .before .before .before .before .args .self .options .«list_width»)) refl (λ b. sym (no-comma _ _ text (c .before .before .before .before .before .before .before .pre .commas (c .if3 .taken)))))
 
 sub-should-break-list : tie.Need-sub-should-break-list
 sub-should-break-list c = search needs
@@ -21,20 +26,21 @@ part-should-break-list-end c = search needs
 should-break-list-requires : tie.Need-should-break-list-requires
 should-break-list-requires c κs = search needs
 
-returns-2 : tie.Need-returns-2
-returns-2 c = λ text t ts σ. rw (eq-eqb _ _ (c .before .before .before .before .if1 .taken), c .before .before .before .if2 .left) (looked σ (shouldBreakList (c .before .before .before .before .before .before .before .args .self .options .«list_width»)) (part-is (c .before .before .before .before .before .before .before .args .token .lead) (c .before .before .before .before .before .before .before .args .rows .now)) (c .should-break-list .ensures text))
-
 returns-3 : tie.Need-returns-3
-returns-3 c = λ text t ts σ. rw (ne-eqb _ _ (c .if1 .left))
+returns-3 c = λ text t ts σ. rw (eq-eqb _ _ (c .before .before .before .before .before .before .before .if1 .taken), c .before .before .before .before .before .before .if2 .left) (looked σ (shouldBreakList (c .before .before .before .before .before .before .before .before .before .before .args .self .options .«list_width»)) (part-is (c .before .before .before .before .before .before .before .before .before .before .args .token .lead) (c .before .before .before .before .before .before .before .before .before .before .args .rows .now)) (c .should-break-list .ensures text))
+
+returns-4 : tie.Need-returns-4
+returns-4 c = λ text t ts σ. rw (ne-eqb _ _ (c .if1 .left))
 
 pub breaks-list-spec : {M : Type 1} → statement M
 breaks-list-spec =
     tie.close
     (tie.spec
     returns
+    returns-2
     sub-should-break-list
     part-should-break-list-start
     part-should-break-list-end
     should-break-list-requires
-    returns-2
-    returns-3)
+    returns-3
+    returns-4)
