@@ -17,34 +17,13 @@ use Rattle.push_token.specs.Act.{State, Act, _⨾_, nothing, run}
 use Rattle.push_token.specs.Emit.{indentOrSpace, leadingTrivia, trailingTrivia}
 use Rattle.push_token.proofs.Said.{said}
 use Rattle.format.specs.declared.formatter.Formatter.{Formatter}
-use Rattle.format.specs.Sink.{Writes}
+use Rattle.sink.specs.Sink.{Writes}
+use Rattle.sink.specs.Comment.{commentHead, leadTail, trailHead, trailTail}
 use Rattle.format.specs.Pen.{Pen, on, opts, formatterOf}
-use Rattle.format.specs.Trivia.{triviaIn, Part, leadAct, trailAct, commentHead, leadTail, trailHead, trailTail}
+use Rattle.format.specs.Trivia.{triviaIn, Part, leadAct, trailAct}
 use Rattle.format.specs.Does.{Does}
-use Rattle.format.proofs.Sink.{same-bytes}
+use Rattle.sink.proofs.Sink.{same-bytes}
 use Rattle.format.proofs.Does.{does, seq, stays, same-run}
-
--- ---- a comment's marks
-
-module _ (k : ℕ) (h : k ≡ BlockComment) where
-  pub lead-tail-block : 32 ∷ 42 ∷ 47 ∷ 10 ∷ [] ≡ leadTail k
-  lead-tail-block = rw (eq-eqb k BlockComment h)
-
-  pub trail-head-block : commentHead k ≡ trailHead k
-  trail-head-block = rw (eq-eqb k BlockComment h)
-
-  pub trail-tail-block : 42 ∷ 47 ∷ [] ≡ trailTail k
-  trail-tail-block = rw (eq-eqb k BlockComment h)
-
-module _ (k : ℕ) (h : k ≡ BlockComment → ⊥) where
-  pub lead-tail-line : 10 ∷ [] ≡ leadTail k
-  lead-tail-line = rw (ne-eqb k BlockComment h)
-
-  pub trail-head-line : commentHead k ++ (32 ∷ []) ≡ trailHead k
-  trail-head-line = rw (ne-eqb k BlockComment h)
-
-  pub trail-tail-line : (xs : List ℕ) → xs ≡ xs ++ trailTail k
-  trail-tail-line xs = rw (ne-eqb k BlockComment h) (sym (append-nil xs))
 
 -- ---- a row, by its kind
 

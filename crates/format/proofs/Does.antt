@@ -13,10 +13,10 @@ use Rattle.rows.specs.Options.{Options}
 use Rattle.push_token.specs.Formatter.{Formatter}
 use Rattle.push_token.specs.Act.{State, state, Act, update, gap, lexeme, insert, comment, _⨾_, choose, if, run}
 use Rattle.push_token.proofs.Said.{said, run-said}
-use Rattle.format.specs.Sink.{Wrote, Writes}
+use Rattle.sink.specs.Sink.{Wrote, Writes}
 use Rattle.format.specs.Pen.{Pen, on, stateOf, opts, formatterOf}
 use Rattle.format.specs.Does.{Arrives, Does}
-use Rattle.format.proofs.Sink.{nothing, later}
+use Rattle.sink.proofs.Sink.{nothing, later}
 
 grows : (a : Act) (s : State) → length (s .out) ≤ length (run a s .out)
 grows a s = rw (run-said a s) (omega (arith, length-append (s .out) (said a s)))

@@ -1,5 +1,3 @@
-pub mod Sink
-pub mod Gaps
 pub mod Stack
 pub mod Does
 pub mod Tests

@@ -6,7 +6,7 @@ use mathlib.Core.Option.{Option, none, some}
 use mathlib.Core.Path.{_≡_}
 use Prim.Native.Nat.{ℕ, _+_, _<_}
 use lib.Dec.{eqb}
-use Rattle.rows.specs.Kinds.{Newline, LeftBrace, LeftParen, RightParen, LeftBracket, Comma, Else}
+use Rattle.rows.specs.Kinds.{Newline, LeftBrace, LeftParen, RightParen, Comma, Else}
 use Rattle.rows.specs.Options.{Options}
 use Rattle.rows.specs.Token.{Token}
 use Rattle.lookahead.specs.Measure.{nextHasComment, blockIsSingleLine, shouldBreakSig}
@@ -62,9 +62,6 @@ abbrev pub openSignature : Options → ℕ → Token → List Token → Act
 openSignature o i t ts = update (setFnState 0) ⨾ if (λ f. shouldBreakSig (o .fnSigWidth) (t ∷ ts)) (breakSignature o i) (pushLexeme o t ⨾ update groupOpened)
 
 -- the two arms of `(` and `[`
-abbrev pub isOpener : ℕ → Bool
-isOpener k = eqb k LeftParen || eqb k LeftBracket
-
 abbrev pub openerArm : Options → ℕ → Token → List Token → Act
 openerArm o i t ts = if (λ f. eqb (t .kind) LeftParen) (leftParenArm o i t ts) (leftBracketArm o i t ts)
 

@@ -1,12 +1,10 @@
 -- Trivia rows, one by one: what the loops over them do.
 -- Assumes nothing.
-use mathlib.Core.Bool.{Bool, true, false, cond}
+use mathlib.Core.Bool.{true, cond}
 use mathlib.Core.List.{List, [], _∷_, _++_, map}
 use mathlib.Core.Path.{_≡_}
 use Prim.Native.Nat.{ℕ, _+_, _-_, _*_, _/_, _≤_}
-use lib.Dec.{eqb}
 use lib.ListN.{length, drop}
-use Rattle.rows.specs.Kinds.{DocComment, BlockComment}
 use Rattle.rows.specs.Row.{rowsOf, firstRows}
 use Rattle.rows.specs.Bounds.{InBounds}
 use Rattle.rows.specs.Options.{Options}
@@ -39,17 +37,3 @@ trailAct (lineComment c) = comment (λ f. 47 ∷ 47 ∷ 32 ∷ c)
 trailAct (docComment c) = comment (λ f. 47 ∷ 47 ∷ 47 ∷ 32 ∷ c)
 trailAct (blockComment c) = comment (λ f. 47 ∷ 42 ∷ c ++ 42 ∷ 47 ∷ [])
 trailAct blankLine = nothing
-
--- ---- a comment's marks, by its kind
-
-abbrev pub commentHead : ℕ → List ℕ
-commentHead k = cond (eqb k BlockComment) (47 ∷ 42 ∷ []) (cond (eqb k DocComment) (47 ∷ 47 ∷ 47 ∷ []) (47 ∷ 47 ∷ []))
-
-abbrev pub leadTail : ℕ → List ℕ
-leadTail k = cond (eqb k BlockComment) (32 ∷ 42 ∷ 47 ∷ 10 ∷ []) (10 ∷ [])
-
-abbrev pub trailHead : ℕ → List ℕ
-trailHead k = commentHead k ++ cond (eqb k BlockComment) [] (32 ∷ [])
-
-abbrev pub trailTail : ℕ → List ℕ
-trailTail k = cond (eqb k BlockComment) (42 ∷ 47 ∷ []) []

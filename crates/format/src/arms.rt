@@ -11,17 +11,22 @@ use crate::formatter::RecordDepth;
 use crate::formatter::SignatureDepth;
 use crate::formatter::Suppressed;
 use crate::formatter::TokenAt;
-use crate::formatter::less;
-use crate::formatter::less32;
-use crate::formatter::token_gap;
-use crate::write::emit_token_text;
-use crate::write::write_byte;
-use crate::write::write_comma;
 use lookahead::block_is_single_line;
 use lookahead::next_has_comment;
 use lookahead::should_break_list;
 use lookahead::should_break_sig;
 use rows::kinds;
+use sink::lent::ends_with_two_feeds;
+use sink::lent::next_is;
+use sink::lent::push_entry;
+use sink::numbers::count_comma;
+use sink::numbers::less;
+use sink::numbers::less32;
+use sink::numbers::token_gap;
+use sink::write::emit_token_text;
+use sink::write::write_byte;
+use sink::write::write_comma;
+use sink::write::write_else;
 ghost use mathlib.Core.Bool.{Bool, true, false, _&&_, _||_, not, cond};
 ghost use mathlib.Core.List.{List, [], _∷_, _++_};
 ghost use mathlib.Core.Path.{_≡_};
@@ -33,9 +38,9 @@ ghost use Rattle.lookahead.specs.Measure.{nextHasComment, shouldBreakSig, shoul
 ghost use Rattle.push_token.specs.Act.{update, _⨾_};
 ghost use Rattle.push_token.specs.Emit.{openBlockMultiline, pushLexeme};
 ghost use Rattle.push_token.specs.Arms.{atRecordFields, inBrokenList, inlineCloseGap, endsWithTwoFeeds, groupClosed, atSignature, newlineArm, closeInline, closeRecord, closeBlock, rightBraceArm, nextIs, emptyRecord, openBlock, leftBraceArm, openList, breaksList, closeCall, rightParenArm, closeArray, rightBracketArm, commaArm, elseOnNewLine, elseArm, otherArm, trackRecord};
-ghost use Rattle.format.specs.Sink.{Writes};
+ghost use Rattle.sink.specs.Sink.{Writes};
 ghost use Rattle.format.specs.Pen.{Roomy, StackRoom, Names, Stands, Ahead, lone, optionsOf, formatterOf, newlineOf, signatureOf, stateOf, on};
-ghost use Rattle.format.specs.Parts.{ListRoom, feedsLine, feedLine, opensBlock, recordEntered, openOneLine, openInline, isOpener, openerArm, opensSignature, openSignature, signatureBelow, bracketOpened, breakComma, breakSignature, closeSignatureParen};
+ghost use Rattle.format.specs.Parts.{ListRoom, feedsLine, feedLine, opensBlock, recordEntered, openOneLine, openInline, openerArm, opensSignature, openSignature, signatureBelow, bracketOpened, breakComma, breakSignature, closeSignatureParen};
 ghost use Rattle.format.specs.Due.{Leads};
 ghost use Rattle.format.specs.Does.{Does};
 
@@ -474,7 +479,7 @@ impl Formatter {
         requires { ⌜ Roomy self ⌝ }
         requires { ⌜ StackRoom self (now stack) ⌝ }
         requires { ⌜ Names token (now text) ⌝ }
-        requires { ⌜ (Ahead token (now rows)) × (isOpener (token .kind) ≡ true) ⌝ }
+        requires { ⌜ Ahead token (now rows) ⌝ }
         ensures { λ r. ⌜ ((t : Token) (ts : List Token) → Stands token (now (rows .entry)) (now (text .entry)) t ts → (opensSignature (token .kind) (formatterOf self []) ≡ false → ListRoom (optionsOf (self .options)) t ts (formatterOf self []) (self .«break_count»)) → Leads (λ o. openerArm o (token .index) t ts) (lone token (now (text .entry))) (on self (now (stack .entry)) (now (out .entry))) (on r (now (stack .exit)) (now (out .exit)))) ⌝ }
     {
         if self.opens_signature(token.kind) {
@@ -607,10 +612,14 @@ impl Formatter {
         ensures { λ r. ⌜ signatureOf r ≡ signatureBelow kind (signatureOf (self .«sig_break_depth» .0)) ⌝ }
     {
         let signature = self.sig_break_depth;
+        let depth = signature.0;
         if kind == kinds::LEFT_PAREN {
-            return deeper(signature.0);
+            if 0 < depth {
+                return depth + 1;
+            }
+            return 0;
         }
-        signature.0
+        depth
     }
 
     // A wide list opens: one item a line.
@@ -892,77 +901,5 @@ impl Formatter {
             return self.record_pending;
         }
         false
-    }
-}
-
-// Whether the text so far ends with two line feeds.
-fn ends_with_two_feeds(out: &[u8], len: usize) -> bool
-    ensures { λ r. ⌜ (len ≤ length (now (out .entry)) → r ≡ endsWithTwoFeeds (take len (now (out .entry)))) ⌝ }
-{
-    if len < 2 {
-        return false;
-    }
-    if out.len() < len {
-        return false;
-    }
-    let last = len - 1;
-    let before = len - 2;
-    if out[before] == b'\n' {
-        return out[last] == b'\n';
-    }
-    false
-}
-
-fn write_else(out: &mut [u8], len: usize) -> usize
-    ensures { λ r. ⌜ Writes (now (out .entry)) len (101 ∷ 108 ∷ 115 ∷ 101 ∷ []) (now (out .exit)) r ⌝ }
-{
-    let e = write_byte(out, len, b'e');
-    let l = write_byte(out, e, b'l');
-    let s = write_byte(out, l, b's');
-    write_byte(out, s, b'e')
-}
-
-fn count_comma(wanted: bool) -> usize
-    ensures { λ r. ⌜ (r ≡ cond wanted 1 0) × (r < 2) ⌝ }
-{
-    if wanted {
-        return 1;
-    }
-    0
-}
-
-// One more, but 0 of 0: the depth of a broken signature, if there is one.
-fn deeper(depth: u32) -> u32
-    requires { ⌜ depth < 4294967295 ⌝ }
-    ensures { λ r. ⌜ Rattle.format.specs.Pen.signatureOf r ≡ Rattle.push_token.specs.Arms.deeper (Rattle.format.specs.Pen.signatureOf depth) ⌝ }
-{
-    if 0 < depth {
-        return depth + 1;
-    }
-    0
-}
-
-// Whether the next token, behind trailing rows and its own leading rows, is of a kind.
-fn next_is(rows: &[u8], kind: u32) -> bool
-    ensures { λ r. ⌜ ((text : List ℕ) → r ≡ nextIs kind (Rattle.rows.specs.Token.tokensOf (now (rows .entry)) text)) ⌝ }
-{
-    let mut at = 0;
-    while rows::ROW_BYTES <= rows.len() - at {
-        let row = rows::row_at(rows, at);
-        if row.what == kinds::TOKEN {
-            return row.kind == kind;
-        }
-        at += rows::ROW_BYTES;
-    }
-    false
-}
-
-// Puts a depth on the stack at `count`, where it has room.
-fn push_entry(stack: &mut [u32], count: usize, depth: u32)
-    ensures { λ r. ⌜ (count < length (now (stack .entry)) → now (stack .exit) ≡ set (now (stack .entry)) count depth) ⌝ }
-    ensures size { λ r. ⌜ length (now (stack .exit)) ≡ length (now (stack .entry)) ⌝ }
-{
-    if count < stack.len() {
-        stack[count] = depth;
     }
 }

@@ -1,11 +1,12 @@
 // The formatter's state, under the names of format.rs. It goes in and comes back by value; the output and the
 // broken-group stack are lent beside it, so that no array is copied.
-use crate::write::emit_token_text;
-use crate::write::write_byte;
-use crate::write::write_spaces;
 use lookahead::is_value_kind;
-use lookahead::space_between;
 use rows::kinds;
+use sink::numbers::indent_size;
+use sink::numbers::token_gap;
+use sink::write::emit_token_text;
+use sink::write::write_byte;
+use sink::write::write_spaces;
 ghost use mathlib.Core.Bool.{_&&_, _||_, not, cond};
 ghost use mathlib.Core.List.{List, [], _∷_, _++_};
 ghost use mathlib.Core.Path.{_≡_};
@@ -15,8 +16,8 @@ ghost use lib.ListN.{length, take};
 ghost use Rattle.push_token.specs.Act.{update};
 ghost use Rattle.push_token.specs.Emit.{isAt, prevIs, indentStr, indentOrSpace, onNewLine, trackFnState, trackMinus, pushLexeme};
 ghost use Rattle.push_token.specs.Arms.{atRecordFields, inBrokenList, inOneLineBlock, inlineCloseGap, endsWithTwoFeeds, groupClosed};
-ghost use Rattle.format.specs.Sink.{Writes};
-ghost use Rattle.format.specs.Gap.{isTight, kindOf, gapSize};
+ghost use Rattle.sink.specs.Sink.{Writes};
+ghost use Rattle.sink.specs.Gap.{isTight, kindOf};
 ghost use Rattle.format.specs.Pen.{Names, lexemeOf, lone, optionsOf, formatterOf, prevOf, newlineOf, on};
 ghost use Rattle.format.specs.Does.{Does};
 ghost use Rattle.format.specs.Due.{due};
@@ -108,32 +109,6 @@ pub struct TokenAt {
     pub lead: usize,
     pub behind: usize,
     pub ends: Ends,
-}
-
-// One less, and 0 of 0.
-pub fn less(n: usize) -> usize
-    ensures { λ r. ⌜ r ≡ n - 1 ⌝ }
-{
-    if 0 < n {
-        return n - 1;
-    }
-    0
-}
-
-pub fn less32(n: u32) -> u32
-    ensures { λ r. ⌜ r ≡ n - 1 ⌝ }
-{
-    if 0 < n {
-        return n - 1;
-    }
-    0
-}
-
-// How many spaces indent a line.
-pub fn indent_size(width: u32, indent: u32) -> usize
-    ensures { λ r. ⌜ r ≡ width * indent ⌝ }
-{
-    (width as usize) * (indent as usize)
 }
 
 impl Formatter {
@@ -342,20 +317,4 @@ impl Formatter {
         }
         0
     }
-}
-
-// How many spaces stand before a token of the kind. It takes numbers, and not the state, wherever it is called.
-pub fn token_gap(at_line_start: bool, indent: usize, tight: bool, prev: u32, kind: u32) -> usize
-    ensures { λ r. ⌜ r ≡ gapSize «at_line_start» indent tight prev kind ⌝ }
-{
-    if at_line_start {
-        return indent;
-    }
-    if tight {
-        return 0;
-    }
-    if space_between(prev, kind) {
-        return 1;
-    }
-    0
 }

@@ -2,4 +2,3 @@
 mod arms;
 pub mod formatter;
 mod trivia;
-mod write;

@@ -1,11 +1,12 @@
 // Leading and trailing trivia of `push_token`.
 use crate::formatter::Formatter;
-use crate::write::write_byte;
-use crate::write::write_part;
 use rows::ROW_BYTES;
 use rows::Row;
 use rows::kinds;
 use rows::row_at;
+use sink::comments::write_lead;
+use sink::comments::write_trail;
+use sink::write::write_byte;
 ghost use mathlib.Core.Bool.{cond};
 ghost use mathlib.Core.List.{List, [], _∷_, _++_};
 ghost use mathlib.Core.Path.{_≡_};
@@ -13,11 +14,11 @@ ghost use Prim.Native.Nat.{ℕ, _+_, _-_, _*_, _/_, _≤_, _<_};
 ghost use lib.ListN.{length};
 ghost use Rattle.rows.specs.Answer.{rowOf};
 ghost use Rattle.rows.specs.Bounds.{Inside};
-ghost use Rattle.rows.specs.Token.{triviaOf, bytesOf};
+ghost use Rattle.rows.specs.Token.{triviaOf};
 ghost use Rattle.push_token.specs.Emit.{leadingTrivia, trailingTrivia};
-ghost use Rattle.format.specs.Sink.{Writes};
+ghost use Rattle.sink.specs.Sink.{Writes};
 ghost use Rattle.format.specs.Pen.{Held, on};
-ghost use Rattle.format.specs.Trivia.{Part, triviaIn, leadAct, trailAct, commentHead, leadTail, trailHead, trailTail};
+ghost use Rattle.format.specs.Trivia.{Part, triviaIn, leadAct, trailAct};
 ghost use Rattle.format.specs.Does.{Does};
 
 impl Formatter {
@@ -102,63 +103,4 @@ impl Formatter {
         self.len = written;
         self
     }
-}
-
-// A leading comment with its marks and line feed.
-fn write_lead(out: &mut [u8], len: usize, text: &[u8], row: Row) -> usize
-    requires { ⌜ Inside (now text) (rowOf row) ⌝ }
-    requires { ⌜ row .kind < 3 ⌝ }
-    ensures { λ r. ⌜ Writes (now (out .entry)) len (commentHead (row .kind) ++ (32 ∷ bytesOf (now (text .entry)) (rowOf row) ++ leadTail (row .kind))) (now (out .exit)) r ⌝ }
-{
-    let headed = write_head(out, len, row.kind);
-    let spaced = write_byte(out, headed, b' ');
-    let start = row.start as usize;
-    let end = row.end as usize;
-    let written = write_part(out, spaced, text, start, end);
-    if row.kind == kinds::BLOCK_COMMENT {
-        let gapped = write_byte(out, written, b' ');
-        let tailed = write_tail(out, gapped);
-        return write_byte(out, tailed, b'\n');
-    }
-    write_byte(out, written, b'\n')
-}
-
-// A trailing comment: no space in a block comment's marks, and no line feed.
-fn write_trail(out: &mut [u8], len: usize, text: &[u8], row: Row) -> usize
-    requires { ⌜ Inside (now text) (rowOf row) ⌝ }
-    requires { ⌜ row .kind < 3 ⌝ }
-    ensures { λ r. ⌜ Writes (now (out .entry)) len (trailHead (row .kind) ++ (bytesOf (now (text .entry)) (rowOf row) ++ trailTail (row .kind))) (now (out .exit)) r ⌝ }
-{
-    let headed = write_head(out, len, row.kind);
-    let start = row.start as usize;
-    let end = row.end as usize;
-    if row.kind == kinds::BLOCK_COMMENT {
-        let written = write_part(out, headed, text, start, end);
-        return write_tail(out, written);
-    }
-    let spaced = write_byte(out, headed, b' ');
-    write_part(out, spaced, text, start, end)
-}
-
-// `//`, `///` or `/*`.
-fn write_head(out: &mut [u8], len: usize, kind: u32) -> usize
-    requires { ⌜ kind < 3 ⌝ }
-    ensures { λ r. ⌜ Writes (now (out .entry)) len (commentHead kind) (now (out .exit)) r ⌝ }
-{
-    let slash = write_byte(out, len, b'/');
-    if kind == kinds::BLOCK_COMMENT {
-        return write_byte(out, slash, b'*');
-    }
-    let double = write_byte(out, slash, b'/');
-    if kind == kinds::DOC_COMMENT {
-        return write_byte(out, double, b'/');
-    }
-    double
-}
-
-fn write_tail(out: &mut [u8], len: usize) -> usize
-    ensures { λ r. ⌜ Writes (now (out .entry)) len (42 ∷ 47 ∷ []) (now (out .exit)) r ⌝ }
-{
-    let star = write_byte(out, len, b'*');
-    write_byte(out, star, b'/')
 }

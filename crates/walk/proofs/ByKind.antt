@@ -19,11 +19,15 @@ use Rattle.push_token.specs.PushToken.{arm, overflows}
 use Rattle.format.specs.declared.formatter.Formatter.{Formatter}
 use Rattle.format.specs.declared.formatter.TokenAt.{TokenAt}
 use Rattle.format.specs.Pen.{Pen, formatterOf, topFirst, Stands, lone}
-use Rattle.format.specs.Parts.{isOpener, opensSignature, openerArm}
+use Rattle.format.specs.Parts.{opensSignature, openerArm}
 use Rattle.format.specs.Does.{Does}
 use Rattle.format.specs.Due.{Leads}
 use Rattle.format.proofs.Does.{yes, no, same-run}
 use Rattle.walk.proofs.Going.{top-length}
+
+-- a kind that opens a group
+abbrev pub isOpener : ℕ → Bool
+isOpener k = eqb k LeftParen || eqb k LeftBracket
 
 -- ---- the arm
 

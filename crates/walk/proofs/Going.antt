@@ -23,7 +23,7 @@ use Rattle.format.specs.declared.formatter.TokenAt.{TokenAt}
 use Rattle.format.specs.Pen.{Pen, on, stateOf, opts, formatterOf, signatureOf, tooDeepOf, topFirst, Roomy, Stands}
 use Rattle.format.specs.Does.{Does, Arrives}
 use Rattle.format.proofs.Does.{far}
-use Rattle.format.proofs.Sink.{later}
+use Rattle.sink.proofs.Sink.{later}
 use Rattle.walk.specs.declared.Walked.{Walked}
 use Rattle.walk.specs.declared.Walked.the-variants.{Finished, Deep, Full}
 use Rattle.walk.specs.Walk.{Fresh, Ending, TokenAtRow, TokenRows, Trivial, Walks, walkOf, walkedOf, Laid}

@@ -2,7 +2,7 @@
 use mathlib.Core.Path.{refl}
 use borrow.Author.Needs.{needs}
 use Rattle.format.proofs.Does.{updated, yes, no}
-use Rattle.format.proofs.Sink.{nothing}
+use Rattle.sink.proofs.Sink.{nothing}
 use Rattle.walk.proofs.turn.Statement.{statement}
 use Rattle.walk.proofs.turn.Tie as tie
 

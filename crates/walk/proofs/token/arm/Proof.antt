@@ -1,6 +1,6 @@
 -- `walk::token::arm` meets its contract. Assumes nothing.
-use Rattle.walk.proofs.ByKind.{at-eof, at-newline, at-right-brace, at-left-brace, at-opener, at-right-paren, at-right-bracket, at-comma, at-else, at-other, leading-to, its-lexeme, an-opener, its-opener, its-test, room}
-use Rattle.format.proofs.Sink.{nothing}
+use Rattle.walk.proofs.ByKind.{at-eof, at-newline, at-right-brace, at-left-brace, at-opener, at-right-paren, at-right-bracket, at-comma, at-else, at-other, leading-to, its-lexeme, its-opener, its-test, room}
+use Rattle.sink.proofs.Sink.{nothing}
 use Rattle.format.proofs.Due.{now}
 use Rattle.format.proofs.Does.{updated, stays}
 use Rattle.format.specs.Pen.{optionsOf, formatterOf}
@@ -21,7 +21,7 @@ left-brace-arm-requires : tie.Need-left-brace-arm-requires
 left-brace-arm-requires c κs = search needs
 
 opener-arm-requires : tie.Need-opener-arm-requires
-opener-arm-requires c κs = (c .before .before .before .before .before .before .before .pre .0, (c .before .before .before .before .before .before .before .pre .1 .0, (c .before .before .before .before .before .before .before .pre .1 .1 .0, (c .before .before .before .before .before .before .before .pre .1 .1 .1, an-opener (c .before .before .match .keys5)))))
+opener-arm-requires c κs = search needs
 
 right-paren-arm-requires : tie.Need-right-paren-arm-requires
 right-paren-arm-requires c κs = search needs

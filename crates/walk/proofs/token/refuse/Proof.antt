@@ -1,5 +1,5 @@
 -- `walk::token::refuse` meets its contract. Assumes nothing.
-use Rattle.format.proofs.Sink.{nothing}
+use Rattle.sink.proofs.Sink.{nothing}
 use Rattle.format.proofs.Does.{updated}
 use native.Mathlib.Numerals.{add-one}
 use mathlib.Core.Path.{refl}

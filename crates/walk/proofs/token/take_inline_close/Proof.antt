@@ -1,7 +1,7 @@
 -- `walk::token::take_inline_close` meets its contract. Assumes nothing.
 use mathlib.Core.Path.{refl}
 use Rattle.format.proofs.Does.{updated}
-use Rattle.format.proofs.Sink.{nothing}
+use Rattle.sink.proofs.Sink.{nothing}
 use Rattle.walk.proofs.token.take_inline_close.Statement.{statement}
 use Rattle.walk.proofs.token.take_inline_close.Tie as tie
 

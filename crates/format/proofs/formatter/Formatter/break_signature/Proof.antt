@@ -5,7 +5,7 @@ use borrow.Author.Needs.{needs}
 use Rattle.push_token.specs.Act.{run}
 use Rattle.push_token.proofs.Said.{said}
 use Rattle.format.proofs.Does.{does}
-use Rattle.format.proofs.Sink.{andThen}
+use Rattle.sink.proofs.Sink.{andThen}
 use Rattle.format.proofs.formatter.Formatter.break_signature.Statement.{statement}
 use Rattle.format.proofs.formatter.Formatter.break_signature.Tie as tie
 

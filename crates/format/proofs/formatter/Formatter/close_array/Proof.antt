@@ -4,7 +4,7 @@ use mathlib.Core.Path.{refl}
 use borrow.Author.Needs.{needs}
 use Rattle.push_token.specs.Emit.{prevIs}
 use Rattle.format.proofs.Does.{closing}
-use Rattle.format.proofs.Sink.{andThen}
+use Rattle.sink.proofs.Sink.{andThen}
 use Rattle.format.proofs.Stack.{top-popped}
 use Rattle.format.proofs.formatter.Formatter.close_array.Statement.{statement}
 use Rattle.format.proofs.formatter.Formatter.close_array.Tie as tie

@@ -2,7 +2,7 @@
 use mathlib.Core.Path.{refl}
 use borrow.Author.Needs.{needs}
 use Rattle.format.proofs.Does.{updated}
-use Rattle.format.proofs.Sink.{nothing}
+use Rattle.sink.proofs.Sink.{nothing}
 use Rattle.format.proofs.formatter.Formatter.close_group.Statement.{statement}
 use Rattle.format.proofs.formatter.Formatter.close_group.Tie as tie
 

@@ -4,7 +4,7 @@ use borrow.Author.Needs.{needs}
 use Rattle.push_token.specs.Arms.{commaArm}
 use Rattle.format.proofs.Does.{updated, told}
 use Rattle.format.proofs.Due.{now, whole, yes, no}
-use Rattle.format.proofs.Sink.{nothing}
+use Rattle.sink.proofs.Sink.{nothing}
 use Rattle.format.proofs.formatter.Formatter.comma_arm.Statement.{statement}
 use Rattle.format.proofs.formatter.Formatter.comma_arm.Tie as tie
 

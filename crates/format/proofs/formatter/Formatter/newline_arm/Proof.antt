@@ -7,7 +7,7 @@ use Rattle.format.specs.Pen.{on, stateOf}
 use Rattle.format.proofs.Does.{told, yes, no, stays, updated}
 use Rattle.format.proofs.Newlines.{newline}
 use Rattle.format.proofs.Openers.{looked-behind, part-is}
-use Rattle.format.proofs.Sink.{nothing}
+use Rattle.sink.proofs.Sink.{nothing}
 use Rattle.format.proofs.formatter.Formatter.newline_arm.Statement.{statement}
 use Rattle.format.proofs.formatter.Formatter.newline_arm.Tie as tie
 

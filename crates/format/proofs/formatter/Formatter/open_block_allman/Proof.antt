@@ -4,7 +4,7 @@ use mathlib.Core.Path.{refl}
 use borrow.Author.Needs.{needs}
 use Rattle.push_token.specs.Act.{run}
 use Rattle.format.proofs.Does.{does}
-use Rattle.format.proofs.Sink.{andThen}
+use Rattle.sink.proofs.Sink.{andThen}
 use Rattle.push_token.proofs.Said.{said}
 use Rattle.format.proofs.formatter.Formatter.open_block_allman.Statement.{statement}
 use Rattle.format.proofs.formatter.Formatter.open_block_allman.Tie as tie

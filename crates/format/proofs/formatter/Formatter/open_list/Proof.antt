@@ -9,8 +9,8 @@ use Rattle.push_token.specs.Act.{run}
 use Rattle.push_token.proofs.Said.{said}
 use Rattle.format.specs.Pen.{optionsOf, formatterOf}
 use Rattle.format.proofs.Does.{does}
-use Rattle.format.proofs.Gaps.{gapped}
-use Rattle.format.proofs.Sink.{andThen}
+use Rattle.sink.proofs.Gaps.{gapped}
+use Rattle.sink.proofs.Sink.{andThen}
 use Rattle.format.proofs.Stack.{top-pushed}
 use Rattle.format.proofs.formatter.Formatter.open_list.Statement.{statement}
 use Rattle.format.proofs.formatter.Formatter.open_list.Tie as tie

@@ -5,7 +5,7 @@ use Rattle.lookahead.specs.Measure.{shouldBreakSig}
 use Rattle.format.proofs.Does.{updated, told}
 use Rattle.format.proofs.Due.{now, yes, after, signature-kept}
 use Rattle.format.proofs.Openers.{looked, part-is}
-use Rattle.format.proofs.Sink.{nothing}
+use Rattle.sink.proofs.Sink.{nothing}
 use Rattle.format.proofs.formatter.Formatter.open_signature.Statement.{statement}
 use Rattle.format.proofs.formatter.Formatter.open_signature.Tie as tie
 

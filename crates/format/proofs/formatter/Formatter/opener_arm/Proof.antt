@@ -3,7 +3,7 @@ use mathlib.Core.Path.{refl}
 use borrow.Author.Needs.{needs}
 use Rattle.format.proofs.Does.{updated, told}
 use Rattle.format.proofs.Due.{signature-opens, list-opens, group-opens}
-use Rattle.format.proofs.Sink.{nothing}
+use Rattle.sink.proofs.Sink.{nothing}
 use Rattle.format.proofs.formatter.Formatter.opener_arm.Statement.{statement}
 use Rattle.format.proofs.formatter.Formatter.opener_arm.Tie as tie
 

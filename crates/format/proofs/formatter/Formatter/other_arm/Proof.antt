@@ -5,7 +5,7 @@ use Rattle.push_token.specs.Act.{update}
 use Rattle.push_token.specs.Arms.{trackRecord}
 use Rattle.format.proofs.Does.{updated}
 use Rattle.format.proofs.Due.{later}
-use Rattle.format.proofs.Sink.{nothing}
+use Rattle.sink.proofs.Sink.{nothing}
 use Rattle.format.proofs.formatter.Formatter.other_arm.Statement.{statement}
 use Rattle.format.proofs.formatter.Formatter.other_arm.Tie as tie
 

@@ -5,7 +5,7 @@ use Rattle.push_token.specs.Act.{run}
 use Rattle.rows.specs.Answer.{rowOf}
 use Rattle.format.proofs.Comments.{blank-row, lead-comment}
 use Rattle.format.proofs.Does.{does-then}
-use Rattle.format.proofs.Sink.{andThen}
+use Rattle.sink.proofs.Sink.{andThen}
 use Rattle.push_token.proofs.Said.{said}
 use Rattle.format.proofs.formatter.Formatter.push_lead.Statement.{statement}
 use Rattle.format.proofs.formatter.Formatter.push_lead.Tie as tie

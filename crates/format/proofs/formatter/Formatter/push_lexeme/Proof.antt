@@ -6,7 +6,7 @@ use Rattle.push_token.specs.Act.{run}
 use Rattle.push_token.proofs.Said.{said}
 use Rattle.format.specs.Pen.{optionsOf, formatterOf}
 use Rattle.format.proofs.Does.{does}
-use Rattle.format.proofs.Gaps.{gapped}
+use Rattle.sink.proofs.Gaps.{gapped}
 use Rattle.format.proofs.formatter.Formatter.push_lexeme.Statement.{statement}
 use Rattle.format.proofs.formatter.Formatter.push_lexeme.Tie as tie
 

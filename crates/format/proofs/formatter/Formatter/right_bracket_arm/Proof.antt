@@ -4,7 +4,7 @@ use borrow.Author.Needs.{needs}
 use Rattle.push_token.specs.Arms.{rightBracketArm}
 use Rattle.format.proofs.Does.{updated, told}
 use Rattle.format.proofs.Due.{now, yes, no, group-closes}
-use Rattle.format.proofs.Sink.{nothing}
+use Rattle.sink.proofs.Sink.{nothing}
 use Rattle.format.proofs.formatter.Formatter.right_bracket_arm.Statement.{statement}
 use Rattle.format.proofs.formatter.Formatter.right_bracket_arm.Tie as tie
 

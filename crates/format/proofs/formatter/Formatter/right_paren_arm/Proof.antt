@@ -5,7 +5,7 @@ use Rattle.push_token.specs.Arms.{rightParenArm}
 use Rattle.push_token.specs.Emit.{isAt}
 use Rattle.format.proofs.Does.{updated, told, entering}
 use Rattle.format.proofs.Due.{now, yes, no, after, group-closes}
-use Rattle.format.proofs.Sink.{nothing}
+use Rattle.sink.proofs.Sink.{nothing}
 use Rattle.format.proofs.Tests.{sig-less, sig-open}
 use Rattle.format.proofs.formatter.Formatter.right_paren_arm.Statement.{statement}
 use Rattle.format.proofs.formatter.Formatter.right_paren_arm.Tie as tie

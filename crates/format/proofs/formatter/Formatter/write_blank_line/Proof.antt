@@ -1,6 +1,6 @@
 -- `format::formatter::Formatter::write_blank_line` meets its contract. Assumes nothing.
 use borrow.Author.Needs.{needs}
-use Rattle.format.proofs.Sink.{nothing}
+use Rattle.sink.proofs.Sink.{nothing}
 use Rattle.format.proofs.formatter.Formatter.write_blank_line.Statement.{statement}
 use Rattle.format.proofs.formatter.Formatter.write_blank_line.Tie as tie
 

@@ -1,7 +1,7 @@
 -- `format::formatter::Formatter::write_inline_close_gap` meets its contract. Assumes nothing.
 use borrow.Author.Needs.{needs}
 use Rattle.format.proofs.Does.{told}
-use Rattle.format.proofs.Sink.{nothing}
+use Rattle.sink.proofs.Sink.{nothing}
 use Rattle.format.proofs.formatter.Formatter.write_inline_close_gap.Statement.{statement}
 use Rattle.format.proofs.formatter.Formatter.write_inline_close_gap.Tie as tie
 

@@ -1,6 +1,6 @@
 -- `format::formatter::Formatter::write_inner_inline` meets its contract. Assumes nothing.
 use borrow.Author.Needs.{needs}
-use Rattle.format.proofs.Sink.{andThen}
+use Rattle.sink.proofs.Sink.{andThen}
 use Rattle.format.proofs.formatter.Formatter.write_inner_inline.Statement.{statement}
 use Rattle.format.proofs.formatter.Formatter.write_inner_inline.Tie as tie
 

@@ -1,6 +1,6 @@
 -- `format::formatter::Formatter::write_on_new_line` meets its contract. Assumes nothing.
 use borrow.Author.Needs.{needs}
-use Rattle.format.proofs.Sink.{andThen}
+use Rattle.sink.proofs.Sink.{andThen}
 use Rattle.format.proofs.formatter.Formatter.write_on_new_line.Statement.{statement}
 use Rattle.format.proofs.formatter.Formatter.write_on_new_line.Tie as tie
 

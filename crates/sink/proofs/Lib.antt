@@ -1,0 +1,5 @@
+pub mod Sink
+pub mod Gaps
+pub mod Marks
+pub mod Feeds
+pub mod Next

@@ -1,0 +1,24 @@
+-- `sink::lent::push_entry` meets its contract. Assumes nothing.
+use mathlib.Core.Path.{refl}
+use native.Mathlib.Omega.{arith}
+use borrow.Author.Needs.{needs}
+use Rattle.sink.proofs.lent.push_entry.Statement.{statement}
+use Rattle.sink.proofs.lent.push_entry.Tie as tie
+
+mul-stack : tie.Need-mul-stack
+mul-stack c = search needs
+
+slice-write-stack : tie.Need-slice-write-stack
+slice-write-stack c = search needs
+
+same-length : tie.Need-same-length
+same-length c = search needs
+
+returns : tie.Need-returns
+returns c = search needs
+
+returns-2 : tie.Need-returns-2
+returns-2 c = (λ h. let m = c .if1 .left in absurd (omega arith), refl)
+
+pub push-entry-spec : {M : Type 1} → statement M
+push-entry-spec = tie.close (tie.spec mul-stack slice-write-stack same-length returns returns-2)

@@ -1,0 +1,5 @@
+// What the layout's state has no part in: writers on the lent output, and what is found from numbers and slices alone.
+pub mod comments;
+pub mod lent;
+pub mod numbers;
+pub mod write;

@@ -1,0 +1,58 @@
+// Numbers that the state's methods go by.
+use lookahead::space_between;
+ghost use mathlib.Core.Bool.{cond};
+ghost use mathlib.Core.Path.{_≡_};
+ghost use Prim.Native.Nat.{_-_, _*_, _<_};
+ghost use Rattle.sink.specs.Gap.{gapSize};
+
+// How many spaces stand before a token of the kind. It takes numbers, and not the state, wherever it is called.
+pub fn token_gap(at_line_start: bool, indent: usize, tight: bool, prev: u32, kind: u32) -> usize
+    ensures { λ r. ⌜ r ≡ gapSize «at_line_start» indent tight prev kind ⌝ }
+{
+    if at_line_start {
+        return indent;
+    }
+    if tight {
+        return 0;
+    }
+    if space_between(prev, kind) {
+        return 1;
+    }
+    0
+}
+
+// How many spaces indent a line.
+pub fn indent_size(width: u32, indent: u32) -> usize
+    ensures { λ r. ⌜ r ≡ width * indent ⌝ }
+{
+    (width as usize) * (indent as usize)
+}
+
+// One less, and 0 of 0.
+pub fn less(n: usize) -> usize
+    ensures { λ r. ⌜ r ≡ n - 1 ⌝ }
+{
+    if 0 < n {
+        return n - 1;
+    }
+    0
+}
+
+pub fn less32(n: u32) -> u32
+    ensures { λ r. ⌜ r ≡ n - 1 ⌝ }
+{
+    if 0 < n {
+        return n - 1;
+    }
+    0
+}
+
+// How many commas that is.
+pub fn count_comma(wanted: bool) -> usize
+    ensures { λ r. ⌜ (r ≡ cond wanted 1 0) × (r < 2) ⌝ }
+{
+    if wanted {
+        return 1;
+    }
+    0
+}
