@@ -44,10 +44,6 @@ openInnerInline o = if (λ f. f .atLineStart) (gap (indentStr o)) (gap (λ f. sp
 abbrev pub openInline : Options → Act
 openInline o = gap (indentOrSpace o) ⨾ lexeme (123 ∷ []) ⨾ update (λ f. endedBy LeftBrace (setInlineDepth 1 f))
 
--- any other `{`
-abbrev pub openOneLine : Options → Act
-openOneLine o = if inOneLineBlock (openInnerInline o) (openInline o)
-
 abbrev pub openAllman : Options → ℕ → Act
 openAllman o i = (gap (onNewLine o) ⨾ lexeme (123 ∷ []) ⨾ gap (λ f. lineFeed) ⨾ update (λ f. lineBegun (i + 1) (indented f))) ⨾ update (setPrev (some LeftBrace))
 

@@ -22,6 +22,8 @@ use sink::lent::push_entry;
 use sink::numbers::count_comma;
 use sink::numbers::less;
 use sink::numbers::less32;
+use sink::numbers::record_depth_inside;
+use sink::numbers::record_pending_after;
 use sink::numbers::token_gap;
 use sink::write::emit_token_text;
 use sink::write::write_byte;
@@ -37,10 +39,10 @@ ghost use Rattle.rows.specs.Token.{Token, tokensOf};
 ghost use Rattle.lookahead.specs.Measure.{nextHasComment, shouldBreakSig, shouldBreakList, blockIsSingleLine};
 ghost use Rattle.push_token.specs.Act.{update, _⨾_};
 ghost use Rattle.push_token.specs.Emit.{openBlockMultiline, pushLexeme};
-ghost use Rattle.push_token.specs.Arms.{atRecordFields, inBrokenList, inlineCloseGap, endsWithTwoFeeds, groupClosed, atSignature, newlineArm, closeInline, closeRecord, closeBlock, rightBraceArm, nextIs, emptyRecord, openBlock, leftBraceArm, openList, breaksList, closeCall, rightParenArm, closeArray, rightBracketArm, commaArm, elseOnNewLine, elseArm, otherArm, trackRecord};
+ghost use Rattle.push_token.specs.Arms.{atRecordFields, inBrokenList, inlineCloseGap, endsWithTwoFeeds, groupClosed, atSignature, newlineArm, closeInline, closeRecord, closeBlock, rightBraceArm, nextIs, emptyRecord, openBlock, leftBraceArm, openList, breaksList, closeCall, rightParenArm, closeArray, rightBracketArm, commaArm, elseOnNewLine, elseArm, otherArm};
 ghost use Rattle.sink.specs.Sink.{Writes};
 ghost use Rattle.format.specs.Pen.{Roomy, StackRoom, Names, Stands, Ahead, lone, optionsOf, formatterOf, newlineOf, signatureOf, stateOf, on};
-ghost use Rattle.format.specs.Parts.{ListRoom, feedsLine, feedLine, opensBlock, recordEntered, openOneLine, openInline, openerArm, opensSignature, openSignature, signatureBelow, bracketOpened, breakComma, breakSignature, closeSignatureParen};
+ghost use Rattle.format.specs.Parts.{ListRoom, feedsLine, feedLine, opensBlock, recordEntered, openInline, openerArm, opensSignature, openSignature, signatureBelow, bracketOpened, breakComma, breakSignature, closeSignatureParen};
 ghost use Rattle.format.specs.Due.{Leads};
 ghost use Rattle.format.specs.Does.{Does};
 
@@ -66,8 +68,8 @@ impl Formatter {
         self
     }
 
-    // Whether a Newline that is not suppressed is written: not at the text's start before a comment, not where lines
-    // are kept, and no third line feed.
+    // Whether a Newline that is not suppressed is written: not at the text's start before a comment, not in a
+    // record or a one-line block, and no third line feed.
     fn feeds(self, out: &[u8], rows: &[u8]) -> bool
         ensures { λ r. ⌜ ((s text : List ℕ) → self .len ≤ length (now (out .entry)) → r ≡ feedsLine (tokensOf (now (rows .entry)) text) (stateOf (on self s (now (out .entry))))) ⌝ }
     {
@@ -77,7 +79,10 @@ impl Formatter {
                 return false;
             }
         }
-        if self.keeps_lines() {
+        if self.in_record {
+            return false;
+        }
+        if self.in_one_line_block() {
             return false;
         }
         if self.at_line_start {
@@ -109,16 +114,6 @@ impl Formatter {
             NewlineAt::Never => false,
             NewlineAt::Index(i) => i == index,
         }
-    }
-
-    // In a record or a one-line block Newlines are swallowed.
-    fn keeps_lines(self) -> bool
-        ensures { λ r. ⌜ r ≡ (self .«in_record» || Rattle.push_token.specs.Arms.inOneLineBlock (formatterOf self [])) ⌝ }
-    {
-        if self.in_record {
-            return true;
-        }
-        self.in_one_line_block()
     }
 
     // ---- RightBrace
@@ -213,23 +208,13 @@ impl Formatter {
         let brace = Before {
             kind: Prev::Kind(kinds::RIGHT_BRACE),
         };
-        let depth = RecordDepth(self.record_depth_inside());
+        let record = self.record_depth;
+        let depth = RecordDepth(record_depth_inside(self.in_record, record.0));
         self.len = closed;
         self.prev = brace;
         self.at_line_start = false;
         self.record_depth = depth;
         self
-    }
-
-    // One less in a record.
-    fn record_depth_inside(self) -> u32
-        ensures { λ r. ⌜ r ≡ cond (self .«in_record») (self .«record_depth» .0 - 1) (self .«record_depth» .0) ⌝ }
-    {
-        let depth = self.record_depth;
-        if self.in_record {
-            return less32(depth.0);
-        }
-        depth.0
     }
 
     // ---- LeftBrace
@@ -253,7 +238,11 @@ impl Formatter {
             if self.opens_block(rows, token) {
                 self = self.open_block_multiline(out, token.index);
             } else {
-                self = self.open_one_line(out);
+                if self.in_one_line_block() {
+                    self = self.open_inner_inline(out);
+                } else {
+                    self = self.open_inline(out);
+                }
             }
         }
         self
@@ -321,19 +310,6 @@ impl Formatter {
         self.record_pending = false;
         self.returned = true;
         self.skip_next = true;
-        self
-    }
-
-    // A `{` that opens no block over several lines.
-    fn open_one_line(mut self, out: &mut [u8]) -> Self
-        requires { ⌜ Roomy self ⌝ }
-        ensures { λ r. ⌜ ((s : List ℕ) → Does openOneLine (on self s (now (out .entry))) (on r s (now (out .exit)))) ⌝ }
-    {
-        if self.in_one_line_block() {
-            self = self.open_inner_inline(out);
-        } else {
-            self = self.open_inline(out);
-        }
         self
     }
 
@@ -884,22 +860,9 @@ impl Formatter {
     pub fn other_arm(mut self, kind: u32) -> Self
         ensures { λ r. ⌜ ((s l : List ℕ) (t : Token) → t .kind ≡ kind → Leads (λ o. otherArm o t) t (on self s l) (on r s l)) ⌝ }
     {
-        let pending = self.record_pending_after(kind);
+        let pending = record_pending_after(self.record_pending, kind);
         self.record_pending = pending;
         self.lexeme_due = true;
         self
-    }
-
-    // `record` arms the record layout, a name leaves it armed, anything else disarms it.
-    fn record_pending_after(self, kind: u32) -> bool
-        ensures { λ r. ⌜ r ≡ trackRecord kind (formatterOf self []) .recordPending ⌝ }
-    {
-        if kind == kinds::RECORD {
-            return true;
-        }
-        if kind == kinds::IDENTIFIER {
-            return self.record_pending;
-        }
-        false
     }
 }

@@ -2,6 +2,7 @@
 // broken-group stack are lent beside it, so that no array is copied.
 use lookahead::is_value_kind;
 use rows::kinds;
+use sink::numbers::fn_state_after;
 use sink::numbers::indent_size;
 use sink::numbers::token_gap;
 use sink::write::emit_token_text;
@@ -284,37 +285,9 @@ impl Formatter {
     pub fn track_fn_state(mut self, kind: u32) -> Self
         ensures { λ r. ⌜ ((s l : List ℕ) → Does (λ o. update (trackFnState kind)) (on self s l) (on r s l)) ⌝ }
     {
-        let next = self.fn_state_after(kind);
+        let signature = self.sig_break_depth;
+        let next = fn_state_after(self.fn_state, signature.0, kind);
         self.fn_state = next;
         self
-    }
-
-    pub fn fn_state_after(self, kind: u32) -> u8
-        ensures { λ r. ⌜ r ≡ trackFnState kind (formatterOf self []) .fnState ⌝ }
-    {
-        let state = self.fn_state;
-        if kind != kinds::FN {
-            if state == 0 {
-                return 0;
-            }
-        }
-        let signature = self.sig_break_depth;
-        let depth = signature.0;
-        if 0 < depth {
-            return state;
-        }
-        if kind == kinds::FN {
-            return 1;
-        }
-        if kind == kinds::IDENTIFIER {
-            if state == 1 {
-                return 2;
-            }
-            return 0;
-        }
-        if kind == kinds::NEWLINE {
-            return state;
-        }
-        0
     }
 }

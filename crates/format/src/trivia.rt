@@ -4,10 +4,9 @@ use rows::ROW_BYTES;
 use rows::Row;
 use rows::kinds;
 use rows::row_at;
+use sink::comments::write_blank_line;
 use sink::comments::write_lead;
 use sink::comments::write_trail;
-use sink::write::write_byte;
-ghost use mathlib.Core.Bool.{cond};
 ghost use mathlib.Core.List.{List, [], _∷_, _++_};
 ghost use mathlib.Core.Path.{_≡_};
 ghost use Prim.Native.Nat.{ℕ, _+_, _-_, _*_, _/_, _≤_, _<_};
@@ -16,7 +15,6 @@ ghost use Rattle.rows.specs.Answer.{rowOf};
 ghost use Rattle.rows.specs.Bounds.{Inside};
 ghost use Rattle.rows.specs.Token.{triviaOf};
 ghost use Rattle.push_token.specs.Emit.{leadingTrivia, trailingTrivia};
-ghost use Rattle.sink.specs.Sink.{Writes};
 ghost use Rattle.format.specs.Pen.{Held, on};
 ghost use Rattle.format.specs.Trivia.{Part, triviaIn, leadAct, trailAct};
 ghost use Rattle.format.specs.Does.{Does};
@@ -70,7 +68,7 @@ impl Formatter {
     {
         let len = self.len;
         if kinds::BLOCK_COMMENT < row.kind {
-            let fed = self.write_blank_line(out, len);
+            let fed = write_blank_line(out, len, self.in_record);
             self.len = fed;
             self.at_line_start = true;
             return self;
@@ -79,16 +77,6 @@ impl Formatter {
         let written = write_lead(out, gapped, text, row);
         self.len = written;
         self
-    }
-
-    // A line feed, except in a record.
-    fn write_blank_line(self, out: &mut [u8], len: usize) -> usize
-        ensures { λ r. ⌜ Writes (now (out .entry)) len (cond (self .«in_record») [] (10 ∷ [])) (now (out .exit)) r ⌝ }
-    {
-        if self.in_record {
-            return len;
-        }
-        write_byte(out, len, b'\n')
     }
 
     fn push_trail(mut self, out: &mut [u8], text: &[u8], row: Row) -> Self

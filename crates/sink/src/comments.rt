@@ -3,6 +3,7 @@ use crate::write::write_byte;
 use crate::write::write_part;
 use rows::Row;
 use rows::kinds;
+ghost use mathlib.Core.Bool.{cond};
 ghost use mathlib.Core.List.{[], _∷_, _++_};
 ghost use Prim.Native.Nat.{_<_};
 ghost use Rattle.rows.specs.Answer.{rowOf};
@@ -45,6 +46,16 @@ pub fn write_trail(out: &mut [u8], len: usize, text: &[u8], row: Row) -> usize
     }
     let spaced = write_byte(out, headed, b' ');
     write_part(out, spaced, text, start, end)
+}
+
+// A blank line's line feed, except in a record.
+pub fn write_blank_line(out: &mut [u8], len: usize, in_record: bool) -> usize
+    ensures { λ r. ⌜ Writes (now (out .entry)) len (cond «in_record» [] (10 ∷ [])) (now (out .exit)) r ⌝ }
+{
+    if in_record {
+        return len;
+    }
+    write_byte(out, len, b'\n')
 }
 
 // `//`, `///` or `/*`.

@@ -1,8 +1,13 @@
 // Numbers that the state's methods go by.
 use lookahead::space_between;
-ghost use mathlib.Core.Bool.{cond};
+use rows::kinds;
+ghost use mathlib.Core.Bool.{_&&_, _||_, cond};
 ghost use mathlib.Core.Path.{_≡_};
 ghost use Prim.Native.Nat.{_-_, _*_, _<_};
+ghost use lib.Dec.{eqb, ltb};
+ghost use Rattle.rows.specs.Kinds.{Record, Identifier};
+ghost use Rattle.push_token.specs.Formatter.{Formatter};
+ghost use Rattle.push_token.specs.Emit.{isSome, trackFnState};
 ghost use Rattle.sink.specs.Gap.{gapSize};
 
 // How many spaces stand before a token of the kind. It takes numbers, and not the state, wherever it is called.
@@ -43,6 +48,56 @@ pub fn less32(n: u32) -> u32
 {
     if 0 < n {
         return n - 1;
+    }
+    0
+}
+
+// The depth in a record behind a brace that closes a block: one less, and as it is outside records.
+pub fn record_depth_inside(in_record: bool, depth: u32) -> u32
+    ensures { λ r. ⌜ r ≡ cond «in_record» (depth - 1) depth ⌝ }
+{
+    if in_record {
+        return less32(depth);
+    }
+    depth
+}
+
+// `record` arms the record layout, a name leaves it armed, anything else disarms it.
+pub fn record_pending_after(pending: bool, kind: u32) -> bool
+    ensures { λ r. ⌜ r ≡ eqb kind Record || (eqb kind Identifier && pending) ⌝ }
+{
+    if kind == kinds::RECORD {
+        return true;
+    }
+    if kind == kinds::IDENTIFIER {
+        return pending;
+    }
+    false
+}
+
+// `track_fn_state`, by the state so far and the depth of a broken signature, 0 where there is none.
+pub fn fn_state_after(state: u8, signature: u32, kind: u32) -> u8
+    ensures { λ r. ⌜ ((f : Formatter) → f .fnState ≡ state → isSome (f .sigBreakDepth) ≡ ltb 0 signature → r ≡ trackFnState kind f .fnState) ⌝ }
+{
+    if kind != kinds::FN {
+        if state == 0 {
+            return 0;
+        }
+    }
+    if 0 < signature {
+        return state;
+    }
+    if kind == kinds::FN {
+        return 1;
+    }
+    if kind == kinds::IDENTIFIER {
+        if state == 1 {
+            return 2;
+        }
+        return 0;
+    }
+    if kind == kinds::NEWLINE {
+        return state;
     }
     0
 }

@@ -25,7 +25,7 @@ same-length c = search needs
 
 returns : tie.Need-returns
 unfolding run said
-returns c = λ s. does refl (rw (c .before .before .before .before .before .before .before .before .before .less32 .ensures, c .record-depth-inside .ensures)) refl (rw (← c .before .before .before .before .before .before .before .before .before .less32 .ensures) (andThen (c .before .before .before .before .before .before .before .write-on-new-line .ensures) (c .before .before .before .write-byte .ensures)))
+returns c = λ s. does refl (rw (c .before .before .before .before .before .before .before .before .before .before .less32 .ensures, c .record-depth-inside .ensures)) refl (rw (← c .before .before .before .before .before .before .before .before .before .before .less32 .ensures) (andThen (c .before .before .before .before .before .before .before .before .write-on-new-line .ensures) (c .before .before .before .before .write-byte .ensures)))
 
 pub close-block-spec : {M : Type 1} → statement M
 close-block-spec =

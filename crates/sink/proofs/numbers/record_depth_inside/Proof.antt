@@ -1,7 +1,7 @@
--- `format::formatter::Formatter::record_depth_inside` meets its contract. Assumes nothing.
+-- `sink::numbers::record_depth_inside` meets its contract. Assumes nothing.
 use borrow.Author.Needs.{needs}
-use Rattle.format.proofs.formatter.Formatter.record_depth_inside.Statement.{statement}
-use Rattle.format.proofs.formatter.Formatter.record_depth_inside.Tie as tie
+use Rattle.sink.proofs.numbers.record_depth_inside.Statement.{statement}
+use Rattle.sink.proofs.numbers.record_depth_inside.Tie as tie
 
 less32-requires : tie.Need-less32-requires
 less32-requires c κs = search needs

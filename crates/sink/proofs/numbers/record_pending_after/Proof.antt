@@ -1,7 +1,7 @@
--- `format::formatter::Formatter::record_pending_after` meets its contract. Assumes nothing.
+-- `sink::numbers::record_pending_after` meets its contract. Assumes nothing.
 use borrow.Author.Tests.{eq-eqb, ne-eqb}
-use Rattle.format.proofs.formatter.Formatter.record_pending_after.Statement.{statement}
-use Rattle.format.proofs.formatter.Formatter.record_pending_after.Tie as tie
+use Rattle.sink.proofs.numbers.record_pending_after.Statement.{statement}
+use Rattle.sink.proofs.numbers.record_pending_after.Tie as tie
 
 returns : tie.Need-returns
 returns c = rw (eq-eqb _ _ (c .if1 .taken))

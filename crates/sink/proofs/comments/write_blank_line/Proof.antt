@@ -1,8 +1,8 @@
--- `format::formatter::Formatter::write_blank_line` meets its contract. Assumes nothing.
+-- `sink::comments::write_blank_line` meets its contract. Assumes nothing.
 use borrow.Author.Needs.{needs}
 use Rattle.sink.proofs.Sink.{nothing}
-use Rattle.format.proofs.formatter.Formatter.write_blank_line.Statement.{statement}
-use Rattle.format.proofs.formatter.Formatter.write_blank_line.Tie as tie
+use Rattle.sink.proofs.comments.write_blank_line.Statement.{statement}
+use Rattle.sink.proofs.comments.write_blank_line.Tie as tie
 
 returns : tie.Need-returns
 returns c = rw (c .if1 .taken) nothing
