@@ -6,7 +6,7 @@ use native.Mathlib.Nat.{add-zero}
 use native.Mathlib.Omega.{arith}
 use lib.ListN.{length, drop}
 use lib.Seq.{drop-drop}
-use borrow.Author.Tests.{eq-eqb, ne-eqb}
+use borrow.Author.Tests.{ne-eqb}
 use Rattle.rows.specs.Kinds.{BlockComment}
 use Rattle.rows.specs.Row.{Row, rowAt, firstRows}
 use Rattle.rows.specs.Bounds.{Inside, InBounds}

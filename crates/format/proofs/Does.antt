@@ -2,19 +2,19 @@
 use mathlib.Core.Bool.{Bool, true, false, cond, not}
 use mathlib.Core.List.{List, [], _∷_, _++_, append-nil}
 use mathlib.Core.Path.{_≡_, refl, sym, ap, _∙_}
-use Prim.Native.Nat.{ℕ, _+_, _-_, _≤_, _<_}
+use Prim.Native.Nat.{ℕ, _+_, _≤_, _<_}
 use native.Mathlib.Nat.{add-zero}
 use native.Mathlib.Omega.{arith}
 use borrow.Author.Tests.{leb-true, leb-false}
 use lib.Dec.{leb}
-use lib.ListN.{length, take, drop, length-append, length-take}
+use lib.ListN.{length, take, length-append}
 use lib.Seq.{length-take-le}
 use Rattle.rows.specs.Options.{Options}
 use Rattle.push_token.specs.Formatter.{Formatter}
-use Rattle.push_token.specs.Act.{State, state, Act, update, gap, lexeme, insert, comment, _⨾_, choose, if, run}
+use Rattle.push_token.specs.Act.{State, state, Act, update, gap, lexeme, insert, _⨾_, choose, if, run}
 use Rattle.push_token.proofs.Said.{said, run-said}
-use Rattle.sink.specs.Sink.{Wrote, Writes}
-use Rattle.format.specs.Pen.{Pen, on, stateOf, opts, formatterOf}
+use Rattle.sink.specs.Sink.{Writes}
+use Rattle.format.specs.Pen.{Pen, stateOf, opts, formatterOf}
 use Rattle.format.specs.Does.{Arrives, Does}
 use Rattle.sink.proofs.Sink.{nothing, later}
 

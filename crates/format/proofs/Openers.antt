@@ -1,25 +1,22 @@
 -- What the openers go by: the next token's row, what a lookahead says of the rows from the opener on, the block's style, and the signature's depth.
 -- Assumes nothing.
-use mathlib.Core.Bool.{Bool, false, cond}
-use mathlib.Core.List.{List, [], _∷_, _++_, append-nil}
-use mathlib.Core.Path.{_≡_, refl, sym, ap, _∙_}
+use mathlib.Core.Bool.{Bool}
+use mathlib.Core.List.{List, _∷_, append-nil}
+use mathlib.Core.Path.{_≡_, refl, ap, _∙_}
 use Prim.Native.Nat.{ℕ, zero, suc, _+_, _-_, _≤_, _<_}
 use native.Mathlib.Numerals.{add-one}
 use native.Mathlib.Omega.{arith}
-use lib.Dec.{eqb}
 use lib.ListN.{length, take, drop, length-drop}
 use lib.Seq.{take-all}
-use borrow.Author.Tests.{eq-eqb, ne-eqb}
 use Rattle.report.proofs.Logic.{split}
-use Rattle.rows.specs.Kinds.{Leading, TokenRow, LeftBrace}
-use Rattle.rows.specs.Row.{Row, rowAt, rowsOf}
-use Rattle.rows.specs.Token.{Trivia, triviaOf, Token, tokensFrom, tokensOf}
+use Rattle.rows.specs.Kinds.{LeftBrace}
+use Rattle.rows.specs.Row.{rowsOf}
+use Rattle.rows.specs.Token.{Token, tokensOf}
 use Rattle.rows.specs.Bounds.{InBounds}
-use Rattle.lookahead.proofs.Rests.{here, over}
 use Rattle.push_token.specs.Formatter.{setInlineDepth}
 use Rattle.push_token.specs.Act.{run}
 use Rattle.push_token.specs.Emit.{endedBy, openBlockMultiline}
-use Rattle.push_token.specs.Arms.{nextIs, openBlock, deeper}
+use Rattle.push_token.specs.Arms.{openBlock, deeper}
 use Rattle.push_token.proofs.Said.{said}
 use Rattle.format.specs.declared.formatter.TokenAt.{TokenAt}
 use Rattle.format.specs.declared.formatter.BraceStyle.the-variants.{SameLine, Allman}

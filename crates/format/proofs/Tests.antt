@@ -1,15 +1,15 @@
 -- What the definition's tests come to, by what the code reads. Assumes nothing.
-use mathlib.Core.Bool.{Bool, true, false, _&&_}
+use mathlib.Core.Bool.{true, false}
 use mathlib.Core.List.{List, [], _∷_}
 use mathlib.Core.Logic.{_⊎_, ⊎-elim}
 use mathlib.Core.Path.{_≡_, refl, sym}
-use Prim.Native.Nat.{ℕ, zero, suc, _+_, _-_, _≤_, _<_}
+use Prim.Native.Nat.{ℕ, zero, suc, _-_, _≤_, _<_}
 use native.Mathlib.Omega.{arith}
-use borrow.Author.Tests.{ne-eqb, lt-ltb}
-use lib.Dec.{eqb, ltb}
+use borrow.Author.Tests.{ne-eqb}
+use lib.Dec.{eqb}
 use lib.ListN.{length, take, getD}
 use Rattle.push_token.specs.Emit.{isSome, isAt}
-use Rattle.push_token.specs.Arms.{endsWithTwoFeeds, isEmptyText, shallower}
+use Rattle.push_token.specs.Arms.{isEmptyText, shallower}
 use Rattle.format.specs.Pen.{signatureOf}
 
 -- ---- the ways that meet, by which one the code came
@@ -33,9 +33,13 @@ empty-take (suc n) (x ∷ l) h = sym (ne-eqb (suc n) 0 (λ e. omega arith))
 
 -- ---- the depth of a broken signature
 
-pub sig-test : (d : ℕ) → isSome (signatureOf d) ≡ ltb 0 d
-sig-test zero = refl
-sig-test (suc d) = sym (lt-ltb 0 (suc d) (omega arith))
+pub sig-some : (d : ℕ) → 0 < d → isSome (signatureOf d) ≡ true
+sig-some zero h = absurd (omega arith)
+sig-some (suc d) h = refl
+
+pub sig-none : (d : ℕ) → d ≤ 0 → isSome (signatureOf d) ≡ false
+sig-none zero h = refl
+sig-none (suc d) h = absurd (omega arith)
 
 -- one less, but for the signature's own `)`
 pub sig-less : (d : ℕ) → (d ≡ 1 → ⊥) → shallower (signatureOf d) ≡ signatureOf (d - 1)

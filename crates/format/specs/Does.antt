@@ -2,7 +2,7 @@
 -- once it is full nothing more is promised but that it stays so, so a test of the bytes written need only be right while there is room.
 -- Assumes nothing.
 use mathlib.Core.Path.{_≡_}
-use Prim.Native.Nat.{ℕ, _≤_, _<_}
+use Prim.Native.Nat.{_≤_, _<_}
 use lib.ListN.{length, drop}
 use Rattle.rows.specs.Options.{Options}
 use Rattle.push_token.specs.Act.{State, Act, run}

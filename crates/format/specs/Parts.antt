@@ -2,7 +2,7 @@
 -- Assumes nothing.
 use mathlib.Core.Bool.{Bool, true, false, cond, not, _&&_, _||_}
 use mathlib.Core.List.{List, [], _∷_, _++_}
-use mathlib.Core.Option.{Option, none, some}
+use mathlib.Core.Option.{Option, some}
 use mathlib.Core.Path.{_≡_}
 use Prim.Native.Nat.{ℕ, _+_, _<_}
 use lib.Dec.{eqb}
@@ -43,6 +43,10 @@ openInnerInline o = if (λ f. f .atLineStart) (gap (indentStr o)) (gap (λ f. sp
 
 abbrev pub openInline : Options → Act
 openInline o = gap (indentOrSpace o) ⨾ lexeme (123 ∷ []) ⨾ update (λ f. endedBy LeftBrace (setInlineDepth 1 f))
+
+-- any other `{`
+abbrev pub openOneLine : Options → Act
+openOneLine o = if inOneLineBlock (openInnerInline o) (openInline o)
 
 abbrev pub openAllman : Options → ℕ → Act
 openAllman o i = (gap (onNewLine o) ⨾ lexeme (123 ∷ []) ⨾ gap (λ f. lineFeed) ⨾ update (λ f. lineBegun (i + 1) (indented f))) ⨾ update (setPrev (some LeftBrace))

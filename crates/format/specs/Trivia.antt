@@ -5,7 +5,7 @@ use mathlib.Core.List.{List, [], _∷_, _++_, map}
 use mathlib.Core.Path.{_≡_}
 use Prim.Native.Nat.{ℕ, _+_, _-_, _*_, _/_, _≤_}
 use lib.ListN.{length, drop}
-use Rattle.rows.specs.Row.{rowsOf, firstRows}
+use Rattle.rows.specs.Row.{firstRows}
 use Rattle.rows.specs.Bounds.{InBounds}
 use Rattle.rows.specs.Options.{Options}
 use Rattle.rows.specs.Token.{Trivia, lineComment, docComment, blockComment, blankLine, triviaOf}

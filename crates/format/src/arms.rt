@@ -29,20 +29,18 @@ use sink::write::emit_token_text;
 use sink::write::write_byte;
 use sink::write::write_comma;
 use sink::write::write_else;
-ghost use mathlib.Core.Bool.{Bool, true, false, _&&_, _||_, not, cond};
-ghost use mathlib.Core.List.{List, [], _∷_, _++_};
+ghost use mathlib.Core.Bool.{true, false, _&&_, _||_, not};
+ghost use mathlib.Core.List.{List, [], _∷_};
 ghost use mathlib.Core.Path.{_≡_};
-ghost use Prim.Native.Nat.{ℕ, _+_, _-_, _≤_, _<_};
-ghost use lib.Dec.{eqb};
-ghost use lib.ListN.{length, take, set};
+ghost use Prim.Native.Nat.{ℕ, _+_, _≤_, _<_};
+ghost use lib.ListN.{length};
 ghost use Rattle.rows.specs.Token.{Token, tokensOf};
-ghost use Rattle.lookahead.specs.Measure.{nextHasComment, shouldBreakSig, shouldBreakList, blockIsSingleLine};
 ghost use Rattle.push_token.specs.Act.{update, _⨾_};
-ghost use Rattle.push_token.specs.Emit.{openBlockMultiline, pushLexeme};
-ghost use Rattle.push_token.specs.Arms.{atRecordFields, inBrokenList, inlineCloseGap, endsWithTwoFeeds, groupClosed, atSignature, newlineArm, closeInline, closeRecord, closeBlock, rightBraceArm, nextIs, emptyRecord, openBlock, leftBraceArm, openList, breaksList, closeCall, rightParenArm, closeArray, rightBracketArm, commaArm, elseOnNewLine, elseArm, otherArm};
+ghost use Rattle.push_token.specs.Emit.{isAt, prevIs};
+ghost use Rattle.push_token.specs.Arms.{atRecordFields, inBrokenList, inlineCloseGap, groupClosed, atSignature, newlineArm, closeInline, closeRecord, closeBlock, rightBraceArm, nextIs, emptyRecord, openBlock, leftBraceArm, openList, breaksList, closeCall, rightParenArm, closeArray, rightBracketArm, commaArm, elseOnNewLine, elseArm, otherArm, inOneLineBlock};
 ghost use Rattle.sink.specs.Sink.{Writes};
 ghost use Rattle.format.specs.Pen.{Roomy, StackRoom, Names, Stands, Ahead, lone, optionsOf, formatterOf, newlineOf, signatureOf, stateOf, on};
-ghost use Rattle.format.specs.Parts.{ListRoom, feedsLine, feedLine, opensBlock, recordEntered, openInline, openerArm, opensSignature, openSignature, signatureBelow, bracketOpened, breakComma, breakSignature, closeSignatureParen};
+ghost use Rattle.format.specs.Parts.{ListRoom, feedsLine, feedLine, opensBlock, recordEntered, openOneLine, openInline, openerArm, opensSignature, openSignature, signatureBelow, bracketOpened, breakComma, breakSignature, closeSignatureParen, breakElse, innerInlineBytes, openAllman, openInnerInline, openSameLine};
 ghost use Rattle.format.specs.Due.{Leads};
 ghost use Rattle.format.specs.Does.{Does};
 
@@ -68,8 +66,8 @@ impl Formatter {
         self
     }
 
-    // Whether a Newline that is not suppressed is written: not at the text's start before a comment, not in a
-    // record or a one-line block, and no third line feed.
+    // Whether a Newline that is not suppressed is written: not at the text's start before a comment, not where lines
+    // are kept, and no third line feed.
     fn feeds(self, out: &[u8], rows: &[u8]) -> bool
         ensures { λ r. ⌜ ((s text : List ℕ) → self .len ≤ length (now (out .entry)) → r ≡ feedsLine (tokensOf (now (rows .entry)) text) (stateOf (on self s (now (out .entry))))) ⌝ }
     {
@@ -79,10 +77,7 @@ impl Formatter {
                 return false;
             }
         }
-        if self.in_record {
-            return false;
-        }
-        if self.in_one_line_block() {
+        if self.keeps_lines() {
             return false;
         }
         if self.at_line_start {
@@ -106,7 +101,7 @@ impl Formatter {
     }
 
     fn suppresses(self, index: u32) -> bool
-        ensures { λ r. ⌜ r ≡ Rattle.push_token.specs.Emit.isAt (newlineOf (self .«suppress_newline_at» .at)) index ⌝ }
+        ensures { λ r. ⌜ r ≡ isAt (newlineOf (self .«suppress_newline_at» .at)) index ⌝ }
     {
         let suppressed = self.suppress_newline_at;
         let at = suppressed.at;
@@ -114,6 +109,16 @@ impl Formatter {
             NewlineAt::Never => false,
             NewlineAt::Index(i) => i == index,
         }
+    }
+
+    // In a record or a one-line block Newlines are swallowed.
+    fn keeps_lines(self) -> bool
+        ensures { λ r. ⌜ r ≡ (self .«in_record» || inOneLineBlock (formatterOf self [])) ⌝ }
+    {
+        if self.in_record {
+            return true;
+        }
+        self.in_one_line_block()
     }
 
     // ---- RightBrace
@@ -190,7 +195,7 @@ impl Formatter {
 
     // The last kind is neither Comma nor LeftBrace.
     fn wants_record_comma(self) -> bool
-        ensures { λ r. ⌜ r ≡ not (Rattle.push_token.specs.Emit.prevIs 8 (formatterOf self []) || Rattle.push_token.specs.Emit.prevIs 2 (formatterOf self [])) ⌝ }
+        ensures { λ r. ⌜ r ≡ not (prevIs 8 (formatterOf self []) || prevIs 2 (formatterOf self [])) ⌝ }
     {
         if self.prev_is(kinds::COMMA) {
             return false;
@@ -238,11 +243,7 @@ impl Formatter {
             if self.opens_block(rows, token) {
                 self = self.open_block_multiline(out, token.index);
             } else {
-                if self.in_one_line_block() {
-                    self = self.open_inner_inline(out);
-                } else {
-                    self = self.open_inline(out);
-                }
+                self = self.open_one_line(out);
             }
         }
         self
@@ -313,10 +314,23 @@ impl Formatter {
         self
     }
 
+    // A `{` that opens no block over several lines.
+    fn open_one_line(mut self, out: &mut [u8]) -> Self
+        requires { ⌜ Roomy self ⌝ }
+        ensures { λ r. ⌜ ((s : List ℕ) → Does openOneLine (on self s (now (out .entry))) (on r s (now (out .exit)))) ⌝ }
+    {
+        if self.in_one_line_block() {
+            self = self.open_inner_inline(out);
+        } else {
+            self = self.open_inline(out);
+        }
+        self
+    }
+
     // A brace in a one-line block; at a line's start the Rust writes none.
     fn open_inner_inline(mut self, out: &mut [u8]) -> Self
         requires { ⌜ Roomy self ⌝ }
-        ensures { λ r. ⌜ ((s : List ℕ) → Does Rattle.format.specs.Parts.openInnerInline (on self s (now (out .entry))) (on r s (now (out .exit)))) ⌝ }
+        ensures { λ r. ⌜ ((s : List ℕ) → Does openInnerInline (on self s (now (out .entry))) (on r s (now (out .exit)))) ⌝ }
     {
         let len = self.len;
         let opened = self.write_inner_inline(out, len);
@@ -333,7 +347,7 @@ impl Formatter {
     }
 
     fn write_inner_inline(self, out: &mut [u8], len: usize) -> usize
-        ensures { λ r. ⌜ Writes (now (out .entry)) len (Rattle.format.specs.Parts.innerInlineBytes (optionsOf (self .options)) (formatterOf self [])) (now (out .exit)) r ⌝ }
+        ensures { λ r. ⌜ Writes (now (out .entry)) len (innerInlineBytes (optionsOf (self .options)) (formatterOf self [])) (now (out .exit)) r ⌝ }
     {
         if self.at_line_start {
             return self.write_indent(out, len);
@@ -403,7 +417,7 @@ impl Formatter {
 
     fn open_block_same_line(mut self, out: &mut [u8]) -> Self
         requires { ⌜ self .indent < 4294967295 ⌝ }
-        ensures { λ r. ⌜ ((s : List ℕ) → Does (λ o. Rattle.format.specs.Parts.openSameLine) (on self s (now (out .entry))) (on r s (now (out .exit)))) ⌝ }
+        ensures { λ r. ⌜ ((s : List ℕ) → Does (λ o. openSameLine) (on self s (now (out .entry))) (on r s (now (out .exit)))) ⌝ }
     {
         let len = self.len;
         let gapped = write_byte(out, len, b' ');
@@ -421,7 +435,7 @@ impl Formatter {
     fn open_block_allman(mut self, out: &mut [u8], index: u32) -> Self
         requires { ⌜ self .indent < 4294967295 ⌝ }
         requires { ⌜ index < 4294967295 ⌝ }
-        ensures { λ r. ⌜ ((s : List ℕ) → Does (λ o. Rattle.format.specs.Parts.openAllman o index) (on self s (now (out .entry))) (on r s (now (out .exit)))) ⌝ }
+        ensures { λ r. ⌜ ((s : List ℕ) → Does (λ o. openAllman o index) (on self s (now (out .entry))) (on r s (now (out .exit)))) ⌝ }
     {
         let len = self.len;
         let gapped = self.write_on_new_line(out, len);
@@ -840,7 +854,7 @@ impl Formatter {
 
     // `else` on a line of its own.
     fn break_else(mut self, out: &mut [u8]) -> Self
-        ensures { λ r. ⌜ ((s : List ℕ) → Does Rattle.format.specs.Parts.breakElse (on self s (now (out .entry))) (on r s (now (out .exit)))) ⌝ }
+        ensures { λ r. ⌜ ((s : List ℕ) → Does breakElse (on self s (now (out .entry))) (on r s (now (out .exit)))) ⌝ }
     {
         let len = self.len;
         let fed = write_byte(out, len, b'\n');

@@ -2,24 +2,21 @@
 // broken-group stack are lent beside it, so that no array is copied.
 use lookahead::is_value_kind;
 use rows::kinds;
-use sink::numbers::fn_state_after;
 use sink::numbers::indent_size;
 use sink::numbers::token_gap;
 use sink::write::emit_token_text;
 use sink::write::write_byte;
 use sink::write::write_spaces;
-ghost use mathlib.Core.Bool.{_&&_, _||_, not, cond};
-ghost use mathlib.Core.List.{List, [], _∷_, _++_};
+ghost use mathlib.Core.Bool.{_&&_};
+ghost use mathlib.Core.List.{List, []};
 ghost use mathlib.Core.Path.{_≡_};
-ghost use Prim.Native.Nat.{ℕ, _+_, _-_, _*_, _<_};
-ghost use lib.Dec.{eqb};
-ghost use lib.ListN.{length, take};
+ghost use Prim.Native.Nat.{ℕ, _-_, _*_, _<_};
 ghost use Rattle.push_token.specs.Act.{update};
-ghost use Rattle.push_token.specs.Emit.{isAt, prevIs, indentStr, indentOrSpace, onNewLine, trackFnState, trackMinus, pushLexeme};
-ghost use Rattle.push_token.specs.Arms.{atRecordFields, inBrokenList, inOneLineBlock, inlineCloseGap, endsWithTwoFeeds, groupClosed};
+ghost use Rattle.push_token.specs.Emit.{isAt, indentStr, indentOrSpace, onNewLine, trackFnState, trackMinus, pushLexeme};
+ghost use Rattle.push_token.specs.Arms.{atRecordFields, inBrokenList, inOneLineBlock};
 ghost use Rattle.sink.specs.Sink.{Writes};
 ghost use Rattle.sink.specs.Gap.{isTight, kindOf};
-ghost use Rattle.format.specs.Pen.{Names, lexemeOf, lone, optionsOf, formatterOf, prevOf, newlineOf, on};
+ghost use Rattle.format.specs.Pen.{Names, lone, optionsOf, formatterOf, prevOf, on};
 ghost use Rattle.format.specs.Does.{Does};
 ghost use Rattle.format.specs.Due.{due};
 
@@ -285,9 +282,37 @@ impl Formatter {
     pub fn track_fn_state(mut self, kind: u32) -> Self
         ensures { λ r. ⌜ ((s l : List ℕ) → Does (λ o. update (trackFnState kind)) (on self s l) (on r s l)) ⌝ }
     {
-        let signature = self.sig_break_depth;
-        let next = fn_state_after(self.fn_state, signature.0, kind);
+        let next = self.fn_state_after(kind);
         self.fn_state = next;
         self
+    }
+
+    pub fn fn_state_after(self, kind: u32) -> u8
+        ensures { λ r. ⌜ r ≡ trackFnState kind (formatterOf self []) .fnState ⌝ }
+    {
+        let state = self.fn_state;
+        if kind != kinds::FN {
+            if state == 0 {
+                return 0;
+            }
+        }
+        let signature = self.sig_break_depth;
+        let depth = signature.0;
+        if 0 < depth {
+            return state;
+        }
+        if kind == kinds::FN {
+            return 1;
+        }
+        if kind == kinds::IDENTIFIER {
+            if state == 1 {
+                return 2;
+            }
+            return 0;
+        }
+        if kind == kinds::NEWLINE {
+            return state;
+        }
+        0
     }
 }

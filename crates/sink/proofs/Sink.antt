@@ -1,16 +1,16 @@
 -- Writes one after the other, and the loops of the writers. Assumes nothing.
 use mathlib.Core.Bool.{Bool, true, false}
 use mathlib.Core.List.{List, [], _∷_, _++_, append-nil, append-assoc}
-use mathlib.Core.Path.{_≡_, refl, sym, ap, _∙_}
-use Prim.Native.Nat.{ℕ, suc, _+_, _-_, _*_, _^_, _≤_, _<_}
+use mathlib.Core.Path.{_≡_, refl, sym, _∙_}
+use Prim.Native.Nat.{ℕ, _+_, _-_, _*_, _^_, _≤_, _<_}
 use native.Mathlib.Omega.{arith}
 use native.Mathlib.Numerals.{add-one}
-use native.Mathlib.Nat.{sub-zero, le-of-lt, lt-of-le-of-lt, mul-le-mul-left, mul-lt-mul-of-pos-right}
+use native.Mathlib.Nat.{le-of-lt, lt-of-le-of-lt, mul-le-mul-left, mul-lt-mul-of-pos-right}
 use borrow.Author.Tests.{leb-true, leb-false}
 use lib.Dec.{leb, lit<}
-use lib.ListN.{length, take, drop, set, getD, replicate, length-append, length-take, length-set, length-replicate, replicate-append-replicate, drop-of-length-le}
+use lib.ListN.{length, take, drop, set, getD, replicate, length-append, length-take, length-set, length-replicate, replicate-append-replicate}
 use lib.Seq.{slice, length-slice, drop-drop, take-suc-set, drop-set-lt, take-suc, drop-append-le, slice-empty}
-use Rattle.sink.specs.Sink.{Wrote, Writes}
+use Rattle.sink.specs.Sink.{Writes}
 
 pub later : (i j : ℕ) (k l : List ℕ) → i ≤ j → drop i k ≡ drop i l → drop j k ≡ drop j l
 later i j k l h e =

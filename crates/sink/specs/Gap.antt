@@ -1,6 +1,6 @@
 -- How many spaces stand before a token, by numbers alone. proofs/Gaps.antt shows that they are the definition's gap.
 -- Assumes nothing.
-use mathlib.Core.Bool.{Bool, true, false, cond, _&&_}
+use mathlib.Core.Bool.{Bool, true, cond, _&&_}
 use mathlib.Core.Option.{Option, none, some}
 use Prim.Native.Nat.{ℕ}
 use lib.Dec.{eqb}

@@ -4,10 +4,8 @@ use rows::kinds;
 ghost use mathlib.Core.Bool.{_&&_, _||_, cond};
 ghost use mathlib.Core.Path.{_≡_};
 ghost use Prim.Native.Nat.{_-_, _*_, _<_};
-ghost use lib.Dec.{eqb, ltb};
+ghost use lib.Dec.{eqb};
 ghost use Rattle.rows.specs.Kinds.{Record, Identifier};
-ghost use Rattle.push_token.specs.Formatter.{Formatter};
-ghost use Rattle.push_token.specs.Emit.{isSome, trackFnState};
 ghost use Rattle.sink.specs.Gap.{gapSize};
 
 // How many spaces stand before a token of the kind. It takes numbers, and not the state, wherever it is called.
@@ -73,33 +71,6 @@ pub fn record_pending_after(pending: bool, kind: u32) -> bool
         return pending;
     }
     false
-}
-
-// `track_fn_state`, by the state so far and the depth of a broken signature, 0 where there is none.
-pub fn fn_state_after(state: u8, signature: u32, kind: u32) -> u8
-    ensures { λ r. ⌜ ((f : Formatter) → f .fnState ≡ state → isSome (f .sigBreakDepth) ≡ ltb 0 signature → r ≡ trackFnState kind f .fnState) ⌝ }
-{
-    if kind != kinds::FN {
-        if state == 0 {
-            return 0;
-        }
-    }
-    if 0 < signature {
-        return state;
-    }
-    if kind == kinds::FN {
-        return 1;
-    }
-    if kind == kinds::IDENTIFIER {
-        if state == 1 {
-            return 2;
-        }
-        return 0;
-    }
-    if kind == kinds::NEWLINE {
-        return state;
-    }
-    0
 }
 
 // How many commas that is.

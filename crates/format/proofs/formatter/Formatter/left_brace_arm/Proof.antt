@@ -18,14 +18,8 @@ opens-block-requires c κs = search needs
 open-block-multiline-requires : tie.Need-open-block-multiline-requires
 open-block-multiline-requires c κs = search needs
 
-in-one-line-block-requires : tie.Need-in-one-line-block-requires
-in-one-line-block-requires c κs = search needs
-
-open-inner-inline-requires : tie.Need-open-inner-inline-requires
-open-inner-inline-requires c κs = search needs
-
-open-inline-requires : tie.Need-open-inline-requires
-open-inline-requires c κs = search needs
+open-one-line-requires : tie.Need-open-one-line-requires
+open-one-line-requires c κs = search needs
 
 same-length : tie.Need-same-length
 same-length c = search needs
@@ -44,13 +38,7 @@ same-length-3 : tie.Need-same-length-3
 same-length-3 c = search needs
 
 returns-3 : tie.Need-returns-3
-returns-3 c = λ s t ts σ. brace (c .before .before .before .before .before .before .before .before .before .before .before .before .before .args .token .index) t ts (no (λ n. told (c .before .before .before .before .before .before .before .before .before .empties-record .ensures _ t ts σ) (c .before .before .before .before .before .before .before .before .if1 .left)) (no (λ n. told (c .before .before .before .before .before .before .before .opens-block .ensures _ t ts σ) (c .before .before .before .before .before .before .if2 .left)) (yes (λ n. told (c .before .before .before .before .before .in-one-line-block .ensures) (c .before .before .before .before .if3 .taken)) (c .before .before .open-inner-inline .ensures s))))
-
-same-length-4 : tie.Need-same-length-4
-same-length-4 c = search needs
-
-returns-4 : tie.Need-returns-4
-returns-4 c = λ s t ts σ. brace (c .before .before .before .before .before .before .before .before .before .before .before .before .before .args .token .index) t ts (no (λ n. told (c .before .before .before .before .before .before .before .before .before .empties-record .ensures _ t ts σ) (c .before .before .before .before .before .before .before .before .if1 .left)) (no (λ n. told (c .before .before .before .before .before .before .before .opens-block .ensures _ t ts σ) (c .before .before .before .before .before .before .if2 .left)) (no (λ n. told (c .before .before .before .before .before .in-one-line-block .ensures) (c .before .before .before .before .if3 .left)) (c .before .before .open-inline .ensures s))))
+returns-3 c = λ s t ts σ. brace (c .before .before .before .before .before .before .before .before .before .before .before .args .token .index) t ts (no (λ n. told (c .before .before .before .before .before .before .before .empties-record .ensures _ t ts σ) (c .before .before .before .before .before .before .if1 .left)) (no (λ n. told (c .before .before .before .before .before .opens-block .ensures _ t ts σ) (c .before .before .before .before .if2 .left)) (c .before .before .open-one-line .ensures s)))
 
 pub left-brace-arm-spec : {M : Type 1} → statement M
 left-brace-arm-spec =
@@ -60,14 +48,10 @@ left-brace-arm-spec =
     empty-record-requires
     opens-block-requires
     open-block-multiline-requires
-    in-one-line-block-requires
-    open-inner-inline-requires
-    open-inline-requires
+    open-one-line-requires
     same-length
     returns
     same-length-2
     returns-2
     same-length-3
-    returns-3
-    same-length-4
-    returns-4)
+    returns-3)

@@ -1,9 +1,7 @@
 -- `format::formatter::Formatter::track_fn_state` meets its contract. Assumes nothing.
 use mathlib.Core.Path.{refl}
 use borrow.Author.Needs.{needs}
-use Rattle.format.specs.Pen.{formatterOf}
 use Rattle.format.proofs.Does.{updated}
-use Rattle.format.proofs.Tests.{sig-test}
 use Rattle.sink.proofs.Sink.{nothing}
 use Rattle.format.proofs.formatter.Formatter.track_fn_state.Statement.{statement}
 use Rattle.format.proofs.formatter.Formatter.track_fn_state.Tie as tie
@@ -12,7 +10,7 @@ fn-state-after-requires : tie.Need-fn-state-after-requires
 fn-state-after-requires c κs = search needs
 
 returns : tie.Need-returns
-returns c = λ s l. updated refl (rw (c .fn-state-after .ensures (formatterOf (c .before .before .args .self) s) refl (sig-test (c .before .before .args .self .«sig_break_depth» .0)))) refl nothing
+returns c = λ s l. updated refl (rw (c .fn-state-after .ensures)) refl nothing
 
 pub track-fn-state-spec : {M : Type 1} → statement M
 track-fn-state-spec = tie.close (tie.spec fn-state-after-requires returns)
