@@ -1,5 +1,6 @@
 pub mod Stack
 pub mod Does
+pub mod Gaps
 pub mod Tests
 pub mod Openers
 pub mod Newlines

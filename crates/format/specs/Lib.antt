@@ -1,4 +1,5 @@
 pub mod Pen
+pub mod Gap
 pub mod Parts
 pub mod Does
 pub mod Due

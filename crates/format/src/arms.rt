@@ -24,7 +24,6 @@ use sink::numbers::less;
 use sink::numbers::less32;
 use sink::numbers::record_depth_inside;
 use sink::numbers::record_pending_after;
-use sink::numbers::token_gap;
 use sink::write::emit_token_text;
 use sink::write::write_byte;
 use sink::write::write_comma;
@@ -291,14 +290,7 @@ impl Formatter {
     {
         let start = token.start;
         let end = token.end;
-        let indent = self.indent_spaces();
-        let gap = token_gap(
-            self.at_line_start,
-            indent,
-            self.is_tight(),
-            self.prev_kind(),
-            kinds::LEFT_BRACE,
-        );
+        let gap = self.gap_before(kinds::LEFT_BRACE);
         let written = emit_token_text(out, self.len, gap, text, start, end);
         let opened = write_byte(out, written, b'{');
         let closed = write_byte(out, opened, b'}');
@@ -623,14 +615,7 @@ impl Formatter {
         let index = token.index;
         let start = token.start;
         let end = token.end;
-        let indent = self.indent_spaces();
-        let gap = token_gap(
-            self.at_line_start,
-            indent,
-            self.is_tight(),
-            self.prev_kind(),
-            kind,
-        );
+        let gap = self.gap_before(kind);
         let written = emit_token_text(out, self.len, gap, text, start, end);
         let fed = write_byte(out, written, b'\n');
         let count = self.break_count;

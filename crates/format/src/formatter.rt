@@ -3,7 +3,7 @@
 use lookahead::is_value_kind;
 use rows::kinds;
 use sink::numbers::indent_size;
-use sink::numbers::token_gap;
+use sink::numbers::spaces_between;
 use sink::write::emit_token_text;
 use sink::write::write_byte;
 use sink::write::write_spaces;
@@ -15,7 +15,7 @@ ghost use Rattle.push_token.specs.Act.{update};
 ghost use Rattle.push_token.specs.Emit.{isAt, indentStr, indentOrSpace, onNewLine, trackFnState, trackMinus, pushLexeme};
 ghost use Rattle.push_token.specs.Arms.{atRecordFields, inBrokenList, inOneLineBlock};
 ghost use Rattle.sink.specs.Sink.{Writes};
-ghost use Rattle.sink.specs.Gap.{isTight, kindOf};
+ghost use Rattle.format.specs.Gap.{gapSize};
 ghost use Rattle.format.specs.Pen.{Names, lone, optionsOf, formatterOf, prevOf, on};
 ghost use Rattle.format.specs.Does.{Does};
 ghost use Rattle.format.specs.Due.{due};
@@ -155,35 +155,6 @@ impl Formatter {
         false
     }
 
-    // Whether the next token stands tight whatever its kind: at the start of the text, and behind a unary `-`.
-    pub fn is_tight(self) -> bool
-        ensures { λ r. ⌜ r ≡ isTight (prevOf (self .prev .kind)) (self .«prev_minus_is_unary») ⌝ }
-    {
-        let before = self.prev;
-        let prev = before.kind;
-        match prev {
-            Prev::Nothing => true,
-            Prev::Kind(k) => {
-                if k == kinds::MINUS {
-                    return self.prev_minus_is_unary;
-                }
-                false
-            }
-        }
-    }
-
-    // The last kind, or 0 where there is none.
-    pub fn prev_kind(self) -> u32
-        ensures { λ r. ⌜ r ≡ kindOf (prevOf (self .prev .kind)) ⌝ }
-    {
-        let before = self.prev;
-        let prev = before.kind;
-        match prev {
-            Prev::Nothing => 0,
-            Prev::Kind(k) => k,
-        }
-    }
-
     // Whether the last `-` is unary, once a token of the kind has come.
     pub fn minus_is_unary_after(self, kind: u32) -> bool
         ensures { λ r. ⌜ r ≡ trackMinus kind (formatterOf self []) .prevMinusIsUnary ⌝ }
@@ -216,6 +187,21 @@ impl Formatter {
         indent_size(options.indent_width, self.indent)
     }
 
+    // How many spaces stand before a token of the kind: the indent at a line's start, else one or none.
+    pub fn gap_before(self, kind: u32) -> usize
+        ensures { λ r. ⌜ r ≡ gapSize (optionsOf (self .options)) kind (formatterOf self []) ⌝ }
+    {
+        if self.at_line_start {
+            return self.indent_spaces();
+        }
+        let before = self.prev;
+        let prev = before.kind;
+        match prev {
+            Prev::Nothing => 0,
+            Prev::Kind(k) => spaces_between(k, self.prev_minus_is_unary, kind),
+        }
+    }
+
     // The indent, on a line of its own.
     pub fn write_on_new_line(self, out: &mut [u8], len: usize) -> usize
         ensures { λ r. ⌜ Writes (now (out .entry)) len (onNewLine (optionsOf (self .options)) (formatterOf self [])) (now (out .exit)) r ⌝ }
@@ -246,14 +232,7 @@ impl Formatter {
         let kind = token.kind;
         let start = token.start;
         let end = token.end;
-        let indent = self.indent_spaces();
-        let gap = token_gap(
-            self.at_line_start,
-            indent,
-            self.is_tight(),
-            self.prev_kind(),
-            kind,
-        );
+        let gap = self.gap_before(kind);
         let len = emit_token_text(out, self.len, gap, text, start, end);
         let unary = self.minus_is_unary_after(kind);
         let prev = Before {

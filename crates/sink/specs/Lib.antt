@@ -1,3 +1,2 @@
 pub mod Sink
-pub mod Gap
 pub mod Comment

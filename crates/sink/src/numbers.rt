@@ -2,33 +2,33 @@
 use lookahead::space_between;
 use rows::kinds;
 ghost use mathlib.Core.Bool.{_&&_, _||_, cond};
+ghost use mathlib.Core.Option.{some};
 ghost use mathlib.Core.Path.{_≡_};
 ghost use Prim.Native.Nat.{_-_, _*_, _<_};
 ghost use lib.Dec.{eqb};
 ghost use Rattle.rows.specs.Kinds.{Record, Identifier};
-ghost use Rattle.sink.specs.Gap.{gapSize};
-
-// How many spaces stand before a token of the kind. It takes numbers, and not the state, wherever it is called.
-pub fn token_gap(at_line_start: bool, indent: usize, tight: bool, prev: u32, kind: u32) -> usize
-    ensures { λ r. ⌜ r ≡ gapSize «at_line_start» indent tight prev kind ⌝ }
-{
-    if at_line_start {
-        return indent;
-    }
-    if tight {
-        return 0;
-    }
-    if space_between(prev, kind) {
-        return 1;
-    }
-    0
-}
+ghost use Rattle.push_token.specs.Emit.{spaceAfter};
 
 // How many spaces indent a line.
 pub fn indent_size(width: u32, indent: u32) -> usize
     ensures { λ r. ⌜ r ≡ width * indent ⌝ }
 {
     (width as usize) * (indent as usize)
+}
+
+// How many spaces stand between a token of the kind `prev` and one of the kind `kind`: none behind a unary `-`.
+pub fn spaces_between(prev: u32, unary: bool, kind: u32) -> usize
+    ensures { λ r. ⌜ r ≡ cond (spaceAfter (some prev) unary kind) 1 0 ⌝ }
+{
+    if prev == kinds::MINUS {
+        if unary {
+            return 0;
+        }
+    }
+    if space_between(prev, kind) {
+        return 1;
+    }
+    0
 }
 
 // One less, and 0 of 0.

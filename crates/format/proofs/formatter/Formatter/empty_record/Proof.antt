@@ -7,22 +7,13 @@ use Rattle.push_token.specs.Arms.{emptyRecord}
 use Rattle.push_token.proofs.Said.{said}
 use Rattle.format.specs.Pen.{optionsOf, formatterOf}
 use Rattle.format.proofs.Does.{does}
-use Rattle.sink.proofs.Gaps.{gapped}
+use Rattle.format.proofs.Gaps.{gapped}
 use Rattle.sink.proofs.Sink.{andThen}
 use Rattle.format.proofs.formatter.Formatter.empty_record.Statement.{statement}
 use Rattle.format.proofs.formatter.Formatter.empty_record.Tie as tie
 
-indent-spaces-requires : tie.Need-indent-spaces-requires
-indent-spaces-requires c κs = search needs
-
-is-tight-requires : tie.Need-is-tight-requires
-is-tight-requires c κs = search needs
-
-prev-kind-requires : tie.Need-prev-kind-requires
-prev-kind-requires c κs = search needs
-
-token-gap-requires : tie.Need-token-gap-requires
-token-gap-requires c κs = search needs
+gap-before-requires : tie.Need-gap-before-requires
+gap-before-requires c κs = search needs
 
 emit-token-text-requires : tie.Need-emit-token-text-requires
 emit-token-text-requires c κs = search needs
@@ -38,16 +29,13 @@ same-length c = search needs
 
 returns : tie.Need-returns
 unfolding run said emptyRecord
-returns c = λ s. does refl (rw (c .before .before .before .before .before .before .before .before .before .before .before .before .before .before .before .before .before .before .pre .1)) refl (rw (c .before .before .before .before .before .before .before .before .before .before .before .before .before .before .before .before .before .before .pre .1, append-nil) (andThen (gapped (optionsOf (c .before .before .before .before .before .before .before .before .before .before .before .before .before .before .before .before .before .before .args .self .options)) 2 (formatterOf (c .before .before .before .before .before .before .before .before .before .before .before .before .before .before .before .before .before .before .args .self) []) _ (c .before .before .before .before .before .before .before .before .before .before .before .before .before .before .before .indent-spaces .ensures) (c .before .before .before .before .before .before .before .before .before .before .before .before .before .before .is-tight .ensures) (c .before .before .before .before .before .before .before .before .before .before .before .before .before .prev-kind .ensures) (c .before .before .before .before .before .before .before .before .before .before .before .before .token-gap .ensures) (c .before .before .before .before .before .before .before .before .before .before .emit-token-text .ensures)) (andThen (c .before .before .before .before .before .before .write-byte .ensures) (c .before .before .write-byte2 .ensures))))
+returns c = λ s. does refl (rw (c .before .before .before .before .before .before .before .before .before .before .before .before .before .before .before .pre .1)) refl (rw (c .before .before .before .before .before .before .before .before .before .before .before .before .before .before .before .pre .1, append-nil) (andThen (gapped (optionsOf (c .before .before .before .before .before .before .before .before .before .before .before .before .before .before .before .args .self .options)) 2 (formatterOf (c .before .before .before .before .before .before .before .before .before .before .before .before .before .before .before .args .self) []) _ (c .before .before .before .before .before .before .before .before .before .before .before .before .gap-before .ensures) (c .before .before .before .before .before .before .before .before .before .before .emit-token-text .ensures)) (andThen (c .before .before .before .before .before .before .write-byte .ensures) (c .before .before .write-byte2 .ensures))))
 
 pub empty-record-spec : {M : Type 1} → statement M
 empty-record-spec =
     tie.close
     (tie.spec
-    indent-spaces-requires
-    is-tight-requires
-    prev-kind-requires
-    token-gap-requires
+    gap-before-requires
     emit-token-text-requires
     write-byte-requires
     write-byte-requires-2

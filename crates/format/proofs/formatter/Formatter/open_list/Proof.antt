@@ -9,23 +9,14 @@ use Rattle.push_token.specs.Act.{run}
 use Rattle.push_token.proofs.Said.{said}
 use Rattle.format.specs.Pen.{optionsOf, formatterOf}
 use Rattle.format.proofs.Does.{does}
-use Rattle.sink.proofs.Gaps.{gapped}
+use Rattle.format.proofs.Gaps.{gapped}
 use Rattle.sink.proofs.Sink.{andThen}
 use Rattle.format.proofs.Stack.{top-pushed}
 use Rattle.format.proofs.formatter.Formatter.open_list.Statement.{statement}
 use Rattle.format.proofs.formatter.Formatter.open_list.Tie as tie
 
-indent-spaces-requires : tie.Need-indent-spaces-requires
-indent-spaces-requires c κs = search needs
-
-is-tight-requires : tie.Need-is-tight-requires
-is-tight-requires c κs = search needs
-
-prev-kind-requires : tie.Need-prev-kind-requires
-prev-kind-requires c κs = search needs
-
-token-gap-requires : tie.Need-token-gap-requires
-token-gap-requires c κs = search needs
+gap-before-requires : tie.Need-gap-before-requires
+gap-before-requires c κs = search needs
 
 emit-token-text-requires : tie.Need-emit-token-text-requires
 emit-token-text-requires c κs = search needs
@@ -39,14 +30,14 @@ add-inner c = search needs
 push-entry-requires : tie.Need-push-entry-requires
 push-entry-requires c κs = search needs
 
-add-t21 : tie.Need-add-t21
-add-t21 c = search needs
+add-t27 : tie.Need-add-t27
+add-t27 c = search needs
 
 add-self : tie.Need-add-self
-add-self c = record { fits = let p = c .before .before .before .before .before .before .before .before .before .before .before .before .before .before .before .before .before .before .before .before .before .before .pre .0 .indent in omega arith }
+add-self c = record { fits = let p = c .before .before .before .before .before .before .before .before .before .before .before .before .before .before .before .before .before .before .before .pre .0 .indent in omega arith }
 
 add-self-2 : tie.Need-add-self-2
-add-self-2 c = record { fits = let p = c .before .before .before .before .before .before .before .before .before .before .before .before .before .before .before .before .before .before .before .before .before .before .pre .1 .0 .most in omega arith }
+add-self-2 c = record { fits = let p = c .before .before .before .before .before .before .before .before .before .before .before .before .before .before .before .before .before .before .before .pre .1 .0 .most in omega arith }
 
 same-length : tie.Need-same-length
 same-length c = search needs
@@ -56,21 +47,18 @@ same-length-2 c = search needs
 
 returns : tie.Need-returns
 unfolding run said
-returns c = λ few. let room : c .before .before .before .before .before .before .before .before .before .before .before .before .before .before .before .before .before .before .before .before .before .before .args .self .«break_count» < length (c .before .before .before .before .before .before .before .before .before .before .before .before .before .before .before .before .before .before .before .before .before .before .args .stack .now) = let z = c .before .before .before .before .before .before .before .before .before .before .before .before .before .before .before .before .before .before .before .before .before .before .pre .1 .0 .size in omega arith in does refl (sym (rw (c .before .before .before .push-entry .ensures .0 room, top-pushed (c .before .before .before .before .before .before .before .before .before .before .before .before .before .before .before .before .before .before .before .before .before .before .args .self .«break_count») (c .before .before .before .before .before .before .before .before .before .before .before .before .before .before .before .before .before .before .before .before .before .before .args .stack .now) _ room))) refl (rw append-nil (andThen (gapped (optionsOf (c .before .before .before .before .before .before .before .before .before .before .before .before .before .before .before .before .before .before .before .before .before .before .args .self .options)) (c .before .before .before .before .before .before .before .before .before .before .before .before .before .before .before .before .before .before .before .before .before .before .args .token .kind) (formatterOf (c .before .before .before .before .before .before .before .before .before .before .before .before .before .before .before .before .before .before .before .before .before .before .args .self) []) _ (c .before .before .before .before .before .before .before .before .before .before .before .before .before .before .before .before .before .before .indent-spaces .ensures) (c .before .before .before .before .before .before .before .before .before .before .before .before .before .before .before .before .before .is-tight .ensures) (c .before .before .before .before .before .before .before .before .before .before .before .before .before .before .before .before .prev-kind .ensures) (c .before .before .before .before .before .before .before .before .before .before .before .before .before .before .before .token-gap .ensures) (c .before .before .before .before .before .before .before .before .before .before .before .before .before .emit-token-text .ensures)) (c .before .before .before .before .before .before .before .before .before .write-byte .ensures)))
+returns c = λ few. let room : c .before .before .before .before .before .before .before .before .before .before .before .before .before .before .before .before .before .before .before .args .self .«break_count» < length (c .before .before .before .before .before .before .before .before .before .before .before .before .before .before .before .before .before .before .before .args .stack .now) = let z = c .before .before .before .before .before .before .before .before .before .before .before .before .before .before .before .before .before .before .before .pre .1 .0 .size in omega arith in does refl (sym (rw (c .before .before .before .push-entry .ensures .0 room, top-pushed (c .before .before .before .before .before .before .before .before .before .before .before .before .before .before .before .before .before .before .before .args .self .«break_count») (c .before .before .before .before .before .before .before .before .before .before .before .before .before .before .before .before .before .before .before .args .stack .now) _ room))) refl (rw append-nil (andThen (gapped (optionsOf (c .before .before .before .before .before .before .before .before .before .before .before .before .before .before .before .before .before .before .before .args .self .options)) (c .before .before .before .before .before .before .before .before .before .before .before .before .before .before .before .before .before .before .before .args .token .kind) (formatterOf (c .before .before .before .before .before .before .before .before .before .before .before .before .before .before .before .before .before .before .before .args .self) []) _ (c .before .before .before .before .before .before .before .before .before .before .before .before .before .before .before .gap-before .ensures) (c .before .before .before .before .before .before .before .before .before .before .before .before .before .emit-token-text .ensures)) (c .before .before .before .before .before .before .before .before .before .write-byte .ensures)))
 
 pub open-list-spec : {M : Type 1} → statement M
 open-list-spec =
     tie.close
     (tie.spec
-    indent-spaces-requires
-    is-tight-requires
-    prev-kind-requires
-    token-gap-requires
+    gap-before-requires
     emit-token-text-requires
     write-byte-requires
     add-inner
     push-entry-requires
-    add-t21
+    add-t27
     add-self
     add-self-2
     same-length

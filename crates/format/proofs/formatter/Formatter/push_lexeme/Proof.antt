@@ -6,21 +6,12 @@ use Rattle.push_token.specs.Act.{run}
 use Rattle.push_token.proofs.Said.{said}
 use Rattle.format.specs.Pen.{optionsOf, formatterOf}
 use Rattle.format.proofs.Does.{does}
-use Rattle.sink.proofs.Gaps.{gapped}
+use Rattle.format.proofs.Gaps.{gapped}
 use Rattle.format.proofs.formatter.Formatter.push_lexeme.Statement.{statement}
 use Rattle.format.proofs.formatter.Formatter.push_lexeme.Tie as tie
 
-indent-spaces-requires : tie.Need-indent-spaces-requires
-indent-spaces-requires c κs = search needs
-
-is-tight-requires : tie.Need-is-tight-requires
-is-tight-requires c κs = search needs
-
-prev-kind-requires : tie.Need-prev-kind-requires
-prev-kind-requires c κs = search needs
-
-token-gap-requires : tie.Need-token-gap-requires
-token-gap-requires c κs = search needs
+gap-before-requires : tie.Need-gap-before-requires
+gap-before-requires c κs = search needs
 
 emit-token-text-requires : tie.Need-emit-token-text-requires
 emit-token-text-requires c κs = search needs
@@ -33,16 +24,13 @@ same-length c = search needs
 
 returns : tie.Need-returns
 unfolding run said
-returns c = λ s. does refl (rw (c .minus-is-unary-after .ensures)) refl (rw append-nil (gapped (optionsOf (c .before .before .before .before .before .before .before .before .before .before .before .args .self .options)) (c .before .before .before .before .before .before .before .before .before .before .before .args .token .kind) (formatterOf (c .before .before .before .before .before .before .before .before .before .before .before .args .self) []) _ (c .before .before .before .before .before .before .before .before .indent-spaces .ensures) (c .before .before .before .before .before .before .before .is-tight .ensures) (c .before .before .before .before .before .before .prev-kind .ensures) (c .before .before .before .before .before .token-gap .ensures) (c .before .before .before .emit-token-text .ensures)))
+returns c = λ s. does refl (rw (c .minus-is-unary-after .ensures)) refl (rw append-nil (gapped (optionsOf (c .before .before .before .before .before .before .before .before .args .self .options)) (c .before .before .before .before .before .before .before .before .args .token .kind) (formatterOf (c .before .before .before .before .before .before .before .before .args .self) []) _ (c .before .before .before .before .before .gap-before .ensures) (c .before .before .before .emit-token-text .ensures)))
 
 pub push-lexeme-spec : {M : Type 1} → statement M
 push-lexeme-spec =
     tie.close
     (tie.spec
-    indent-spaces-requires
-    is-tight-requires
-    prev-kind-requires
-    token-gap-requires
+    gap-before-requires
     emit-token-text-requires
     minus-is-unary-after-requires
     same-length
