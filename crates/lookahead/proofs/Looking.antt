@@ -1,5 +1,5 @@
--- The loops that look for one row: `opens_paren`, `next_has_comment` and `block_is_single_line`. Assumes nothing.
-use mathlib.Core.Bool.{Bool, true, false, or-true, or-false}
+-- The loops that look for one row: `opens_paren`, `comma_ahead`, `next_has_comment` and `block_is_single_line`. Assumes nothing.
+use mathlib.Core.Bool.{Bool, true, false, _&&_, or-true, or-false}
 use mathlib.Core.List.{List, [], _∷_}
 use mathlib.Core.Path.{_≡_, refl, sym, ap, _∙_}
 use Prim.Native.Nat.{ℕ, _+_, _-_, _≤_, _<_}
@@ -7,11 +7,11 @@ use native.Mathlib.Omega.{arith}
 use lib.Dec.{eqb}
 use lib.ListN.{length, drop}
 use borrow.Author.Tests.{eq-eqb, ne-eqb}
-use Rattle.rows.specs.Kinds.{Leading, TokenRow, LeftBrace, RightBrace, LeftParen}
+use Rattle.rows.specs.Kinds.{Leading, TokenRow, LeftBrace, RightBrace, LeftParen, Comma}
 use Rattle.rows.specs.Row.{Row, rowAt, rowsOf}
 use Rattle.rows.specs.Token.{tokensOf}
 use Rattle.lookahead.specs.Measure.{nextHasComment, blockIsSingleLine, anyComment}
-use Rattle.lookahead.specs.Scan.{isComment, commentAhead, depthAfter, trails, endsLine, closesBlock, singleLineRows, opensParenRows}
+use Rattle.lookahead.specs.Scan.{isMark, isTop, endsGroup, commaAhead, isComment, commentAhead, depthAfter, trails, endsLine, closesBlock, singleLineRows, opensParenRows}
 use Rattle.lookahead.proofs.Tokens.{comment-rows, single-rows}
 use Rattle.lookahead.proofs.Rests.{here, over}
 
@@ -50,6 +50,36 @@ module _ {rows : List ℕ} {answer : Bool} {at : ℕ} (α : Ahead rows answer op
   pub opens-none : length rows - at < 16 → false ≡ answer
   unfolding opensParenRows
   opens-none h = no-row opensParenRows α refl h
+
+-- ---- `comma_ahead`
+
+module _ (o c o′ c′ : ℕ) where
+  pub top-start : (rows : List ℕ) (from own other : ℕ) → from ≤ length rows → Ahead rows (commaAhead o c o′ c′ own other (rowsOf (drop from rows))) (commaAhead o c o′ c′ own other) from
+  top-start rows from own other h = record { within = h; left = refl }
+
+  module _ {rows : List ℕ} {answer : Bool} {at : ℕ} (own other : ℕ) (α : Ahead rows answer (commaAhead o c o′ c′ own other) at) where
+    module _ {r : Row} (h : 16 ≤ length rows - at) (e : r ≡ rowAt rows at) {mark : Bool} (i : mark ≡ isMark r) where
+      pub top-passed : mark ≡ false → Ahead rows answer (commaAhead o c o′ c′ own other) (at + 16)
+      unfolding commaAhead
+      top-passed y = behind-row (commaAhead o c o′ c′ own other) α h e (commaAhead o c o′ c′ own other) (λ rs. rw (sym i ∙ y))
+
+      module _ (y : mark ≡ true) {ends : Bool} (f : ends ≡ endsGroup c (r .kind) own other) where
+        pub top-ended : ends ≡ true → false ≡ answer
+        unfolding commaAhead
+        top-ended z = sym (at-row (commaAhead o c o′ c′ own other) α h e ∙ rw (sym i ∙ y, sym f ∙ z))
+
+        module _ (z : ends ≡ false) {found : Bool} (g : found ≡ eqb (r .kind) Comma && isTop own other) where
+          pub top-found : found ≡ true → true ≡ answer
+          unfolding commaAhead
+          top-found w = sym (at-row (commaAhead o c o′ c′ own other) α h e ∙ rw (sym i ∙ y, sym f ∙ z, sym g ∙ w))
+
+          pub top-more : found ≡ false → {d d′ : ℕ} → d ≡ depthAfter o c (r .kind) own → d′ ≡ depthAfter o′ c′ (r .kind) other → Ahead rows answer (commaAhead o c o′ c′ d d′) (at + 16)
+          unfolding commaAhead
+          top-more w {d} {d′} k k′ = behind-row (commaAhead o c o′ c′ own other) α h e (commaAhead o c o′ c′ d d′) (λ rs. rw (sym i ∙ y, sym f ∙ z, sym g ∙ w, k, k′))
+
+    pub top-none : length rows - at < 16 → false ≡ answer
+    unfolding commaAhead
+    top-none h = no-row (commaAhead o c o′ c′ own other) α refl h
 
 -- ---- `next_has_comment`
 
