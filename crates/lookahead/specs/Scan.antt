@@ -36,6 +36,10 @@ depthAfter opener closer k depth = cond (eqb k opener) (depth + 1) (cond (eqb k 
 
 -- ---- `block_is_single_line`
 
+-- a row that is no token's is trivia of a token: it leads, or trails behind a token's row
+abbrev pub isTrivia : ℕ → Bool → Bool
+isTrivia what behind = eqb what Leading || (eqb what Trailing && behind)
+
 -- a trailing row stands first
 abbrev pub trails : List Row → Bool
 trails [] = false

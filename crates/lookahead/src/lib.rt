@@ -21,7 +21,7 @@ ghost use Rattle.rows.specs.Answer.{rowOf};
 ghost use Rattle.lookahead.specs.Space.{needsSpace, isValueKind};
 ghost use Rattle.lookahead.specs.Answer.{reported, spaceReport};
 ghost use Rattle.lookahead.specs.Measure.{start, params, sigMeasure, groupMeasure, shouldBreakSig, shouldBreakList, blockIsSingleLine, nextHasComment};
-ghost use Rattle.lookahead.specs.Scan.{lacks, isComment, trails, endsLine, closesBlock, opensParenRows, groupOf, measureRows, measureOf, isMark, commaAhead, breaksAt};
+ghost use Rattle.lookahead.specs.Scan.{lacks, isComment, isTrivia, trails, endsLine, closesBlock, opensParenRows, groupOf, measureRows, measureOf, isMark, commaAhead, breaksAt};
 
 mod measure;
 mod sets;
@@ -151,24 +151,27 @@ pub fn block_is_single_line(rows: &[u8]) -> bool
     ensures { λ r. ⌜ ((text : List ℕ) → r ≡ blockIsSingleLine (tokensOf (now (rows .entry)) text)) ⌝ }
 {
     let mut depth = 0;
+    let mut behind = false; // a token's row
     let mut at = 0;
     while ROW_BYTES <= rows.len() - at {
         let row = row_at(rows, at);
         at += ROW_BYTES;
-        if row.what == kinds::LEADING {
-            return false;
-        }
-        if row.what == kinds::TOKEN {
-            if trails(rows, at) {
+        if row.what != kinds::TOKEN {
+            if is_trivia(row.what, behind) {
                 return false;
             }
+            behind = false;
+        } else if row.kind <= kinds::RIGHT_BRACE {
             if ends_line(row.kind) {
                 return false;
             }
             if closes_block(row.kind, depth) {
-                return true;
+                return !trails(rows, at);
             }
             depth = depth_after(kinds::LEFT_BRACE, kinds::RIGHT_BRACE, row.kind, depth);
+            behind = true;
+        } else {
+            behind = true;
         }
     }
     false
@@ -366,6 +369,19 @@ fn opens_paren(rows: &[u8]) -> bool
         at += ROW_BYTES;
     }
     false
+}
+
+// Whether a row that is no token's is trivia of a token: a leading row, or a trailing row `behind` a token's row.
+fn is_trivia(what: u32, behind: bool) -> bool
+    ensures { λ r. ⌜ r ≡ isTrivia what behind ⌝ }
+{
+    if what == kinds::LEADING {
+        return true;
+    }
+    if what != kinds::TRAILING {
+        return false;
+    }
+    behind
 }
 
 // Whether a trailing row stands at `at`.
