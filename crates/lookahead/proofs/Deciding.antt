@@ -1,5 +1,5 @@
 -- What `decide` comes to: commas and width only grow, and the commas do not depend on the width. Assumes nothing.
-use mathlib.Core.Bool.{Bool, true, false, _&&_, or-true, and-true}
+use mathlib.Core.Bool.{Bool, true, _&&_, or-true, and-true}
 use mathlib.Core.List.{List, [], _∷_}
 use mathlib.Core.Path.{_≡_, refl, sym, ap, _∙_}
 use Prim.Native.Nat.{ℕ, _+_, _-_, _≤_, _<_}

@@ -2,7 +2,7 @@
 use mathlib.Core.Bool.{Bool, true, false, _&&_}
 use mathlib.Core.List.{List}
 use mathlib.Core.Path.{_≡_, sym, ap, _∙_}
-use Prim.Native.Nat.{ℕ, _+_, _-_, _*_, _≤_, _<_}
+use Prim.Native.Nat.{ℕ, _+_, _-_, _≤_, _<_}
 use native.Mathlib.Omega.{arith}
 use lib.Dec.{eqb}
 use lib.ListN.{length, drop}
@@ -10,7 +10,7 @@ use borrow.Author.Tests.{eq-eqb, ne-eqb}
 use Rattle.rows.specs.Kinds.{TokenRow, LeftParen, RightParen, LeftBracket, RightBracket, Comma}
 use Rattle.rows.specs.Row.{Row, rowAt, rowsOf}
 use Rattle.lookahead.specs.declared.measure.Span.{Span}
-use Rattle.lookahead.specs.Measure.{start, more}
+use Rattle.lookahead.specs.Measure.{start}
 use Rattle.lookahead.specs.Scan.{stopsAt, topIn, counts, measureRows, measureOf, Room}
 use Rattle.lookahead.proofs.Steps.{depth-after-most, more-most}
 use Rattle.lookahead.proofs.Rests.{here, over}

@@ -5,7 +5,7 @@ ghost use mathlib.Core.Path.{_≡_};
 ghost use mathlib.Core.Bool.{_&&_};
 ghost use Prim.Native.Nat.{_-_, _^_, _<_};
 ghost use lib.Dec.{eqb};
-ghost use Rattle.rows.specs.Kinds.{LeftParen, RightParen, LeftBracket, RightBracket, Comma};
+ghost use Rattle.rows.specs.Kinds.{Comma};
 ghost use Rattle.lookahead.specs.Measure.{more};
 ghost use Rattle.lookahead.specs.Scan.{depthAfter, isLast, isTop, stopsAt, topIn, measureOf, counts, breaks, breaksSignature, breaksList, endsGroup, Room};
 
