@@ -4,8 +4,9 @@ use Prim.Native.Nat.{_-_}
 use native.Mathlib.Omega.{arith}
 use borrow.Author.Needs.{needs}
 use lib.ListN.{length}
+use Rattle.report.specs.Report.{deep, full}
 use Rattle.format.specs.Pen.{on}
-use Rattle.walk.proofs.Going.{Going, starts, few-tokens, going-roomy, placed, turned, goes-full, goes-deep, goes-on, nearer, onward, laid-full, laid-deep, laid-done}
+use Rattle.walk.proofs.Going.{Going, starts, few-tokens, going-roomy, placed, turned, goes-full, goes-deep, goes-on, nearer, onward, laid-stopped, laid-done}
 use Rattle.walk.proofs.Place.{row-inside, more-rows, no-more-rows}
 use Rattle.walk.proofs.walk.Statement.{statement}
 use Rattle.walk.proofs.walk.Tie as tie
@@ -50,7 +51,7 @@ same-length-2 : tie.Need-same-length-2 Inv-loop μ-loop
 same-length-2 c = c .before .before .stack .given ∙ c .before .before .before .before .before .before .before .before .before .before .before .before .loop .inv .lent
 
 returns : tie.Need-returns Inv-loop μ-loop
-returns c = let γ = c .before .before .before .before .before .before .before .before .before .before .before .before .loop .inv in let h = more-rows (c .before .before .before .before .before .before .before .before .before .before .before .loop-test .taken) in let π = placed (c .before .before .before .before .before .before .before .before .before .before .before .before .before .before .before .before .before .before .pre .1) (c .before .before .before .before .before .before .before .before .before .before .before .before .before .ends-of .ensures) γ h (c .before .before .before .before .before .before .before .before .before .before .rows-end .ensures) (c .before .before .before .before .before .before .before .before .before .rows-end2 .ensures) (c .before .before .before .before .before .before .before .before .token-at .ensures) in laid-full (goes-full (c .before .before .before .before .before .before .before .before .before .before .before .before .before .before .before .before .before .before .pre .1) γ h (turned π (c .before .before .before .before .before .turn .ensures)) (c .if1 .taken)) (c .before .before .before .before .out .given ∙ γ .size)
+returns c = let γ = c .before .before .before .before .before .before .before .before .before .before .before .before .loop .inv in let h = more-rows (c .before .before .before .before .before .before .before .before .before .before .before .loop-test .taken) in let π = placed (c .before .before .before .before .before .before .before .before .before .before .before .before .before .before .before .before .before .before .pre .1) (c .before .before .before .before .before .before .before .before .before .before .before .before .before .ends-of .ensures) γ h (c .before .before .before .before .before .before .before .before .before .before .rows-end .ensures) (c .before .before .before .before .before .before .before .before .before .rows-end2 .ensures) (c .before .before .before .before .before .before .before .before .token-at .ensures) in laid-stopped full (goes-full (c .before .before .before .before .before .before .before .before .before .before .before .before .before .before .before .before .before .before .pre .1) γ h (turned π (c .before .before .before .before .before .turn .ensures)) (c .if1 .taken)) (c .before .before .before .before .out .given ∙ γ .size)
 
 cast-refused : tie.Need-cast-refused Inv-loop μ-loop
 cast-refused c = search needs
@@ -62,7 +63,7 @@ same-length-4 : tie.Need-same-length-4 Inv-loop μ-loop
 same-length-4 c = c .before .before .before .stack .given ∙ c .before .before .before .before .before .before .before .before .before .before .before .before .before .loop .inv .lent
 
 returns-2 : tie.Need-returns-2 Inv-loop μ-loop
-returns-2 c = let γ = c .before .before .before .before .before .before .before .before .before .before .before .before .before .loop .inv in let h = more-rows (c .before .before .before .before .before .before .before .before .before .before .before .before .loop-test .taken) in let π = placed (c .before .before .before .before .before .before .before .before .before .before .before .before .before .before .before .before .before .before .before .pre .1) (c .before .before .before .before .before .before .before .before .before .before .before .before .before .before .ends-of .ensures) γ h (c .before .before .before .before .before .before .before .before .before .before .before .rows-end .ensures) (c .before .before .before .before .before .before .before .before .before .before .rows-end2 .ensures) (c .before .before .before .before .before .before .before .before .before .token-at .ensures) in laid-deep (goes-deep (c .before .before .before .before .before .before .before .before .before .before .before .before .before .before .before .before .before .before .before .pre .1) γ h (turned π (c .before .before .before .before .before .before .turn .ensures)) (c .before .if1 .left) (c .if2 .taken)) (c .before .before .before .before .before .out .given ∙ γ .size)
+returns-2 c = let γ = c .before .before .before .before .before .before .before .before .before .before .before .before .before .loop .inv in let h = more-rows (c .before .before .before .before .before .before .before .before .before .before .before .before .loop-test .taken) in let π = placed (c .before .before .before .before .before .before .before .before .before .before .before .before .before .before .before .before .before .before .before .pre .1) (c .before .before .before .before .before .before .before .before .before .before .before .before .before .before .ends-of .ensures) γ h (c .before .before .before .before .before .before .before .before .before .before .before .rows-end .ensures) (c .before .before .before .before .before .before .before .before .before .before .rows-end2 .ensures) (c .before .before .before .before .before .before .before .before .before .token-at .ensures) in laid-stopped deep (goes-deep (c .before .before .before .before .before .before .before .before .before .before .before .before .before .before .before .before .before .before .before .pre .1) γ h (turned π (c .before .before .before .before .before .before .turn .ensures)) (c .before .if1 .left) (c .if2 .taken)) (c .before .before .before .before .before .out .given ∙ γ .size)
 
 add-index : tie.Need-add-index Inv-loop μ-loop
 add-index c = record { fits = let f = few-tokens (c .before .before .before .before .before .before .before .before .before .before .before .before .before .before .before .before .before .before .before .pre .1) (c .before .before .before .before .before .before .before .before .before .before .before .before .before .loop .inv) in omega arith }
