@@ -1,12 +1,13 @@
 -- A token's rows in the lent slice: what the walk knows where a token's rows begin. Assumes nothing.
-use mathlib.Core.Bool.{true}
+use mathlib.Core.Bool.{true, false}
 use mathlib.Core.List.{List, [], _∷_, map}
 use mathlib.Core.Path.{_≡_, refl, sym, ap, subst, _∙_}
 use Prim.Native.Nat.{ℕ, zero, suc, _+_, _-_, _*_, _/_, _≤_, _<_}
 use native.Mathlib.Omega.{arith}
+use lib.Dec.{eqb}
 use lib.ListN.{length, getD, take, drop, length-drop}
 use lib.Seq.{drop-drop}
-use Rattle.rows.specs.Kinds.{Leading, Trailing, Comma, RightBrace}
+use Rattle.rows.specs.Kinds.{Leading, TokenRow, Trailing, Comma, RightBrace}
 use Rattle.rows.specs.Row.{Row, rowAt, firstRows, rowsOf}
 use Rattle.rows.specs.Bounds.{Inside, InBounds}
 use Rattle.rows.specs.Checks.{atStart, badFrom}
@@ -18,8 +19,8 @@ use Rattle.format.specs.declared.formatter.Ends.{Ends}
 use Rattle.format.specs.declared.formatter.TokenAt.{TokenAt}
 use Rattle.format.specs.Pen.{Names, Ahead, Stands}
 use Rattle.format.specs.Trivia.{Part, triviaIn}
-use Rattle.walk.specs.Walk.{runRows, Ending, TokenAtRow, TokenRows, Trivial, Walks}
-use Rattle.walk.proofs.Runs.{Checked, checked-behind, trailing-run, tokens-behind, run-ends, run-most, no-trail, TokenFirst, token-first}
+use Rattle.walk.specs.Walk.{runRows, onlyTokens, Ending, TokenAtRow, TokenRows, Trivial, Walks}
+use Rattle.walk.proofs.Runs.{Checked, only-none, checked-behind, trailing-run, tokens-behind, run-ends, run-most, no-trail, TokenFirst, token-first}
 
 -- ---- rows by number
 
@@ -68,6 +69,10 @@ head-first {rows} {text} ω =
       checked = record { before = atStart; number = 0; good = ω .good };
       bare = no-trail (length text) 0 atStart (rowsOf rows) refl (ω .good);
     }
+
+pub bare-run : {rows : List ℕ} {at : ℕ} (what : ℕ) → eqb TokenRow what ≡ false → at ≡ 16 * (at / 16) → onlyTokens (rowsOf rows) ≡ true → runRows what (rowsOf (drop at rows)) ≡ 0
+bare-run {rows} {at} what n w e =
+    subst (λ k. runRows what (rowsOf (drop k rows)) ≡ 0) (sym w) (rw (rows-drop (at / 16) rows) (only-none what n (at / 16) (rowsOf rows) e))
 
 -- while a whole row is left, and where none is
 pub more-rows : {n at : ℕ} → 16 ≤ n - at → at < n

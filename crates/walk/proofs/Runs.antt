@@ -8,7 +8,7 @@ use native.Mathlib.Omega.{arith}
 use lib.Dec.{eqb}
 use lib.ListN.{length, getD, take, drop, length-drop}
 use borrow.Author.Tests.{eqb-true, eqb-false}
-use Rattle.report.proofs.Logic.{split, impossible}
+use Rattle.report.proofs.Logic.{split, impossible, and-left, and-right}
 use Rattle.rows.specs.Kinds.{Leading, TokenRow, Trailing}
 use Rattle.rows.specs.Row.{Row, rowAt, firstRows, rowsOf}
 use Rattle.rows.specs.Options.{orElse}
@@ -16,7 +16,7 @@ use Rattle.rows.specs.Bounds.{InBounds}
 use Rattle.rows.specs.Checks.{Before, atStart, after, mayTrail, orphan, badFrom}
 use Rattle.rows.specs.Token.{Token, Trivia, triviaOf, trailingOf, tokenOf, tokensFrom}
 use Rattle.rows.proofs.Sound.{first-sound, rest-good}
-use Rattle.walk.specs.Walk.{runRows}
+use Rattle.walk.specs.Walk.{runRows, onlyTokens}
 
 -- ---- behind a token: trailing rows
 
@@ -38,6 +38,16 @@ pub run-ends : (what : ℕ) (rs : List Row) → runRows what (drop (runRows what
 unfolding runRows
 run-ends what [] = refl
 run-ends what (r ∷ rs) = split (eqb (r .what) what) (λ e. rw e (run-ends what rs)) (λ e. rw (e, e))
+
+-- no trivia: no run of trivia rows, wherever it starts
+pub only-none : (what : ℕ) → eqb TokenRow what ≡ false → (k : ℕ) (rs : List Row) → onlyTokens rs ≡ true → runRows what (drop k rs) ≡ 0
+unfolding runRows onlyTokens
+only-none what n zero [] e = refl
+only-none what n zero (r ∷ rs) e =
+    let w : r .what ≡ TokenRow = eqb-true (r .what) TokenRow (and-left _ (onlyTokens rs) e) in
+    rw (w, n)
+only-none what n (suc k) [] e = refl
+only-none what n (suc k) (r ∷ rs) e = only-none what n k rs (and-right (eqb (r .what) TokenRow) (onlyTokens rs) e)
 
 pub run-most : (what : ℕ) (rs : List Row) → runRows what rs ≤ length rs
 unfolding runRows

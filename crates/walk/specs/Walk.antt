@@ -1,6 +1,6 @@
 -- The walk over checked rows: a token's rows, and what a walk comes to.
 -- Assumes nothing.
-use mathlib.Core.Bool.{Bool, true, false, cond}
+use mathlib.Core.Bool.{Bool, true, false, cond, _&&_}
 use mathlib.Core.List.{List, [], _∷_, _++_}
 use mathlib.Core.Option.{none}
 use mathlib.Core.Path.{_≡_}
@@ -8,7 +8,7 @@ use Prim.Native.Nat.{ℕ, zero, suc, _+_, _-_, _*_, _/_, _%_, _≤_, _<_}
 use lib.Dec.{eqb}
 use lib.ListN.{length, drop}
 use Rattle.report.specs.Report.{deep, full}
-use Rattle.rows.specs.Kinds.{Comma, RightBrace}
+use Rattle.rows.specs.Kinds.{TokenRow, Comma, RightBrace}
 use Rattle.rows.specs.Row.{Row, rowAt, rowsOf}
 use Rattle.rows.specs.Checks.{atStart, badFrom}
 use Rattle.rows.specs.Token.{Token, Trivia, tokensOf}
@@ -29,6 +29,11 @@ use Rattle.format.specs.Trivia.{Part, triviaIn}
 unfoldable pub runRows : ℕ → List Row → ℕ
 runRows what [] = zero
 runRows what (r ∷ rs) = cond (eqb (r .what) what) (suc (runRows what rs)) zero
+
+-- no row is a trivia row
+unfoldable pub onlyTokens : List Row → Bool
+onlyTokens [] = true
+onlyTokens (r ∷ rs) = eqb (r .what) TokenRow && onlyTokens rs
 
 -- from `ends` on the rows have no Comma, and no `}`
 pub record Ending (rows : List ℕ) (ends : Ends) : Type 0 where

@@ -7,6 +7,7 @@ use lookahead::behind_last;
 use rows::ROW_BYTES;
 use rows::kinds;
 use rows::row_at;
+ghost use mathlib.Core.Bool.{true};
 ghost use mathlib.Core.List.{List};
 ghost use mathlib.Core.Path.{_≡_};
 ghost use Prim.Native.Nat.{ℕ, _+_, _*_, _≤_, _<_};
@@ -16,7 +17,7 @@ ghost use Rattle.rows.specs.Token.{Token};
 ghost use Rattle.push_token.specs.PushToken.{turn};
 ghost use Rattle.format.specs.Pen.{Roomy, StackRoom, Stands, on};
 ghost use Rattle.format.specs.Does.{Does};
-ghost use Rattle.walk.specs.Walk.{Fresh, runRows, Ending, TokenAtRow, TokenRows, Trivial, Walks, Laid};
+ghost use Rattle.walk.specs.Walk.{Fresh, runRows, onlyTokens, Ending, TokenAtRow, TokenRows, Trivial, Walks, Laid};
 
 mod token;
 
@@ -27,10 +28,18 @@ pub enum Walked {
     Full(usize),
 }
 
-// `format`: lays out all tokens of checked rows.
-pub fn walk(new: Formatter, out: &mut [u8], stack: &mut [u32], rows: &[u8], text: &[u8]) -> Walked
+// `format`: lays out all tokens of checked rows. `bare` tells that no trivia is among them, if the caller knows it.
+pub fn walk(
+    new: Formatter,
+    out: &mut [u8],
+    stack: &mut [u32],
+    rows: &[u8],
+    text: &[u8],
+    bare: bool,
+) -> Walked
     requires { ⌜ Fresh new (now stack) ⌝ }
     requires { ⌜ Walks (now rows) (now text) ⌝ }
+    requires { ⌜ (bare ≡ true → onlyTokens (rowsOf (now rows)) ≡ true) ⌝ }
     ensures { λ r. ⌜ Laid (now (rows .entry)) (now (text .entry)) (on new (now (stack .entry)) (now (out .entry))) r (now (out .exit)) ⌝ }
 {
     let ends = ends_of(rows);
@@ -38,8 +47,8 @@ pub fn walk(new: Formatter, out: &mut [u8], stack: &mut [u32], rows: &[u8], text
     let mut at = 0;
     let mut index: u32 = 0;
     while ROW_BYTES <= rows.len() - at {
-        let row = rows_end(rows, at, kinds::LEADING);
-        let next = rows_end(rows, row + ROW_BYTES, kinds::TRAILING);
+        let row = trivia_end(rows, at, kinds::LEADING, bare);
+        let next = trivia_end(rows, row + ROW_BYTES, kinds::TRAILING, bare);
         let token = token_at(rows, at, row, index, ends);
         f = turn(f, out, stack, rows, text, token, next);
         let len = f.len;
@@ -92,6 +101,18 @@ fn turn(
         f = push_token(f, out, stack, rows, text, token, next);
     }
     f
+}
+
+// Where the trivia rows of a what end that start at `at`: at once where there is no trivia.
+fn trivia_end(rows: &[u8], at: usize, what: u32, bare: bool) -> usize
+    requires { ⌜ at ≤ length (now rows) ⌝ }
+    requires { ⌜ (bare ≡ true → runRows what (rowsOf (drop at (now rows))) ≡ 0) ⌝ }
+    ensures { λ r. ⌜ r ≡ at + 16 * runRows what (rowsOf (drop at (now (rows .entry)))) ⌝ }
+{
+    if bare {
+        return at;
+    }
+    rows_end(rows, at, what)
 }
 
 // Where the rows of a what end that start at `at`.
