@@ -1,5 +1,5 @@
 -- The layout's answer, from the checks and the walk. Assumes nothing.
-use mathlib.Core.Bool.{Bool, true, false, cond}
+use mathlib.Core.Bool.{Bool, true, false, cond, _||_}
 use mathlib.Core.List.{List, _++_}
 use mathlib.Core.Option.{Option, none, some}
 use mathlib.Core.Path.{_≡_, refl, sym, ap, subst, _∙_}
@@ -76,25 +76,29 @@ finished-answers (stopped k i) mark out w f =
     (λ d. let y : _≡_ {A = ℕ} 0 1 = cc (rw d at w) in absurd (omega arith))
     (λ d. let y : _≡_ {A = ℕ} 0 1 = cc (rw d at w) in absurd (omega arith))
 
-pub deep-answers : (e : Ended) (mark : Bool) (out : List ℕ) {i : ℕ} → sane (length out) e ≡ true → Deep i ≡ walkedOf e → Answers e mark out (refuse deep i) (zeroed out)
-deep-answers (finished s) mark out h w = let y : _≡_ {A = ℕ} 0 1 = cc in absurd (omega arith)
-deep-answers (stopped k i) mark out h w =
-    split (eqb k deep)
-    (λ d. let e = eqb-true k deep d in let p = place-of (rw d at w) in record { answer = rw (e, p); output = refl })
+-- what the code's walk answers tells why and where the definition's stopped
+stopped-is : (size : ℕ) (e : Ended) (n i : ℕ) → sane size e ≡ true → sane size (stopped n i) ≡ true → walkedOf (stopped n i) ≡ walkedOf e → e ≡ stopped n i
+stopped-is size (finished s) n i h g w =
+    split (eqb n deep)
     (λ d. let y : _≡_ {A = ℕ} 0 1 = cc (rw d at w) in absurd (omega arith))
+    (λ d. let y : _≡_ {A = ℕ} 0 1 = cc (rw d at w) in absurd (omega arith))
+stopped-is size (stopped k j) n i h g w =
+    split (eqb n deep)
+    (λ d. split (eqb k deep)
+    (λ f. same (eqb-true k deep f ∙ sym (eqb-true n deep d)) (deep-place (rw (d, f) at w)))
+    (λ f. let y : _≡_ {A = ℕ} 0 1 = cc (rw (d, f) at w) in absurd (omega arith)))
+    (λ d. split (eqb k deep)
+    (λ f. let y : _≡_ {A = ℕ} 0 1 = cc (rw (d, f) at w) in absurd (omega arith))
+    (λ f. same (eqb-true k full (rw f at h) ∙ sym (eqb-true n full (rw d at g))) (full-place (rw (d, f) at w))))
   where
-    place-of : {i j : ℕ} → Deep i ≡ Deep j → i ≡ j
-    place-of e = cc
+    same : k ≡ n → i ≡ j → stopped k j ≡ stopped n i
+    same a b = rw (a, b)
 
-pub full-answers : (e : Ended) (mark : Bool) (out : List ℕ) {i : ℕ} → sane (length out) e ≡ true → Full i ≡ walkedOf e → Answers e mark out (refuse full i) (zeroed out)
-full-answers (finished s) mark out h w = let y : _≡_ {A = ℕ} 0 1 = cc in absurd (omega arith)
-full-answers (stopped k i) mark out h w =
-    split (eqb k deep)
-    (λ d. let y : _≡_ {A = ℕ} 0 1 = cc (rw d at w) in absurd (omega arith))
-    (λ d. let e : k ≡ full = eqb-true k full (rw d at h) in let p = place-of (rw d at w) in record { answer = rw (e, p); output = refl })
-  where
-    place-of : {i j : ℕ} → Full i ≡ Full j → i ≡ j
-    place-of e = cc
+    deep-place : {i j : ℕ} → Deep i ≡ Deep j → i ≡ j
+    deep-place e = cc
+
+    full-place : {i j : ℕ} → Full i ≡ Full j → i ≡ j
+    full-place e = cc
 
 -- ---- the code's walk
 
@@ -110,15 +114,11 @@ module _ (rows text out : List ℕ) {f : Formatter} {stack : List ℕ} {o : Decl
   zeroes : {m′ : List ℕ} → m′ ≡ zeroed m → m′ ≡ zeroed out
   zeroes z = z ∙ ap (λ n. replicate n 0) (λ₀ .size)
 
-  pub deep-out : {i : ℕ} {m′ : List ℕ} → r ≡ Deep i → m′ ≡ zeroed m → Answers (lay (Pen.optionsOf o) (length out) (tokensOf rows text)) (plain (tokensOf rows text)) out (refuse deep i) m′
-  deep-out {i} q z =
-      subst (λ l. Answers (lay (Pen.optionsOf o) (length out) (tokensOf rows text)) (plain (tokensOf rows text)) out (refuse deep i) l) (sym (zeroes z))
-      (held (deep-answers (lay (Pen.optionsOf (f .options)) (length out) (tokensOf rows text)) (plain (tokensOf rows text)) out (lay-sane (Pen.optionsOf (f .options)) (length out) (tokensOf rows text)) (sym q ∙ λ₀ .answer)))
-
-  pub full-out : {i : ℕ} {m′ : List ℕ} → r ≡ Full i → m′ ≡ zeroed m → Answers (lay (Pen.optionsOf o) (length out) (tokensOf rows text)) (plain (tokensOf rows text)) out (refuse full i) m′
-  full-out {i} q z =
-      subst (λ l. Answers (lay (Pen.optionsOf o) (length out) (tokensOf rows text)) (plain (tokensOf rows text)) out (refuse full i) l) (sym (zeroes z))
-      (held (full-answers (lay (Pen.optionsOf (f .options)) (length out) (tokensOf rows text)) (plain (tokensOf rows text)) out (lay-sane (Pen.optionsOf (f .options)) (length out) (tokensOf rows text)) (sym q ∙ λ₀ .answer)))
+  -- refusals 4 and 5
+  pub stopped-out : (n : ℕ) {i : ℕ} {m′ : List ℕ} → eqb n deep || eqb n full ≡ true → r ≡ walkedOf (stopped n i) → m′ ≡ zeroed m → Answers (lay (Pen.optionsOf o) (length out) (tokensOf rows text)) (plain (tokensOf rows text)) out (refuse n i) m′
+  stopped-out n {i} g q z =
+      let k = stopped-is (length out) (lay (Pen.optionsOf (f .options)) (length out) (tokensOf rows text)) n i (lay-sane (Pen.optionsOf (f .options)) (length out) (tokensOf rows text)) g (sym q ∙ λ₀ .answer) in
+      held (record { answer = rw k; output = rw k (zeroes z) })
 
 -- ---- the code's checks
 

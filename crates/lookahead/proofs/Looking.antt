@@ -1,19 +1,21 @@
--- The loops that look for one row: `opens_paren`, `next_has_comment` and `block_is_single_line`. Assumes nothing.
-use mathlib.Core.Bool.{Bool, true, false, or-true, or-false}
+-- The loops that look for one row: `opens_paren`, `comma_ahead`, `next_has_comment` and `block_is_single_line`. Assumes nothing.
+use mathlib.Core.Bool.{Bool, true, false, cond, not, _&&_, _||_, or-true, or-false, and-false, and-comm}
 use mathlib.Core.List.{List, [], _∷_}
 use mathlib.Core.Path.{_≡_, refl, sym, ap, _∙_}
 use Prim.Native.Nat.{ℕ, _+_, _-_, _≤_, _<_}
 use native.Mathlib.Omega.{arith}
 use lib.Dec.{eqb}
 use lib.ListN.{length, drop}
-use borrow.Author.Tests.{eq-eqb, ne-eqb}
-use Rattle.rows.specs.Kinds.{Leading, TokenRow, LeftBrace, RightBrace, LeftParen}
+use borrow.Author.Tests.{eqb-true, eq-eqb, ne-eqb}
+use Rattle.report.proofs.Logic.{and-left, and-right, or-cases, or-left, or-right}
+use Rattle.rows.specs.Kinds.{Leading, TokenRow, Trailing, Eof, Newline, LeftBrace, RightBrace, LeftParen, Comma}
 use Rattle.rows.specs.Row.{Row, rowAt, rowsOf}
 use Rattle.rows.specs.Token.{tokensOf}
 use Rattle.lookahead.specs.Measure.{nextHasComment, blockIsSingleLine, anyComment}
-use Rattle.lookahead.specs.Scan.{isComment, commentAhead, depthAfter, trails, endsLine, closesBlock, singleLineRows, opensParenRows}
+use Rattle.lookahead.specs.Scan.{isMark, isTop, endsGroup, commaAhead, isComment, commentAhead, depthAfter, isTrivia, trails, endsLine, closesBlock, singleLineRows, opensParenRows}
 use Rattle.lookahead.proofs.Tokens.{comment-rows, single-rows}
 use Rattle.lookahead.proofs.Rests.{here, over}
+use Rattle.lookahead.proofs.Steps.{depth-after-none}
 
 -- the answer is what a scan says of the rows from `at` on
 pub record Ahead (rows : List ℕ) (answer : Bool) (scan : List Row → Bool) (at : ℕ) : Type 0 where
@@ -51,6 +53,36 @@ module _ {rows : List ℕ} {answer : Bool} {at : ℕ} (α : Ahead rows answer op
   unfolding opensParenRows
   opens-none h = no-row opensParenRows α refl h
 
+-- ---- `comma_ahead`
+
+module _ (o c o′ c′ : ℕ) where
+  pub top-start : (rows : List ℕ) (from own other : ℕ) → from ≤ length rows → Ahead rows (commaAhead o c o′ c′ own other (rowsOf (drop from rows))) (commaAhead o c o′ c′ own other) from
+  top-start rows from own other h = record { within = h; left = refl }
+
+  module _ {rows : List ℕ} {answer : Bool} {at : ℕ} (own other : ℕ) (α : Ahead rows answer (commaAhead o c o′ c′ own other) at) where
+    module _ {r : Row} (h : 16 ≤ length rows - at) (e : r ≡ rowAt rows at) {mark : Bool} (i : mark ≡ isMark r) where
+      pub top-passed : mark ≡ false → Ahead rows answer (commaAhead o c o′ c′ own other) (at + 16)
+      unfolding commaAhead
+      top-passed y = behind-row (commaAhead o c o′ c′ own other) α h e (commaAhead o c o′ c′ own other) (λ rs. rw (sym i ∙ y))
+
+      module _ (y : mark ≡ true) {ends : Bool} (f : ends ≡ endsGroup c (r .kind) own other) where
+        pub top-ended : ends ≡ true → false ≡ answer
+        unfolding commaAhead
+        top-ended z = sym (at-row (commaAhead o c o′ c′ own other) α h e ∙ rw (sym i ∙ y, sym f ∙ z))
+
+        module _ (z : ends ≡ false) {found : Bool} (g : found ≡ eqb (r .kind) Comma && isTop own other) where
+          pub top-found : found ≡ true → true ≡ answer
+          unfolding commaAhead
+          top-found w = sym (at-row (commaAhead o c o′ c′ own other) α h e ∙ rw (sym i ∙ y, sym f ∙ z, sym g ∙ w))
+
+          pub top-more : found ≡ false → {d d′ : ℕ} → d ≡ depthAfter o c (r .kind) own → d′ ≡ depthAfter o′ c′ (r .kind) other → Ahead rows answer (commaAhead o c o′ c′ d d′) (at + 16)
+          unfolding commaAhead
+          top-more w {d} {d′} k k′ = behind-row (commaAhead o c o′ c′ own other) α h e (commaAhead o c o′ c′ d d′) (λ rs. rw (sym i ∙ y, sym f ∙ z, sym g ∙ w, k, k′))
+
+    pub top-none : length rows - at < 16 → false ≡ answer
+    unfolding commaAhead
+    top-none h = no-row (commaAhead o c o′ c′ own other) α refl h
+
 -- ---- `next_has_comment`
 
 pub comment-start : (rows : List ℕ) → Ahead rows (commentAhead false (rowsOf rows)) (commentAhead false) 0
@@ -81,44 +113,63 @@ comment-said rows text e = e ∙ sym (comment-rows text [] (rowsOf rows))
 
 -- ---- `block_is_single_line`
 
-pub block-start : (rows : List ℕ) → Ahead rows (singleLineRows 0 (rowsOf rows)) (singleLineRows 0) 0
+-- what is left to say, at a depth: behind a token's row a trailing row is that token's
+abbrev pub restOfBlock : Bool → ℕ → List Row → Bool
+restOfBlock behind depth rs = cond (behind && trails rs) false (singleLineRows depth rs)
+
+pub block-start : (rows : List ℕ) → Ahead rows (singleLineRows 0 (rowsOf rows)) (restOfBlock false 0) 0
 block-start rows = record { within = omega arith; left = refl }
 
-module _ {rows : List ℕ} {answer : Bool} {at : ℕ} (depth : ℕ) (α : Ahead rows answer (singleLineRows depth) at) where
+module _ {rows : List ℕ} {answer : Bool} {at : ℕ} (behind : Bool) (depth : ℕ) (α : Ahead rows answer (restOfBlock behind depth) at) where
   module _ {r : Row} (h : 16 ≤ length rows - at) (e : r ≡ rowAt rows at) where
-    pub block-leading : r .what ≡ Leading → false ≡ answer
-    unfolding singleLineRows
-    block-leading l = sym (at-row (singleLineRows depth) α h e ∙ rw (eq-eqb (r .what) Leading l))
-
-    pub block-passed : (r .what ≡ Leading → ⊥) → (r .what ≡ TokenRow → ⊥) → Ahead rows answer (singleLineRows depth) (at + 16)
-    unfolding singleLineRows
-    block-passed l n = behind-row (singleLineRows depth) α h e (singleLineRows depth) (λ rs. rw (ne-eqb (r .what) Leading l, ne-eqb (r .what) TokenRow n))
-
-    module _ (l : r .what ≡ Leading → ⊥) (t : r .what ≡ TokenRow) {trailed : Bool} (q : trailed ≡ trails (rowsOf (drop (at + 16) rows))) where
-      pub block-trailed : trailed ≡ true → false ≡ answer
+    -- a row that is no token's
+    module _ (n : r .what ≡ TokenRow → ⊥) {trivia : Bool} (i : trivia ≡ isTrivia (r .what) behind) where
+      pub block-trivia : trivia ≡ true → false ≡ answer
       unfolding singleLineRows
-      block-trailed y = sym (at-row (singleLineRows depth) α h e ∙ rw (ne-eqb (r .what) Leading l, eq-eqb (r .what) TokenRow t, sym q ∙ y))
+      block-trivia y =
+          sym (at-row (restOfBlock behind depth) α h e
+          ∙ or-cases (eqb (r .what) Leading) (eqb (r .what) Trailing && behind) (sym i ∙ y)
+          (λ l. rw (eqb-true (r .what) Leading l, and-false))
+          (λ t. rw (and-left (eqb (r .what) Trailing) behind t, and-right (eqb (r .what) Trailing) behind t)))
 
-      module _ (y : trailed ≡ false) {ends : Bool} (f : ends ≡ endsLine (r .kind)) where
+      pub block-passed : trivia ≡ false → Ahead rows answer (restOfBlock false depth) (at + 16)
+      unfolding singleLineRows
+      block-passed y =
+          behind-row (restOfBlock behind depth) α h e (restOfBlock false depth)
+          (λ rs. rw (and-comm behind (eqb (r .what) Trailing), or-right (eqb (r .what) Leading) (eqb (r .what) Trailing && behind) (sym i ∙ y), or-left (eqb (r .what) Leading) (eqb (r .what) Trailing && behind) (sym i ∙ y), ne-eqb (r .what) TokenRow n))
+
+    -- a token's row
+    module _ (t : r .what ≡ TokenRow) where
+      at-token : answer ≡ cond (trails (rowsOf (drop (at + 16) rows)) || endsLine (r .kind)) false (cond (closesBlock (r .kind) depth) true (singleLineRows (depthAfter LeftBrace RightBrace (r .kind) depth) (rowsOf (drop (at + 16) rows))))
+      unfolding singleLineRows
+      at-token = at-row (restOfBlock behind depth) α h e ∙ rw (t, and-false)
+
+      behind-token : {d : ℕ} → endsLine (r .kind) ≡ false → closesBlock (r .kind) depth ≡ false → d ≡ depthAfter LeftBrace RightBrace (r .kind) depth → Ahead rows answer (restOfBlock true d) (at + 16)
+      behind-token f g k = record { within = omega (arith, α .within); left = at-token ∙ rw (f, g, or-false, k) }
+
+      pub block-other : RightBrace < r .kind → Ahead rows answer (restOfBlock true depth) (at + 16)
+      block-other l =
+          behind-token (rw (ne-eqb (r .kind) Newline (λ q. omega arith), ne-eqb (r .kind) Eof (λ q. omega arith))) (rw (ne-eqb (r .kind) RightBrace (λ q. omega arith)))
+          (sym (depth-after-none LeftBrace RightBrace (r .kind) depth (λ q. omega arith) (λ q. omega arith)))
+
+      module _ {ends : Bool} (f : ends ≡ endsLine (r .kind)) where
         pub block-ended : ends ≡ true → false ≡ answer
-        unfolding singleLineRows
-        block-ended z = sym (at-row (singleLineRows depth) α h e ∙ rw (ne-eqb (r .what) Leading l, eq-eqb (r .what) TokenRow t, sym q ∙ y, sym f ∙ z))
+        block-ended z = sym (at-token ∙ rw (sym f ∙ z, or-true))
 
         module _ (z : ends ≡ false) {closes : Bool} (g : closes ≡ closesBlock (r .kind) depth) where
-          pub block-closed : closes ≡ true → true ≡ answer
-          unfolding singleLineRows
-          block-closed w = sym (at-row (singleLineRows depth) α h e ∙ rw (ne-eqb (r .what) Leading l, eq-eqb (r .what) TokenRow t, sym q ∙ y, sym f ∙ z, sym g ∙ w))
+          pub block-closed : closes ≡ true → {trailed : Bool} → trailed ≡ trails (rowsOf (drop (at + 16) rows)) → not trailed ≡ answer
+          block-closed w q = ap not q ∙ sym (at-token ∙ rw (sym f ∙ z, or-false, sym g ∙ w) (go (trails (rowsOf (drop (at + 16) rows)))))
+            where
+              go : (b : Bool) → cond b false true ≡ not b
+              go true = refl
+              go false = refl
 
-          pub block-more : closes ≡ false → {d : ℕ} → d ≡ depthAfter LeftBrace RightBrace (r .kind) depth → Ahead rows answer (singleLineRows d) (at + 16)
-          unfolding singleLineRows
-          block-more w {d} k = record {
-            within = omega (arith, α .within);
-            left = at-row (singleLineRows depth) α h e ∙ rw (ne-eqb (r .what) Leading l, eq-eqb (r .what) TokenRow t, sym q ∙ y, sym f ∙ z, sym g ∙ w, k);
-          }
+          pub block-more : closes ≡ false → {d : ℕ} → d ≡ depthAfter LeftBrace RightBrace (r .kind) depth → Ahead rows answer (restOfBlock true d) (at + 16)
+          block-more w k = behind-token (sym f ∙ z) (sym g ∙ w) k
 
   pub block-none : length rows - at < 16 → false ≡ answer
   unfolding singleLineRows
-  block-none h = no-row (singleLineRows depth) α refl h
+  block-none h = no-row (restOfBlock behind depth) α (rw (and-false behind)) h
 
 pub block-said : (rows text : List ℕ) {x : Bool} → x ≡ singleLineRows 0 (rowsOf rows) → x ≡ blockIsSingleLine (tokensOf rows text)
 unfolding tokensOf

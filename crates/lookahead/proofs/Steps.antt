@@ -1,16 +1,16 @@
 -- The tests and the step that the measures share. Assumes nothing.
-use mathlib.Core.Bool.{Bool, true, false, or-false, and-true, and-false}
+use mathlib.Core.Bool.{Bool, true, false, or-true, or-false, and-true, and-false}
 use mathlib.Core.Path.{_≡_, sym, _∙_}
 use Prim.Native.Nat.{ℕ, _+_, _-_, _≤_, _<_}
 use native.Mathlib.Omega.{arith}
 use lib.Dec.{eqb, leb, ltb}
 use borrow.Author.Tests.{eq-eqb, ne-eqb, leb-true, leb-false, ltb-false}
 use Rattle.report.proofs.Logic.{split}
-use Rattle.rows.specs.Kinds.{Eof, RightParen, RightBracket}
+use Rattle.rows.specs.Kinds.{Eof, RightParen, RightBracket, Comma}
 use Rattle.lookahead.specs.declared.measure.Span.{Span}
 use Rattle.lookahead.specs.declared.measure.Span.the-variants.{Signature, Paren, Bracket}
 use Rattle.lookahead.specs.Measure.{more}
-use Rattle.lookahead.specs.Scan.{depthAfter, isLast, stopsAt}
+use Rattle.lookahead.specs.Scan.{depthAfter, isLast, endsGroup, stopsAt}
 
 -- ---- the last closer: none is open, or one
 
@@ -26,34 +26,32 @@ last-other own other h = rw (ne-eqb other 0 (λ q. omega arith), and-false)
 pub last-own : (own other : ℕ) → other ≤ 0 → leb own 1 ≡ isLast own other
 last-own own other h = rw (eq-eqb other 0 (omega arith), and-true, last own)
 
--- ---- where a measure stops, by the tests that the code makes
+-- ---- where a group ends, by the tests that the code makes
 
-module _ (p b k : ℕ) where
-  pub stops-eof : (s : Span) → k ≡ Eof → true ≡ stopsAt s p b k
-  stops-eof Signature e = rw e
-  stops-eof Paren e = rw e
-  stops-eof Bracket e = rw e
+module _ (c k own other : ℕ) where
+  pub ends-eof : k ≡ Eof → true ≡ endsGroup c k own other
+  ends-eof e = rw (eq-eqb k Eof e, or-true)
 
   module _ (n : k ≡ Eof → ⊥) where
-    pub sig-other : (k ≡ RightParen → ⊥) → false ≡ stopsAt Signature p b k
-    sig-other m = rw (ne-eqb k RightParen m, ne-eqb k Eof n)
+    pub ends-other : (k ≡ c → ⊥) → false ≡ endsGroup c k own other
+    ends-other m = rw (ne-eqb k c m, ne-eqb k Eof n)
 
-    pub paren-other : (k ≡ RightParen → ⊥) → false ≡ stopsAt Paren p b k
-    paren-other m = rw (ne-eqb k RightParen m, ne-eqb k Eof n)
+    pub ends-closer : k ≡ c → isLast own other ≡ endsGroup c k own other
+    ends-closer e = rw (eq-eqb k c e, ne-eqb k Eof n, or-false)
 
-    pub bracket-other : (k ≡ RightBracket → ⊥) → false ≡ stopsAt Bracket p b k
-    bracket-other m = rw (ne-eqb k RightBracket m, ne-eqb k Eof n)
+  -- no kind above Comma ends one
+  pub ends-above : c ≤ Comma → Comma < k → endsGroup c k own other ≡ false
+  ends-above l h = rw (ne-eqb k c (λ q. omega arith), ne-eqb k Eof (λ q. omega arith))
 
-  pub sig-closer : k ≡ RightParen → leb p 1 ≡ stopsAt Signature p b k
-  sig-closer e = rw (e, last p) (sym (or-false (eqb (p - 1) 0)))
-
-  pub paren-closer : k ≡ RightParen → isLast p b ≡ stopsAt Paren p b k
-  paren-closer e = rw e (sym (or-false (isLast p b)))
-
-  pub bracket-closer : k ≡ RightBracket → isLast b p ≡ stopsAt Bracket p b k
-  bracket-closer e = rw e (sym (or-false (isLast b p)))
+pub stops-above : (s : Span) (p b k : ℕ) → Comma < k → false ≡ stopsAt s p b k
+stops-above Signature p b k h = sym (ends-above RightParen k p 0 (omega arith) h)
+stops-above Paren p b k h = sym (ends-above RightParen k p b (omega arith) h)
+stops-above Bracket p b k h = sym (ends-above RightBracket k b p (omega arith) h)
 
 -- ---- what a step adds
+
+pub depth-after-none : (o c k d : ℕ) → (k ≡ o → ⊥) → (k ≡ c → ⊥) → depthAfter o c k d ≡ d
+depth-after-none o c k d n m = rw (ne-eqb k o n, ne-eqb k c m)
 
 pub depth-after-most : (o c k d : ℕ) → depthAfter o c k d ≤ d + 1
 depth-after-most o c k d = split (eqb k o) (λ e. rw e (omega arith)) (λ e. rw e (split (eqb k c) (λ f. rw f (omega arith)) (λ f. rw f (omega arith))))

@@ -1,5 +1,5 @@
 -- The lookaheads over rows say the same as those over the tokens that the rows name. Assumes nothing.
-use mathlib.Core.Bool.{Bool, true, false, cond, not, _&&_, _||_, Bool·beq, or-false, and-false, and-comm}
+use mathlib.Core.Bool.{Bool, true, false, cond, not, _&&_, _||_, Bool·beq, or-false, and-true, and-false, and-comm}
 use mathlib.Core.List.{List, [], _∷_, _++_}
 use mathlib.Core.Path.{_≡_, refl, _∙_}
 use Prim.Native.Nat.{ℕ, _+_, _-_}
@@ -150,7 +150,7 @@ module _ (span : Span) (stops : Measure → Token → Bool) (step : Measure → 
 
 pub sig-rows : (text : List ℕ) (m : Measure) (l : List Trivia) (rs : List Row) → InBounds text rs → sigMeasureFrom m (tokensFrom text l rs) ≡ measureRows Signature m rs
 unfolding sigMeasureFrom
-sig-rows = over-rows Signature sigStops sigCounts sigMeasureFrom (λ m. refl) (λ m t ts. refl) (λ m t. refl) sig-counts
+sig-rows = over-rows Signature sigStops sigCounts sigMeasureFrom (λ m. refl) (λ m t ts. refl) (λ m t. rw (and-true (eqb (m .parenDepth - 1) 0))) sig-counts
 
 pub group-rows : (isParen : Bool) (text : List ℕ) (m : Measure) (l : List Trivia) (rs : List Row) → InBounds text rs → groupMeasureFrom isParen m (tokensFrom text l rs) ≡ measureRows (groupOf isParen) m rs
 unfolding groupMeasureFrom

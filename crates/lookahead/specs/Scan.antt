@@ -3,7 +3,7 @@
 use mathlib.Core.Bool.{Bool, true, false, cond, not, _&&_, _||_}
 use mathlib.Core.List.{List, [], _∷_}
 use Prim.Native.Nat.{ℕ, _+_, _-_, _^_, _<_}
-use lib.Dec.{eqb, ltb}
+use lib.Dec.{eqb, leb, ltb}
 use Rattle.rows.specs.Kinds.{Leading, TokenRow, Trailing, BlankLine, Eof, Newline, LeftBrace, RightBrace, LeftParen, RightParen, LeftBracket, RightBracket, Comma}
 use Rattle.rows.specs.Row.{Row}
 use Rattle.lookahead.specs.declared.measure.Span.{Span}
@@ -35,6 +35,10 @@ abbrev pub depthAfter : ℕ → ℕ → ℕ → ℕ → ℕ
 depthAfter opener closer k depth = cond (eqb k opener) (depth + 1) (cond (eqb k closer) (depth - 1) depth)
 
 -- ---- `block_is_single_line`
+
+-- a row that is no token's is trivia of a token: it leads, or trails behind a token's row
+abbrev pub isTrivia : ℕ → Bool → Bool
+isTrivia what behind = eqb what Leading || (eqb what Trailing && behind)
 
 -- a trailing row stands first
 abbrev pub trails : List Row → Bool
@@ -75,11 +79,15 @@ isLast own other = eqb (own - 1) 0 && eqb other 0
 abbrev pub isTop : ℕ → ℕ → Bool
 isTop own other = eqb own 1 && eqb other 0
 
--- the measure stops before a token of the kind k, at these depths
+-- a group ends before a token of the kind k, at these depths
+abbrev pub endsGroup : ℕ → ℕ → ℕ → ℕ → Bool
+endsGroup closer k own other = (eqb k closer && isLast own other) || eqb k Eof
+
+-- the measure stops before a token of the kind k, at these depths; a signature does not look at brackets
 abbrev pub stopsAt : Span → ℕ → ℕ → ℕ → Bool
-stopsAt Signature parens brackets k = (eqb k RightParen && eqb (parens - 1) 0) || eqb k Eof
-stopsAt Paren parens brackets k = (eqb k RightParen && isLast parens brackets) || eqb k Eof
-stopsAt Bracket parens brackets k = (eqb k RightBracket && isLast brackets parens) || eqb k Eof
+stopsAt Signature parens brackets k = endsGroup RightParen k parens 0
+stopsAt Paren parens brackets k = endsGroup RightParen k parens brackets
+stopsAt Bracket parens brackets k = endsGroup RightBracket k brackets parens
 
 -- directly inside what is measured
 abbrev pub topIn : Span → ℕ → ℕ → Bool
@@ -108,6 +116,22 @@ measureRows span m (r ∷ rs) =
 abbrev pub measureOf : Measure.Measure → Measure
 measureOf m = record { parenDepth = m .parens; bracketDepth = m .brackets; commas = m .commas; width = m .width; sawToken = ltb 0 (m .width) }
 
+-- ---- a comma at the top of a group
+
+-- a token of a kind that the depths, the commas or the end of a measure depend on
+abbrev pub isMark : Row → Bool
+isMark r = eqb (r .what) TokenRow && leb (r .kind) Comma
+
+-- a comma stands directly inside the group, before it ends
+unfoldable pub commaAhead : ℕ → ℕ → ℕ → ℕ → ℕ → ℕ → List Row → Bool
+commaAhead opener closer otherOpener otherCloser own other [] = false
+commaAhead opener closer otherOpener otherCloser own other (r ∷ rs) =
+    cond (isMark r)
+    (cond (endsGroup closer (r .kind) own other) false
+    (cond (eqb (r .kind) Comma && isTop own other) true
+    (commaAhead opener closer otherOpener otherCloser (depthAfter opener closer (r .kind) own) (depthAfter otherOpener otherCloser (r .kind) other) rs)))
+    (commaAhead opener closer otherOpener otherCloser own other rs)
+
 -- ---- the two decisions
 
 -- so many commas and such a width are enough to break
@@ -124,10 +148,6 @@ breaks Bracket limit commas width = breaksList limit commas width
 
 abbrev pub breaksAt : Span → ℕ → Measure → Bool
 breaksAt span limit m = breaks span limit (m .commas) (m .width)
-
--- a width that stops growing past the limit
-abbrev pub capped : ℕ → ℕ → ℕ
-capped limit width = cond (ltb limit width) (limit + 1) width
 
 -- room for one more token of n bytes in the code's numbers
 pub record Room (m : Measure.Measure) (n : ℕ) : Type 0 where

@@ -2,6 +2,8 @@
 use crate::measure::Measure;
 use crate::measure::Span;
 use crate::measure::depth_after;
+use crate::measure::ends_group;
+use crate::measure::is_top_comma;
 use crate::measure::size_of;
 use rows::ROW_BYTES;
 use rows::Row;
@@ -19,7 +21,7 @@ ghost use Rattle.rows.specs.Answer.{rowOf};
 ghost use Rattle.lookahead.specs.Space.{needsSpace, isValueKind};
 ghost use Rattle.lookahead.specs.Answer.{reported, spaceReport};
 ghost use Rattle.lookahead.specs.Measure.{start, params, sigMeasure, groupMeasure, shouldBreakSig, shouldBreakList, blockIsSingleLine, nextHasComment};
-ghost use Rattle.lookahead.specs.Scan.{lacks, isComment, trails, endsLine, closesBlock, opensParenRows, groupOf, measureRows, measureOf, breaksAt};
+ghost use Rattle.lookahead.specs.Scan.{lacks, isComment, isTrivia, trails, endsLine, closesBlock, opensParenRows, groupOf, measureRows, measureOf, isMark, commaAhead, breaksAt};
 
 mod measure;
 mod sets;
@@ -149,24 +151,27 @@ pub fn block_is_single_line(rows: &[u8]) -> bool
     ensures { λ r. ⌜ ((text : List ℕ) → r ≡ blockIsSingleLine (tokensOf (now (rows .entry)) text)) ⌝ }
 {
     let mut depth = 0;
+    let mut behind = false; // a token's row
     let mut at = 0;
     while ROW_BYTES <= rows.len() - at {
         let row = row_at(rows, at);
         at += ROW_BYTES;
-        if row.what == kinds::LEADING {
-            return false;
-        }
-        if row.what == kinds::TOKEN {
-            if trails(rows, at) {
+        if row.what != kinds::TOKEN {
+            if is_trivia(row.what, behind) {
                 return false;
             }
+            behind = false;
+        } else if row.kind <= kinds::RIGHT_BRACE {
             if ends_line(row.kind) {
                 return false;
             }
             if closes_block(row.kind, depth) {
-                return true;
+                return !trails(rows, at);
             }
             depth = depth_after(kinds::LEFT_BRACE, kinds::RIGHT_BRACE, row.kind, depth);
+            behind = true;
+        } else {
+            behind = true;
         }
     }
     false
@@ -207,10 +212,56 @@ pub fn behind_last(rows: &[u8], kind: u32) -> usize
     0
 }
 
-// Whether a measure is above what does not break. It stops as soon as that is certain.
+// Whether a measure is above what does not break: what is wide breaks, a list only with a comma at its top.
 fn decide(rows: &[u8], span: Span, limit: usize) -> bool
     requires { ⌜ limit < 2 ^ 32 ⌝ }
     ensures { λ r. ⌜ r ≡ breaksAt span limit (measureRows span start (rowsOf (now (rows .entry)))) ⌝ }
+{
+    let reached = until_wide(rows, span, limit);
+    let m = reached.m;
+    if m.width <= limit {
+        return m.breaks(span, limit);
+    }
+    if 0 < m.commas {
+        return true;
+    }
+    match span {
+        Span::Signature => true,
+        Span::Paren => comma_ahead(
+            rows,
+            reached.at,
+            m.parens,
+            m.brackets,
+            kinds::LEFT_PAREN,
+            kinds::RIGHT_PAREN,
+            kinds::LEFT_BRACKET,
+            kinds::RIGHT_BRACKET,
+        ),
+        Span::Bracket => comma_ahead(
+            rows,
+            reached.at,
+            m.brackets,
+            m.parens,
+            kinds::LEFT_BRACKET,
+            kinds::RIGHT_BRACKET,
+            kinds::LEFT_PAREN,
+            kinds::RIGHT_PAREN,
+        ),
+    }
+}
+
+// A measure and the index from which it goes on.
+struct Reached {
+    m: Measure,
+    at: usize,
+}
+
+// The measure until it is wider than the limit; one that is not is whole, and goes on from the end of the rows.
+fn until_wide(rows: &[u8], span: Span, limit: usize) -> Reached
+    requires { ⌜ limit < 2 ^ 32 ⌝ }
+    ensures left { λ r. ⌜ measureRows span start (rowsOf (now (rows .entry))) ≡ measureRows span (measureOf (r .m)) (rowsOf (drop (r .at) (now (rows .entry)))) ⌝ }
+    ensures whole { λ r. ⌜ (r .m .width ≤ limit → measureRows span start (rowsOf (now (rows .entry))) ≡ measureOf (r .m)) ⌝ }
+    ensures few { λ r. ⌜ (r .m .parens ≤ r .at) × (r .m .brackets ≤ r .at) × (r .at ≤ length (now (rows .entry))) ⌝ }
 {
     let mut m = Measure::new();
     let mut at = 0;
@@ -219,15 +270,60 @@ fn decide(rows: &[u8], span: Span, limit: usize) -> bool
         at += ROW_BYTES;
         if row.what == kinds::TOKEN {
             if m.stops(span, row.kind) {
-                return false;
+                return Reached { m, at: rows.len() };
             }
-            m = m.counts(span, row.kind, size_of(row)).capped(limit);
-            if m.breaks(span, limit) {
-                return true;
+            m = m.counts(span, row.kind, size_of(row));
+            if limit < m.width {
+                return Reached { m, at };
             }
         }
     }
+    Reached { m, at }
+}
+
+// Whether a comma stands at the top of a group, from an index on, before the group closes. `own` and `other` are
+// the depths there: of the group's own kinds, and of the others.
+fn comma_ahead(
+    rows: &[u8],
+    from: usize,
+    own: usize,
+    other: usize,
+    opener: u32,
+    closer: u32,
+    other_opener: u32,
+    other_closer: u32,
+) -> bool
+    requires { ⌜ (own ≤ from) × (other ≤ from) × (from ≤ length (now rows)) ⌝ }
+    ensures { λ r. ⌜ r ≡ commaAhead opener closer «other_opener» «other_closer» own other (rowsOf (drop from (now (rows .entry)))) ⌝ }
+{
+    let mut own = own;
+    let mut other = other;
+    let mut at = from;
+    while ROW_BYTES <= rows.len() - at {
+        let row = row_at(rows, at);
+        at += ROW_BYTES;
+        if is_mark(row) {
+            if ends_group(closer, row.kind, own, other) {
+                return false;
+            }
+            if is_top_comma(row.kind, own, other) {
+                return true;
+            }
+            own = depth_after(opener, closer, row.kind, own);
+            other = depth_after(other_opener, other_closer, row.kind, other);
+        }
+    }
     false
+}
+
+// Whether a row is a token of a kind that can change a depth, count or end a measure: those up to Comma.
+fn is_mark(row: Row) -> bool
+    ensures { λ r. ⌜ r ≡ isMark (rowOf row) ⌝ }
+{
+    if row.what != kinds::TOKEN {
+        return false;
+    }
+    row.kind <= kinds::COMMA
 }
 
 // The whole measure.
@@ -273,6 +369,19 @@ fn opens_paren(rows: &[u8]) -> bool
         at += ROW_BYTES;
     }
     false
+}
+
+// Whether a row that is no token's is trivia of a token: a leading row, or a trailing row `behind` a token's row.
+fn is_trivia(what: u32, behind: bool) -> bool
+    ensures { λ r. ⌜ r ≡ isTrivia what behind ⌝ }
+{
+    if what == kinds::LEADING {
+        return true;
+    }
+    if what != kinds::TRAILING {
+        return false;
+    }
+    behind
 }
 
 // Whether a trailing row stands at `at`.

@@ -5,9 +5,9 @@ ghost use mathlib.Core.Path.{_≡_};
 ghost use mathlib.Core.Bool.{_&&_};
 ghost use Prim.Native.Nat.{_-_, _^_, _<_};
 ghost use lib.Dec.{eqb};
-ghost use Rattle.rows.specs.Kinds.{LeftParen, RightParen, LeftBracket, RightBracket, Comma};
+ghost use Rattle.rows.specs.Kinds.{Comma};
 ghost use Rattle.lookahead.specs.Measure.{more};
-ghost use Rattle.lookahead.specs.Scan.{depthAfter, isLast, isTop, stopsAt, topIn, measureOf, counts, breaks, breaksSignature, breaksList, capped, Room};
+ghost use Rattle.lookahead.specs.Scan.{depthAfter, isLast, isTop, stopsAt, topIn, measureOf, counts, breaks, breaksSignature, breaksList, endsGroup, Room};
 
 // What is measured: a signature's parameters, or a group by its opening kind.
 pub enum Span {
@@ -35,32 +35,18 @@ impl Measure {
         }
     }
 
-    // Whether the measure stops before a token of this kind: the closer that matches, or Eof.
+    // Whether the measure stops before a token of this kind: the closer that matches, or Eof. A signature does not
+    // look at brackets; no kind above Comma stops a measure.
     pub fn stops(self, span: Span, kind: u32) -> bool
         ensures { λ r. ⌜ r ≡ stopsAt span (self .parens) (self .brackets) kind ⌝ }
     {
-        if kind == kinds::EOF {
-            return true;
+        if kinds::COMMA < kind {
+            return false;
         }
         match span {
-            Span::Signature => {
-                if kind != kinds::RIGHT_PAREN {
-                    return false;
-                }
-                self.parens <= 1
-            }
-            Span::Paren => {
-                if kind != kinds::RIGHT_PAREN {
-                    return false;
-                }
-                is_last(self.parens, self.brackets)
-            }
-            Span::Bracket => {
-                if kind != kinds::RIGHT_BRACKET {
-                    return false;
-                }
-                is_last(self.brackets, self.parens)
-            }
+            Span::Signature => ends_group(kinds::RIGHT_PAREN, kind, self.parens, 0),
+            Span::Paren => ends_group(kinds::RIGHT_PAREN, kind, self.parens, self.brackets),
+            Span::Bracket => ends_group(kinds::RIGHT_BRACKET, kind, self.brackets, self.parens),
         }
     }
 
@@ -111,17 +97,6 @@ impl Measure {
         false
     }
 
-    // The width stops growing past the limit, so that it fits however many rows there are.
-    pub fn capped(mut self, limit: usize) -> Measure
-        requires { ⌜ limit < 2 ^ 32 ⌝ }
-        ensures { λ r. ⌜ (r .parens ≡ self .parens) × (r .brackets ≡ self .brackets) × (r .commas ≡ self .commas) × (r .width ≡ capped limit (self .width)) ⌝ }
-    {
-        if limit < self.width {
-            self.width = limit + 1;
-        }
-        self
-    }
-
     fn commas_after(self, span: Span, kind: u32) -> usize
         requires { ⌜ self .commas < 2 ^ 63 ⌝ }
         ensures { λ r. ⌜ r ≡ more (eqb kind Comma && topIn span (self .parens) (self .brackets)) (self .commas) ⌝ }
@@ -145,6 +120,29 @@ impl Measure {
             Span::Bracket => is_top(self.brackets, self.parens),
         }
     }
+}
+
+// Whether a group ends before a token of this kind, at these depths: its last closer, or Eof.
+pub fn ends_group(closer: u32, kind: u32, own: usize, other: usize) -> bool
+    ensures { λ r. ⌜ r ≡ endsGroup closer kind own other ⌝ }
+{
+    if kind == kinds::EOF {
+        return true;
+    }
+    if kind != closer {
+        return false;
+    }
+    is_last(own, other)
+}
+
+// Whether a token of this kind, at these depths, is a comma of the group itself.
+pub fn is_top_comma(kind: u32, own: usize, other: usize) -> bool
+    ensures { λ r. ⌜ r ≡ eqb kind Comma && isTop own other ⌝ }
+{
+    if kind != kinds::COMMA {
+        return false;
+    }
+    is_top(own, other)
 }
 
 // Whether no more than one of the opening kind is open, and none of the other.

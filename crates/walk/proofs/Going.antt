@@ -218,11 +218,9 @@ pub ends : {rows text : List ℕ} {p₀ p : Pen} {i at : ℕ} → Going rows tex
 unfolding layFrom
 ends {rows} {text} {at = at} γ h = sym (γ .lays) ∙ rw (tokens-none rows text at h)
 
-pub laid-full : {rows text m : List ℕ} {p : Pen} {i : ℕ} → walkOf rows text p ≡ stopped full i → length m ≡ length (p .buf) → Laid rows text p (Full i) m
-laid-full e z = record { answer = ap walkedOf (sym e); size = z; output = λ s f. let y : _≡_ {A = ℕ} 0 1 = cc in absurd (omega arith) }
-
-pub laid-deep : {rows text m : List ℕ} {p : Pen} {i : ℕ} → walkOf rows text p ≡ stopped deep i → length m ≡ length (p .buf) → Laid rows text p (Deep i) m
-laid-deep e z = record { answer = ap walkedOf (sym e); size = z; output = λ s f. let y : _≡_ {A = ℕ} 0 1 = cc in absurd (omega arith) }
+-- refusals 4 and 5
+pub laid-stopped : (n : ℕ) {rows text m : List ℕ} {p : Pen} {i : ℕ} → walkOf rows text p ≡ stopped n i → length m ≡ length (p .buf) → Laid rows text p (walkedOf (stopped n i)) m
+laid-stopped n e z = record { answer = ap walkedOf (sym e); size = z; output = λ s f. let y : _≡_ {A = ℕ} 0 1 = cc in absurd (omega arith) }
 
 pub laid-done : {rows text : List ℕ} {p₀ p : Pen} {i at : ℕ} → Going rows text p₀ i at p → length rows ≤ at → Laid rows text p₀ (Finished (p .form .len) (p .form .commas)) (p .buf)
 laid-done {rows} {text} {p₀} {p} γ h =

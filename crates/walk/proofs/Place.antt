@@ -69,6 +69,13 @@ head-first {rows} {text} ω =
       bare = no-trail (length text) 0 atStart (rowsOf rows) refl (ω .good);
     }
 
+-- while a whole row is left, and where none is
+pub more-rows : {n at : ℕ} → 16 ≤ n - at → at < n
+more-rows h = omega arith
+
+pub no-more-rows : {rows text : List ℕ} {at : ℕ} → Walks rows text → Head rows text at → length rows - at < 16 → length rows ≤ at
+no-more-rows ω η h = let a = η .whole in let b = ω .whole in let c = η .within in omega arith
+
 -- its own row, and where the next token's rows begin
 abbrev pub rowOf : List ℕ → ℕ → ℕ
 rowOf rows at = at + 16 * runRows Leading (rowsOf (drop at rows))

@@ -22,8 +22,8 @@ pub fn run(repeats: usize, hostile: bool) {
     for input in hostile_inputs().iter().filter(|_| hostile) {
         input.measure(1);
     }
-    println!("\n## Where our layout's time goes\n\nNanoseconds a token: the checks of options and rows (a call without room \
-        for the first byte), the walk (a list that begins with a trivia row, so that the plain mark is told at once, less \
+    println!("\n## Where our layout's time goes\n\nNanoseconds a token: the checks of options and rows with the search for the last \
+        comma and brace (a call without room for the first byte), the walk (a list that begins with a trivia row, so that the plain mark is told at once, less \
         the checks), and the plain mark (the rest).\n");
     println!("| input | checks | walk | plain mark |");
     println!("|---|---|---|---|");
@@ -164,7 +164,7 @@ fn usual_inputs() -> Vec<Input> {
 
 /// Each list in full and with half its rows, so that the growth is seen.
 fn hostile_inputs() -> Vec<Input> {
-    let lists: [(&str, Options, fn(usize) -> Vec<Row>); 10] = [
+    let lists: [(&str, Options, fn(usize) -> Vec<Row>); 13] = [
         ("all `(`", DEFAULTS, |n| repeated("(", n)),
         ("all `[`", DEFAULTS, |n| repeated("[", n)),
         ("all `{`", SAME_LINE, |n| repeated("{", n)),
@@ -175,6 +175,9 @@ fn hostile_inputs() -> Vec<Input> {
         ("`[ ,`", NO_INDENT, |n| repeated("[ ,", n)),
         ("`[ ,`", WIDEST, |n| repeated("[ ,", n)),
         ("`fn (`", DEFAULTS, |n| repeated("fn (", n)),
+        ("all `(`, a `,` last", DEFAULTS, |n| [repeated("(", n - 1), list(",")].concat()),
+        ("all `{`, a `}` last", SAME_LINE, |n| [repeated("{", n - 1), list("}")].concat()),
+        ("`(` nested around `a ,`", DEFAULTS, |n| nested_around("(", "a ,", ")", n)),
     ];
     let sizes = [MOST_ROWS / 2, MOST_ROWS];
     lists.iter().flat_map(|&(name, options, rows)| sizes.map(|n| Input::new(name, options, rows(n)))).collect()
@@ -186,9 +189,13 @@ fn repeated(words: &str, rows: usize) -> Vec<Row> {
 }
 
 fn nested(open: &str, close: &str, rows: usize) -> Vec<Row> {
-    let mut list = repeated(open, rows / 2);
-    list.extend(repeated(close, rows / 2));
-    list
+    nested_around(open, "", close, rows)
+}
+
+fn nested_around(open: &str, inner: &str, close: &str, rows: usize) -> Vec<Row> {
+    let inner = list(inner);
+    let pairs = (rows - inner.len()) / 2;
+    [repeated(open, pairs), inner, repeated(close, pairs)].concat()
 }
 
 // ---- readers

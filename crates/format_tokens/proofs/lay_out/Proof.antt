@@ -1,6 +1,8 @@
 -- `format_tokens::lay_out` meets its contract. Assumes nothing.
 use borrow.Author.Needs.{needs}
-use Rattle.format_tokens.proofs.Laid.{text-answers, deep-out, full-out}
+use mathlib.Core.Path.{refl}
+use Rattle.report.specs.Report.{deep, full}
+use Rattle.format_tokens.proofs.Laid.{text-answers, stopped-out}
 use Rattle.format_tokens.proofs.lay_out.Statement.{statement}
 use Rattle.format_tokens.proofs.lay_out.Tie as tie
 
@@ -41,13 +43,13 @@ same-length-2 : tie.Need-same-length-2
 same-length-2 c = search needs
 
 returns-2 : tie.Need-returns-2
-returns-2 c = let α = deep-out (c .before .before .before .before .before .before .before .before .before .before .before .before .before .before .before .before .before .args .rows .now) (c .before .before .before .before .before .before .before .before .before .before .before .before .before .before .before .before .before .args .text .now) (c .before .before .before .before .before .before .before .before .before .before .before .before .before .before .before .before .before .args .out .now) (c .before .before .before .before .before .before .before .before .before .before .before .before .before .formatter .ensures .1) (c .before .before .before .before .before .before .before .before .before .before .walk .ensures) (c .before .before .before .before .before .index .given .1) (c .before .before .clear-bytes .ensures) in (α .answer, α .output)
+returns-2 c = let α = stopped-out (c .before .before .before .before .before .before .before .before .before .before .before .before .before .before .before .before .before .args .rows .now) (c .before .before .before .before .before .before .before .before .before .before .before .before .before .before .before .before .before .args .text .now) (c .before .before .before .before .before .before .before .before .before .before .before .before .before .before .before .before .before .args .out .now) (c .before .before .before .before .before .before .before .before .before .before .before .before .before .formatter .ensures .1) (c .before .before .before .before .before .before .before .before .before .before .walk .ensures) deep refl (c .before .before .before .before .before .index .given .1) (c .before .before .clear-bytes .ensures) in (α .answer, α .output)
 
 same-length-3 : tie.Need-same-length-3
 same-length-3 c = search needs
 
 returns-3 : tie.Need-returns-3
-returns-3 c = let α = full-out (c .before .before .before .before .before .before .before .before .before .before .before .before .before .before .before .before .before .args .rows .now) (c .before .before .before .before .before .before .before .before .before .before .before .before .before .before .before .before .before .args .text .now) (c .before .before .before .before .before .before .before .before .before .before .before .before .before .before .before .before .before .args .out .now) (c .before .before .before .before .before .before .before .before .before .before .before .before .before .formatter .ensures .1) (c .before .before .before .before .before .before .before .before .before .before .walk .ensures) (c .before .before .before .before .before .index2 .given .1) (c .before .before .clear-bytes2 .ensures) in (α .answer, α .output)
+returns-3 c = let α = stopped-out (c .before .before .before .before .before .before .before .before .before .before .before .before .before .before .before .before .before .args .rows .now) (c .before .before .before .before .before .before .before .before .before .before .before .before .before .before .before .before .before .args .text .now) (c .before .before .before .before .before .before .before .before .before .before .before .before .before .before .before .before .before .args .out .now) (c .before .before .before .before .before .before .before .before .before .before .before .before .before .formatter .ensures .1) (c .before .before .before .before .before .before .before .before .before .before .walk .ensures) full refl (c .before .before .before .before .before .index2 .given .1) (c .before .before .clear-bytes2 .ensures) in (α .answer, α .output)
 
 pub lay-out-spec : {M : Type 1} → statement M
 lay-out-spec =

@@ -5,17 +5,17 @@ use lib.ListN.{length}
 use borrow.Author.Needs.{needs}
 use Rattle.rows.specs.Kinds.{LeftBrace, RightBrace}
 use Rattle.rows.specs.Row.{rowsOf}
-use Rattle.lookahead.proofs.Looking.{Ahead, block-start, block-leading, block-passed, block-trailed, block-ended, block-closed, block-more, block-none, block-said}
+use Rattle.lookahead.proofs.Looking.{Ahead, restOfBlock, block-start, block-trivia, block-passed, block-ended, block-closed, block-more, block-other, block-none, block-said}
 use Rattle.lookahead.proofs.Steps.{depth-after-most}
 use Rattle.lookahead.specs.Scan.{singleLineRows}
 use Rattle.lookahead.proofs.block_is_single_line.Statement.{statement}
 use Rattle.lookahead.proofs.block_is_single_line.Tie as tie
 
 abbrev Inv-loop : tie.InvT-loop
-Inv-loop rows depth₀ at₀ depth at = Ahead rows (singleLineRows 0 (rowsOf rows)) (singleLineRows depth) at × (depth ≤ at)
+Inv-loop rows depth₀ behind₀ at₀ depth behind at = Ahead rows (singleLineRows 0 (rowsOf rows)) (restOfBlock behind depth) at × (depth ≤ at)
 
 abbrev μ-loop : tie.MeasureT-loop
-μ-loop rows depth₀ at₀ depth at = length rows - at
+μ-loop rows depth₀ behind₀ at₀ depth behind at = length rows - at
 
 loop-holds : tie.Need-loop-holds Inv-loop μ-loop
 loop-holds c = (block-start _, search needs)
@@ -29,44 +29,50 @@ row-at-requires c κs = search needs
 add-at : tie.Need-add-at Inv-loop μ-loop
 add-at c = search needs
 
+is-trivia-requires : tie.Need-is-trivia-requires Inv-loop μ-loop
+is-trivia-requires c κs = search needs
+
 returns : tie.Need-returns Inv-loop μ-loop
-returns c = λ text. block-said (c .before .before .before .before .before .before .args .rows .now) text (block-leading (c .before .before .before .before .loop .depth) (c .before .before .before .before .loop .inv .0) (search needs) (c .before .before .row-at .ensures) (c .if1 .taken))
-
-trails-requires : tie.Need-trails-requires Inv-loop μ-loop
-trails-requires c κs = search needs
-
-returns-2 : tie.Need-returns-2 Inv-loop μ-loop
-returns-2 c = λ text. block-said (c .before .before .before .before .before .before .before .before .before .before .args .rows .now) text (block-trailed (c .before .before .before .before .before .before .before .before .loop .depth) (c .before .before .before .before .before .before .before .before .loop .inv .0) (search needs) (c .before .before .before .before .before .before .row-at .ensures) (c .before .before .before .before .if1 .left) (c .before .before .if2 .taken) (c .before .trails .ensures) (c .if3 .taken))
-
-ends-line-requires : tie.Need-ends-line-requires Inv-loop μ-loop
-ends-line-requires c κs = search needs
-
-returns-3 : tie.Need-returns-3 Inv-loop μ-loop
-returns-3 c = λ text. block-said (c .before .before .before .before .before .before .before .before .before .before .before .before .args .rows .now) text (block-ended (c .before .before .before .before .before .before .before .before .before .before .loop .depth) (c .before .before .before .before .before .before .before .before .before .before .loop .inv .0) (search needs) (c .before .before .before .before .before .before .before .before .row-at .ensures) (c .before .before .before .before .before .before .if1 .left) (c .before .before .before .before .if2 .taken) (c .before .before .before .trails .ensures) (c .before .before .if3 .left) (c .before .ends-line .ensures) (c .if4 .taken))
-
-closes-block-requires : tie.Need-closes-block-requires Inv-loop μ-loop
-closes-block-requires c κs = search needs
-
-returns-4 : tie.Need-returns-4 Inv-loop μ-loop
-returns-4 c = λ text. block-said (c .before .before .before .before .before .before .before .before .before .before .before .before .before .before .args .rows .now) text (block-closed (c .before .before .before .before .before .before .before .before .before .before .before .before .loop .depth) (c .before .before .before .before .before .before .before .before .before .before .before .before .loop .inv .0) (search needs) (c .before .before .before .before .before .before .before .before .before .before .row-at .ensures) (c .before .before .before .before .before .before .before .before .if1 .left) (c .before .before .before .before .before .before .if2 .taken) (c .before .before .before .before .before .trails .ensures) (c .before .before .before .before .if3 .left) (c .before .before .before .ends-line .ensures) (c .before .before .if4 .left) (c .before .closes-block .ensures) (c .if5 .taken))
-
-depth-after-requires : tie.Need-depth-after-requires Inv-loop μ-loop
-depth-after-requires c κs = search needs
+returns c = λ text. block-said (c .before .before .before .before .before .before .before .before .args .rows .now) text (block-trivia (c .before .before .before .before .before .before .loop .behind) (c .before .before .before .before .before .before .loop .depth) (c .before .before .before .before .before .before .loop .inv .0) (search needs) (c .before .before .before .before .row-at .ensures) (c .before .before .if1 .taken) (c .before .is-trivia .ensures) (c .if2 .taken))
 
 loop-less : tie.Need-loop-less Inv-loop μ-loop
 loop-less c = search needs
 
 loop-again : tie.Need-loop-again Inv-loop μ-loop
-loop-again c = (block-more (c .before .before .before .before .before .before .before .before .before .before .before .before .before .loop .depth) (c .before .before .before .before .before .before .before .before .before .before .before .before .before .loop .inv .0) (search needs) (c .before .before .before .before .before .before .before .before .before .before .before .row-at .ensures) (c .before .before .before .before .before .before .before .before .before .if1 .left) (c .before .before .before .before .before .before .before .if2 .taken) (c .before .before .before .before .before .before .trails .ensures) (c .before .before .before .before .before .if3 .left) (c .before .before .before .before .ends-line .ensures) (c .before .before .before .if4 .left) (c .before .before .closes-block .ensures) (c .before .if5 .left) (c .depth-after .ensures), omega (arith, c .before .before .before .before .before .before .before .before .before .before .before .before .before .loop .inv .1, c .depth-after .ensures, depth-after-most LeftBrace RightBrace (c .before .before .before .before .before .before .before .before .before .before .before .row-at .result .kind) (c .before .before .before .before .before .before .before .before .before .before .before .before .before .loop .depth)))
+loop-again c = (block-passed (c .before .before .before .before .before .before .loop .behind) (c .before .before .before .before .before .before .loop .depth) (c .before .before .before .before .before .before .loop .inv .0) (search needs) (c .before .before .before .before .row-at .ensures) (c .before .before .if1 .taken) (c .before .is-trivia .ensures) (c .if2 .left), search needs)
+
+ends-line-requires : tie.Need-ends-line-requires Inv-loop μ-loop
+ends-line-requires c κs = search needs
+
+returns-2 : tie.Need-returns-2 Inv-loop μ-loop
+returns-2 c = λ text. block-said (c .before .before .before .before .before .before .before .before .before .before .args .rows .now) text (block-ended (c .before .before .before .before .before .before .before .before .loop .behind) (c .before .before .before .before .before .before .before .before .loop .depth) (c .before .before .before .before .before .before .before .before .loop .inv .0) (search needs) (c .before .before .before .before .before .before .row-at .ensures) (c .before .before .before .before .if1 .left) (c .before .ends-line .ensures) (c .if4 .taken))
+
+closes-block-requires : tie.Need-closes-block-requires Inv-loop μ-loop
+closes-block-requires c κs = search needs
+
+trails-requires : tie.Need-trails-requires Inv-loop μ-loop
+trails-requires c κs = search needs
+
+returns-3 : tie.Need-returns-3 Inv-loop μ-loop
+returns-3 c = λ text. block-said (c .before .before .before .before .before .before .before .before .before .before .before .before .before .args .rows .now) text (block-closed (c .before .before .before .before .before .before .before .before .before .before .before .loop .behind) (c .before .before .before .before .before .before .before .before .before .before .before .loop .depth) (c .before .before .before .before .before .before .before .before .before .before .before .loop .inv .0) (search needs) (c .before .before .before .before .before .before .before .before .before .row-at .ensures) (c .before .before .before .before .before .before .before .if1 .left) (c .before .before .before .before .ends-line .ensures) (c .before .before .before .if4 .left) (c .before .before .closes-block .ensures) (c .before .if5 .taken) (c .trails .ensures))
+
+depth-after-requires : tie.Need-depth-after-requires Inv-loop μ-loop
+depth-after-requires c κs = search needs
 
 loop-less-2 : tie.Need-loop-less-2 Inv-loop μ-loop
 loop-less-2 c = search needs
 
 loop-again-2 : tie.Need-loop-again-2 Inv-loop μ-loop
-loop-again-2 c = (block-passed (c .before .before .before .before .before .before .loop .depth) (c .before .before .before .before .before .before .loop .inv .0) (search needs) (c .before .before .before .before .row-at .ensures) (c .before .before .if1 .left) (c .if2 .left), search needs)
+loop-again-2 c = (block-more (c .before .before .before .before .before .before .before .before .before .before .before .loop .behind) (c .before .before .before .before .before .before .before .before .before .before .before .loop .depth) (c .before .before .before .before .before .before .before .before .before .before .before .loop .inv .0) (search needs) (c .before .before .before .before .before .before .before .before .before .row-at .ensures) (c .before .before .before .before .before .before .before .if1 .left) (c .before .before .before .before .ends-line .ensures) (c .before .before .before .if4 .left) (c .before .before .closes-block .ensures) (c .before .if5 .left) (c .depth-after .ensures), omega (arith, c .before .before .before .before .before .before .before .before .before .before .before .loop .inv .1, c .depth-after .ensures, depth-after-most LeftBrace RightBrace (c .before .before .before .before .before .before .before .before .before .row-at .result .kind) (c .before .before .before .before .before .before .before .before .before .before .before .loop .depth)))
 
-returns-5 : tie.Need-returns-5 Inv-loop μ-loop
-returns-5 c = λ text. block-said (c .before .before .before .args .rows .now) text (block-none (c .before .loop .depth) (c .before .loop .inv .0) (search needs))
+loop-less-3 : tie.Need-loop-less-3 Inv-loop μ-loop
+loop-less-3 c = search needs
+
+loop-again-3 : tie.Need-loop-again-3 Inv-loop μ-loop
+loop-again-3 c = (block-other (c .before .before .before .before .before .before .loop .behind) (c .before .before .before .before .before .before .loop .depth) (c .before .before .before .before .before .before .loop .inv .0) (search needs) (c .before .before .before .before .row-at .ensures) (c .before .before .if1 .left) (c .if3 .left), search needs)
+
+returns-4 : tie.Need-returns-4 Inv-loop μ-loop
+returns-4 c = λ text. block-said (c .before .before .before .args .rows .now) text (block-none (c .before .loop .behind) (c .before .loop .depth) (c .before .loop .inv .0) (search needs))
 
 pub block-is-single-line-spec : {M : Type 1} → statement M
 block-is-single-line-spec =
@@ -78,16 +84,18 @@ block-is-single-line-spec =
     sub-loop
     row-at-requires
     add-at
+    is-trivia-requires
     returns
-    trails-requires
-    returns-2
-    ends-line-requires
-    returns-3
-    closes-block-requires
-    returns-4
-    depth-after-requires
     loop-less
     loop-again
+    ends-line-requires
+    returns-2
+    closes-block-requires
+    trails-requires
+    returns-3
+    depth-after-requires
     loop-less-2
     loop-again-2
-    returns-5)
+    loop-less-3
+    loop-again-3
+    returns-4)

@@ -1,88 +1,59 @@
 -- `lookahead::decide` meets its contract. Assumes nothing.
-use Prim.Native.Nat.{_-_}
-use lib.ListN.{length}
+use mathlib.Core.Path.{_∙_}
 use borrow.Author.Needs.{needs}
-use Rattle.lookahead.proofs.Deciding.{Deciding, deciding-start, room, passed-over, stopped, broken, undecided, ended}
+use Rattle.lookahead.proofs.Deciding.{narrow, wide-comma, wide-signature, wide-paren, wide-bracket}
 use Rattle.lookahead.proofs.decide.Statement.{statement}
 use Rattle.lookahead.proofs.decide.Tie as tie
 
-abbrev Inv-loop : tie.InvT-loop
-Inv-loop rows span limit m₀ at₀ m at = Deciding rows span limit m at
+until-wide-requires : tie.Need-until-wide-requires
+until-wide-requires c κs = search needs
 
-abbrev μ-loop : tie.MeasureT-loop
-μ-loop rows span limit m₀ at₀ m at = length rows - at
-
-new-requires : tie.Need-new-requires Inv-loop μ-loop
-new-requires c κs = search needs
-
-loop-holds : tie.Need-loop-holds Inv-loop μ-loop
-loop-holds c = deciding-start _ _ _ _ (c .new .ensures .0) (c .new .ensures .1) (c .new .ensures .2) (c .new .ensures .3)
-
-sub-loop : tie.Need-sub-loop Inv-loop μ-loop
-sub-loop c = search needs
-
-row-at-requires : tie.Need-row-at-requires Inv-loop μ-loop
-row-at-requires c κs = search needs
-
-add-at : tie.Need-add-at Inv-loop μ-loop
-add-at c = search needs
-
-stops-requires : tie.Need-stops-requires Inv-loop μ-loop
-stops-requires c κs = search needs
-
-returns : tie.Need-returns Inv-loop μ-loop
-returns c = stopped (c .before .before .before .before .before .before .loop .inv) (search needs) (c .before .before .before .before .row-at .ensures) (c .before .before .if1 .taken) (c .before .stops .ensures) (c .if2 .taken)
-
-size-of-requires : tie.Need-size-of-requires Inv-loop μ-loop
-size-of-requires c κs = search needs
-
-counts-requires : tie.Need-counts-requires Inv-loop μ-loop
-counts-requires c κs = room (c .before .before .before .before .before .before .before .loop .inv) _ (search needs) (search needs) (c .size-of .ensures .1)
-
-capped-requires : tie.Need-capped-requires Inv-loop μ-loop
-capped-requires c κs = search needs
-
-breaks-requires : tie.Need-breaks-requires Inv-loop μ-loop
+breaks-requires : tie.Need-breaks-requires
 breaks-requires c κs = search needs
 
-returns-2 : tie.Need-returns-2 Inv-loop μ-loop
-returns-2 c = broken (c .before .before .before .before .before .before .before .before .before .before .before .loop .inv) (search needs) (c .before .before .before .before .before .before .before .before .before .row-at .ensures) (c .before .before .before .before .before .before .before .if1 .taken) (c .before .before .before .before .before .before .stops .ensures) (c .before .before .before .before .before .if2 .left) (c .before .before .before .before .size-of .ensures .0) (c .before .before .before .counts .ensures) (c .before .before .capped .ensures .0) (c .before .before .capped .ensures .1) (c .before .before .capped .ensures .2) (c .before .before .capped .ensures .3) (c .before .breaks .ensures) (c .if3 .taken)
+returns : tie.Need-returns
+returns c = narrow (c .before .before .before .before .before .before .args .rows .now) (c .before .before .before .before .before .before .args .limit) (c .before .before .before .before .until-wide .result .m) (c .before .before .before .before .until-wide .result .at) (c .before .before .before .before .before .before .args .span) (c .before .before .before .before .until-wide .ensures .1 .0 (c .before .if1 .taken)) (c .breaks .ensures)
 
-loop-less : tie.Need-loop-less Inv-loop μ-loop
-loop-less c = search needs
+returns-2 : tie.Need-returns-2
+returns-2 c = wide-comma (c .before .before .before .before .before .before .before .args .rows .now) (c .before .before .before .before .before .before .before .args .limit) (c .before .before .before .before .before .until-wide .result .m) (c .before .before .before .before .before .until-wide .result .at) (c .before .before .if1 .left) (c .before .before .before .before .before .before .before .args .span) (c .before .before .before .before .before .until-wide .ensures .0) (c .if2 .taken)
 
-loop-again : tie.Need-loop-again Inv-loop μ-loop
-loop-again c = undecided (c .before .before .before .before .before .before .before .before .before .before .before .loop .inv) (search needs) (c .before .before .before .before .before .before .before .before .before .row-at .ensures) (c .before .before .before .before .before .before .before .if1 .taken) (c .before .before .before .before .before .before .stops .ensures) (c .before .before .before .before .before .if2 .left) (c .before .before .before .before .size-of .ensures .0) (c .before .before .before .counts .ensures) (c .before .before .capped .ensures .0) (c .before .before .capped .ensures .1) (c .before .before .capped .ensures .2) (c .before .before .capped .ensures .3) (c .before .breaks .ensures) (c .if3 .left)
+enum-told : tie.Need-enum-told
+enum-told c = search needs
 
-loop-less-2 : tie.Need-loop-less-2 Inv-loop μ-loop
-loop-less-2 c = search needs
+enum-told-2 : tie.Need-enum-told-2
+enum-told-2 c = search needs
 
-loop-again-2 : tie.Need-loop-again-2 Inv-loop μ-loop
-loop-again-2 c = passed-over (c .before .before .before .before .loop .inv) (search needs) (c .before .before .row-at .ensures) (c .if1 .left)
+comma-ahead-requires : tie.Need-comma-ahead-requires
+comma-ahead-requires c κs = search needs
 
-returns-3 : tie.Need-returns-3 Inv-loop μ-loop
-returns-3 c = ended (c .before .loop .inv) (search needs)
+enum-told-3 : tie.Need-enum-told-3
+enum-told-3 c = search needs
+
+comma-ahead-requires-2 : tie.Need-comma-ahead-requires-2
+comma-ahead-requires-2 c κs = search needs
+
+returns-3 : tie.Need-returns-3
+returns-3 c = rw (c .enum-told .given .1) (wide-signature (c .before .before .before .before .before .before .before .before .before .args .rows .now) (c .before .before .before .before .before .before .before .before .before .args .limit) (c .before .before .before .before .before .before .before .until-wide .result .m) (c .before .before .before .before .before .before .before .until-wide .result .at) (c .before .before .before .before .if1 .left) (rw (c .enum-told .given .1) at (c .before .before .before .before .before .before .before .until-wide .ensures .0)))
+
+returns-4 : tie.Need-returns-4
+returns-4 c = rw (c .before .enum-told2 .given .1) (c .comma-ahead .ensures ∙ wide-paren (c .before .before .before .before .before .before .before .before .before .before .args .rows .now) (c .before .before .before .before .before .before .before .before .before .before .args .limit) (c .before .before .before .before .before .before .before .before .until-wide .result .m) (c .before .before .before .before .before .before .before .before .until-wide .result .at) (c .before .before .before .before .before .if1 .left) (c .before .before .before .if2 .left) (rw (c .before .enum-told2 .given .1) at (c .before .before .before .before .before .before .before .before .until-wide .ensures .0)))
+
+returns-5 : tie.Need-returns-5
+returns-5 c = rw (c .before .enum-told3 .given .1) (c .comma-ahead2 .ensures ∙ wide-bracket (c .before .before .before .before .before .before .before .before .before .before .args .rows .now) (c .before .before .before .before .before .before .before .before .before .before .args .limit) (c .before .before .before .before .before .before .before .before .until-wide .result .m) (c .before .before .before .before .before .before .before .before .until-wide .result .at) (c .before .before .before .before .before .if1 .left) (c .before .before .before .if2 .left) (rw (c .before .enum-told3 .given .1) at (c .before .before .before .before .before .before .before .before .until-wide .ensures .0)))
 
 pub decide-spec : {M : Type 1} → statement M
 decide-spec =
     tie.close
     (tie.spec
-    Inv-loop
-    μ-loop
-    new-requires
-    loop-holds
-    sub-loop
-    row-at-requires
-    add-at
-    stops-requires
-    returns
-    size-of-requires
-    counts-requires
-    capped-requires
+    until-wide-requires
     breaks-requires
+    returns
     returns-2
-    loop-less
-    loop-again
-    loop-less-2
-    loop-again-2
-    returns-3)
+    enum-told
+    enum-told-2
+    comma-ahead-requires
+    enum-told-3
+    comma-ahead-requires-2
+    returns-3
+    returns-4
+    returns-5)
