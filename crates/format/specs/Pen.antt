@@ -12,7 +12,7 @@ use Rattle.rows.specs.Row.{rowsOf}
 use Rattle.rows.specs.Bounds.{InBounds}
 use Rattle.rows.specs.Options
 use Rattle.rows.specs.Token
-use Rattle.lookahead.specs.Scan.{lacks}
+use Rattle.lookahead.specs.Scan.{lacks, widthRows}
 use Rattle.push_token.specs.Formatter
 use Rattle.push_token.specs.Act.{State, state}
 use Rattle.format.specs.declared.formatter.Formatter.{Formatter}
@@ -145,6 +145,7 @@ pub record Ahead (token : TokenAt) (rows : List ℕ) : Type 0 where
   pub behind : token .behind ≤ length rows
   pub commas : token .ends .commas ≤ token .lead → lacks Comma (rowsOf (drop (token .lead) rows)) ≡ true
   pub braces : token .ends .braces ≤ token .lead → lacks RightBrace (rowsOf (drop (token .lead) rows)) ≡ true
+  pub width : 0 < token .ends .width → widthRows (rowsOf (drop (token .lead) rows)) ≤ token .ends .width
 
 -- it stands for the definition's token t, before the tokens ts
 pub record Stands (token : TokenAt) (rows text : List ℕ) (t : Token.Token) (ts : List Token.Token) : Type 0 where

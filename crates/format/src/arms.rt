@@ -2,6 +2,7 @@
 // writes it: then each method has one place where it is called, all are compiled into one loop, and the state is not copied.
 use crate::formatter::Before;
 use crate::formatter::BraceStyle;
+use crate::formatter::Ends;
 use crate::formatter::Formatter;
 use crate::formatter::GroupDepth;
 use crate::formatter::InlineDepth;
@@ -30,6 +31,7 @@ use sink::write::write_comma;
 use sink::write::write_else;
 ghost use mathlib.Core.Bool.{true, false, _&&_, _||_, not};
 ghost use mathlib.Core.List.{List, [], _∷_};
+ghost use mathlib.Core.Logic.{_⊎_};
 ghost use mathlib.Core.Path.{_≡_};
 ghost use Prim.Native.Nat.{ℕ, _+_, _≤_, _<_};
 ghost use lib.ListN.{length};
@@ -513,11 +515,10 @@ impl Formatter {
                 return false;
             }
             let lead = token.lead;
-            let ends = token.ends;
-            if ends.commas <= lead {
+            let options = self.options;
+            if no_list_breaks(token.ends, lead, options.list_width) {
                 return false;
             }
-            let options = self.options;
             return should_break_list(&rows[lead..], options.list_width);
         }
         false
@@ -864,4 +865,17 @@ impl Formatter {
         self.lexeme_due = true;
         self
     }
+}
+
+// Whether no list breaks from `lead` on: no comma is left, or all tokens together are not too wide.
+fn no_list_breaks(ends: Ends, lead: usize, list_width: u32) -> bool
+    ensures { λ r. ⌜ (r ≡ true → (ends .commas ≤ lead) ⊎ ((0 < ends .width) × (ends .width ≤ «list_width»))) ⌝ }
+{
+    if ends.commas <= lead {
+        return true;
+    }
+    if 0 < ends.width {
+        return ends.width <= list_width as usize;
+    }
+    false
 }

@@ -92,9 +92,11 @@ pub struct Formatter {
 }
 
 // Behind the last Comma and behind the last `}` of all rows: from there on no list breaks, and no block is one line.
+// `width` is of all tokens together, as a list's width counts them; 0 where it was not measured.
 pub struct Ends {
     pub commas: usize,
     pub braces: usize,
+    pub width: usize,
 }
 
 // A token's place: its kind and lexeme, its index among the tokens, where its leading rows start and where the rows

@@ -62,15 +62,17 @@ pub fn format_tokens_with(
     }
 }
 
-// The walk over checked rows, and the plain mark; after refusals 4 and 5 every place of the output is 0.
+// The plain mark and the walk over checked rows: where the mark is given there is no trivia to look for. After refusals
+// 4 and 5 every place of the output is 0.
 fn lay_out(options: Options, rows: &[u8], text: &[u8], out: &mut [u8]) -> Answer
     requires { ⌜ Walks (now rows) (now text) ⌝ }
     ensures answer { λ r. ⌜ reported r ≡ afterChecks (optionsOf options) (now (rows .entry)) (now (text .entry)) (now (out .entry)) .report ⌝ }
     ensures output { λ r. ⌜ now (out .exit) ≡ afterChecks (optionsOf options) (now (rows .entry)) (now (text .entry)) (now (out .entry)) .out ⌝ }
 {
     let mut stack = [0; 64];
-    match walk(formatter(options), out, &mut stack, rows, text) {
-        Walked::Finished(len, commas) => Answer::Text(len, commas, plain_mark(rows, text)),
+    let plain = plain_mark(rows, text);
+    match walk(formatter(options), out, &mut stack, rows, text, plain) {
+        Walked::Finished(len, commas) => Answer::Text(len, commas, plain),
         Walked::Deep(index) => {
             clear_bytes(out);
             Answer::Deep(index)

@@ -6,4 +6,5 @@ pub mod Measuring
 pub mod Deciding
 pub mod Looking
 pub mod Lacks
+pub mod Narrow
 pub mod Said

@@ -18,6 +18,13 @@ unfoldable pub lacks : ℕ → List Row → Bool
 lacks k [] = true
 lacks k (r ∷ rs) = not (eqb (r .what) TokenRow && eqb (r .kind) k) && lacks k rs
 
+-- ---- `total_width`
+
+-- all token rows together, each as it adds to the width of a measure
+unfoldable pub widthRows : List Row → ℕ
+widthRows [] = 0
+widthRows (r ∷ rs) = cond (eqb (r .what) TokenRow) (r .end - r .start + 1 + widthRows rs) (widthRows rs)
+
 -- ---- `next_has_comment`
 
 abbrev pub isComment : Row → Bool

@@ -21,7 +21,7 @@ ghost use Rattle.rows.specs.Answer.{rowOf};
 ghost use Rattle.lookahead.specs.Space.{needsSpace, isValueKind};
 ghost use Rattle.lookahead.specs.Answer.{reported, spaceReport};
 ghost use Rattle.lookahead.specs.Measure.{start, params, sigMeasure, groupMeasure, shouldBreakSig, shouldBreakList, blockIsSingleLine, nextHasComment};
-ghost use Rattle.lookahead.specs.Scan.{lacks, isComment, isTrivia, trails, endsLine, closesBlock, opensParenRows, groupOf, measureRows, measureOf, isMark, commaAhead, breaksAt};
+ghost use Rattle.lookahead.specs.Scan.{lacks, widthRows, isComment, isTrivia, trails, endsLine, closesBlock, opensParenRows, groupOf, measureRows, measureOf, isMark, commaAhead, breaksAt};
 
 mod measure;
 mod sets;
@@ -210,6 +210,23 @@ pub fn behind_last(rows: &[u8], kind: u32) -> usize
         at -= ROW_BYTES;
     }
     0
+}
+
+// The width of all tokens together, as a list's width counts them: no list is wider.
+pub fn total_width(rows: &[u8]) -> usize
+    requires { ⌜ length (now rows) ≤ 1048560 ⌝ }
+    ensures { λ r. ⌜ r ≡ widthRows (rowsOf (now (rows .entry))) ⌝ }
+{
+    let mut width = 0;
+    let mut at = 0;
+    while ROW_BYTES <= rows.len() - at {
+        let row = row_at(rows, at);
+        at += ROW_BYTES;
+        if row.what == kinds::TOKEN {
+            width += size_of(row) + 1;
+        }
+    }
+    width
 }
 
 // Whether a measure is above what does not break: what is wide breaks, a list only with a comma at its top.

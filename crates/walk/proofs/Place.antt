@@ -14,7 +14,7 @@ use Rattle.rows.specs.Checks.{atStart, badFrom}
 use Rattle.rows.specs.Token.{Token, bytesOf, triviaOf, tokensFrom, tokensOf}
 use Rattle.rows.proofs.RowList.{rows-cons, part-cons, rows-drop, rows-length, row-drop, row-index}
 use Rattle.rows.proofs.Sound.{in-bounds, first-sound}
-use Rattle.lookahead.specs.Scan.{lacks}
+use Rattle.lookahead.specs.Scan.{lacks, widthRows}
 use Rattle.format.specs.declared.formatter.Ends.{Ends}
 use Rattle.format.specs.declared.formatter.TokenAt.{TokenAt}
 use Rattle.format.specs.Pen.{Names, Ahead, Stands}
@@ -70,9 +70,12 @@ head-first {rows} {text} ω =
       bare = no-trail (length text) 0 atStart (rowsOf rows) refl (ω .good);
     }
 
-pub bare-run : {rows : List ℕ} {at : ℕ} (what : ℕ) → eqb TokenRow what ≡ false → at ≡ 16 * (at / 16) → onlyTokens (rowsOf rows) ≡ true → runRows what (rowsOf (drop at rows)) ≡ 0
-bare-run {rows} {at} what n w e =
+pub bare-run : (rows : List ℕ) (at what : ℕ) → eqb TokenRow what ≡ false → at ≡ 16 * (at / 16) → onlyTokens (rowsOf rows) ≡ true → runRows what (rowsOf (drop at rows)) ≡ 0
+bare-run rows at what n w e =
     subst (λ k. runRows what (rowsOf (drop k rows)) ≡ 0) (sym w) (rw (rows-drop (at / 16) rows) (only-none what n (at / 16) (rowsOf rows) e))
+
+pub bare-behind : (rows : List ℕ) {text : List ℕ} {at row : ℕ} → Head rows text at → row ≡ at + 16 * runRows Leading (rowsOf (drop at rows)) → onlyTokens (rowsOf rows) ≡ true → runRows Trailing (rowsOf (drop (row + 16) rows)) ≡ 0
+bare-behind rows {row = row} η e o = bare-run rows (row + 16) Trailing refl (let w = η .whole in omega arith) o
 
 -- while a whole row is left, and where none is
 pub more-rows : {n at : ℕ} → 16 ≤ n - at → at < n
@@ -166,8 +169,8 @@ module _ {rows text : List ℕ} {at : ℕ} (ω : Walks rows text) (η : Head row
   tokens-next = rw (← rows-next) (sym (tokens-behind text (rowsOf (drop (rowOf rows at + 16) rows))))
 
   -- what is known at each whole row is known here
-  lacking : (k e : ℕ) → ((j : ℕ) → e ≤ 16 * j → lacks k (rowsOf (drop (16 * j) rows)) ≡ true) → e ≤ at → lacks k (rowsOf (drop at rows)) ≡ true
-  lacking k e ε l = subst (λ n. lacks k (rowsOf (drop n rows)) ≡ true) (sym (η .whole)) (ε (at / 16) (let w = η .whole in omega arith))
+  known : (P : ℕ → Type 0) → ((j : ℕ) → P (16 * j)) → P at
+  known P all = subst P (sym (η .whole)) (all (at / 16))
 
   -- ---- what the code's token stands for
 
@@ -201,8 +204,9 @@ module _ {rows text : List ℕ} {at : ℕ} (ω : Walks rows text) (η : Head row
               record {
                 lead = rw (τ .lead) (omega arith);
                 behind = rw (τ .behind) r;
-                commas = rw (τ .lead, τ .ends) (lacking Comma (ends .commas) (ε .commas));
-                braces = rw (τ .lead, τ .ends) (lacking RightBrace (ends .braces) (ε .braces));
+                commas = rw (τ .lead, τ .ends) (known (λ n. ends .commas ≤ n → lacks Comma (rowsOf (drop n rows)) ≡ true) (ε .commas));
+                braces = rw (τ .lead, τ .ends) (known (λ n. ends .braces ≤ n → lacks RightBrace (rowsOf (drop n rows)) ≡ true) (ε .braces));
+                width = rw (τ .lead, τ .ends) (known (λ n. 0 < ends .width → widthRows (rowsOf (drop n rows)) ≤ ends .width) (ε .width));
               };
           own = rw (τ .behind) (omega arith);
           leads = rw (τ .lead, τ .behind) (record { ordered = omega arith; within = omega arith; whole = rw a (omega arith); bounds = rw (a, leads-are) (bounds-take text n (rowsOf (drop at rows)) bounds) });

@@ -12,7 +12,7 @@ use Rattle.rows.specs.Kinds.{TokenRow, Comma, RightBrace}
 use Rattle.rows.specs.Row.{Row, rowAt, rowsOf}
 use Rattle.rows.specs.Checks.{atStart, badFrom}
 use Rattle.rows.specs.Token.{Token, Trivia, tokensOf}
-use Rattle.lookahead.specs.Scan.{lacks}
+use Rattle.lookahead.specs.Scan.{lacks, widthRows}
 use Rattle.push_token.specs.Formatter.{new}
 use Rattle.push_token.specs.Act.{State, Act, update, _⨾_, nothing, if}
 use Rattle.push_token.specs.Emit.{trackFnState, trailingTrivia}
@@ -35,10 +35,11 @@ unfoldable pub onlyTokens : List Row → Bool
 onlyTokens [] = true
 onlyTokens (r ∷ rs) = eqb (r .what) TokenRow && onlyTokens rs
 
--- from `ends` on the rows have no Comma, and no `}`
+-- from `ends` on the rows have no Comma, and no `}`; the tokens of no part are wider together, where they were measured
 pub record Ending (rows : List ℕ) (ends : Ends) : Type 0 where
   pub commas : (j : ℕ) → ends .commas ≤ 16 * j → lacks Comma (rowsOf (drop (16 * j) rows)) ≡ true
   pub braces : (j : ℕ) → ends .braces ≤ 16 * j → lacks RightBrace (rowsOf (drop (16 * j) rows)) ≡ true
+  pub width : (j : ℕ) → 0 < ends .width → widthRows (rowsOf (drop (16 * j) rows)) ≤ ends .width
 
 -- the token of the row at an index
 pub record TokenAtRow (rows : List ℕ) (first row number : ℕ) (last : Ends) (token : TokenAt) : Type 0 where

@@ -4,6 +4,7 @@ use format::formatter::Ends;
 use format::formatter::Formatter;
 use format::formatter::TokenAt;
 use lookahead::behind_last;
+use lookahead::total_width;
 use rows::ROW_BYTES;
 use rows::kinds;
 use rows::row_at;
@@ -20,6 +21,9 @@ ghost use Rattle.format.specs.Does.{Does};
 ghost use Rattle.walk.specs.Walk.{Fresh, runRows, onlyTokens, Ending, TokenAtRow, TokenRows, Trivial, Walks, Laid};
 
 mod token;
+
+// The list width from which on all tokens are measured together; below it a list's measure ends within so many tokens.
+const WIDE: u32 = 1024;
 
 // How a walk ends: with the length of the text and the number of inserted commas, or with refusal 4 or 5 at a token.
 pub enum Walked {
@@ -42,7 +46,8 @@ pub fn walk(
     requires { ⌜ (bare ≡ true → onlyTokens (rowsOf (now rows)) ≡ true) ⌝ }
     ensures { λ r. ⌜ Laid (now (rows .entry)) (now (text .entry)) (on new (now (stack .entry)) (now (out .entry))) r (now (out .exit)) ⌝ }
 {
-    let ends = ends_of(rows);
+    let options = new.options;
+    let ends = ends_of(rows, options.list_width);
     let mut f = new;
     let mut at = 0;
     let mut index: u32 = 0;
@@ -69,13 +74,25 @@ pub fn walk(
     Walked::Finished(len, commas)
 }
 
-// What stands for the last time in the rows, looked for once.
-fn ends_of(rows: &[u8]) -> Ends
+// What stands for the last time in the rows, and how wide all tokens are, found once.
+fn ends_of(rows: &[u8], list_width: u32) -> Ends
+    requires { ⌜ length (now rows) ≤ 1048560 ⌝ }
     ensures { λ r. ⌜ Ending (now (rows .entry)) r ⌝ }
 {
+    let commas = behind_last(rows, kinds::COMMA);
+    let braces = behind_last(rows, kinds::RIGHT_BRACE);
+    if list_width < WIDE {
+        return Ends {
+            commas,
+            braces,
+            width: 0,
+        };
+    }
+    let width = total_width(rows);
     Ends {
-        commas: behind_last(rows, kinds::COMMA),
-        braces: behind_last(rows, kinds::RIGHT_BRACE),
+        commas,
+        braces,
+        width,
     }
 }
 

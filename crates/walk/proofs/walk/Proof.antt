@@ -1,45 +1,46 @@
 -- `walk::walk` meets its contract. Assumes nothing.
-use mathlib.Core.Path.{_∙_}
+use mathlib.Core.Path.{refl, _∙_}
 use Prim.Native.Nat.{_-_}
 use native.Mathlib.Omega.{arith}
 use borrow.Author.Needs.{needs}
 use lib.ListN.{length}
 use Rattle.report.specs.Report.{deep, full}
+use Rattle.rows.specs.Kinds.{Leading}
 use Rattle.format.specs.Pen.{on}
 use Rattle.walk.proofs.Going.{Going, starts, few-tokens, going-roomy, placed, turned, goes-full, goes-deep, goes-on, nearer, onward, laid-stopped, laid-done}
-use Rattle.walk.proofs.Place.{row-inside, more-rows, no-more-rows}
+use Rattle.walk.proofs.Place.{row-inside, bare-run, bare-behind, more-rows, no-more-rows}
 use Rattle.walk.proofs.walk.Statement.{statement}
 use Rattle.walk.proofs.walk.Tie as tie
 
 abbrev Inv-loop : tie.InvT-loop
-Inv-loop out₀ stack₀ rows text ends f₀ at₀ index₀ out stack f at index = Going rows text (on f₀ stack₀ out₀) index at (on f stack out)
+Inv-loop out₀ stack₀ rows text bare ends f₀ at₀ index₀ out stack f at index = Going rows text (on f₀ stack₀ out₀) index at (on f stack out)
 
 abbrev μ-loop : tie.MeasureT-loop
-μ-loop out₀ stack₀ rows text ends f₀ at₀ index₀ out stack f at index = length rows - at
+μ-loop out₀ stack₀ rows text bare ends f₀ at₀ index₀ out stack f at index = length rows - at
 
 ends-of-requires : tie.Need-ends-of-requires Inv-loop μ-loop
-ends-of-requires c κs = search needs
+ends-of-requires c κs = c .before .before .before .before .before .pre .1 .0 .few
 
 loop-holds : tie.Need-loop-holds Inv-loop μ-loop
-loop-holds c = starts (c .before .before .before .before .before .pre .1) (c .before .before .before .before .before .pre .0)
+loop-holds c = starts (c .before .before .before .before .before .before .pre .1 .0) (c .before .before .before .before .before .before .pre .0)
 
 sub-loop : tie.Need-sub-loop Inv-loop μ-loop
 sub-loop c = c .loop .inv .head .within
 
-rows-end-requires : tie.Need-rows-end-requires Inv-loop μ-loop
-rows-end-requires c κs = c .before .loop .inv .head .within
+trivia-end-requires : tie.Need-trivia-end-requires Inv-loop μ-loop
+trivia-end-requires c κs = (c .before .loop .inv .head .within, λ b. bare-run _ _ Leading refl (c .before .loop .inv .head .whole) (c .before .before .before .before .before .before .before .before .pre .1 .1 b))
 
-add-rows-end : tie.Need-add-rows-end Inv-loop μ-loop
-add-rows-end c = record { fits = let r = row-inside (c .before .before .before .before .before .before .before .before .pre .1) (c .before .before .loop .inv .head) (more-rows (c .before .loop-test .taken)) in let e = c .rows-end .ensures in let l = c .before .before .before .before .before .before .before .before .pre .1 .few in omega arith }
+add-trivia-end : tie.Need-add-trivia-end Inv-loop μ-loop
+add-trivia-end c = record { fits = let r = row-inside (c .before .before .before .before .before .before .before .before .before .pre .1 .0) (c .before .before .loop .inv .head) (more-rows (c .before .loop-test .taken)) in let e = c .trivia-end .ensures in let l = c .before .before .before .before .before .before .before .before .before .pre .1 .0 .few in omega arith }
 
-rows-end-requires-2 : tie.Need-rows-end-requires-2 Inv-loop μ-loop
-rows-end-requires-2 c κs = let r = row-inside (c .before .before .before .before .before .before .before .before .pre .1) (c .before .before .loop .inv .head) (more-rows (c .before .loop-test .taken)) in let e = c .rows-end .ensures in omega arith
+trivia-end-requires-2 : tie.Need-trivia-end-requires-2 Inv-loop μ-loop
+trivia-end-requires-2 c κs = (let r = row-inside (c .before .before .before .before .before .before .before .before .before .pre .1 .0) (c .before .before .loop .inv .head) (more-rows (c .before .loop-test .taken)) in let e = c .trivia-end .ensures in omega arith, λ b. bare-behind _ (c .before .before .loop .inv .head) (c .trivia-end .ensures) (c .before .before .before .before .before .before .before .before .before .pre .1 .1 b))
 
 token-at-requires : tie.Need-token-at-requires Inv-loop μ-loop
-token-at-requires c κs = let r = row-inside (c .before .before .before .before .before .before .before .before .before .pre .1) (c .before .before .before .loop .inv .head) (more-rows (c .before .before .loop-test .taken)) in let e = c .before .rows-end .ensures in omega arith
+token-at-requires c κs = let r = row-inside (c .before .before .before .before .before .before .before .before .before .before .pre .1 .0) (c .before .before .before .loop .inv .head) (more-rows (c .before .before .loop-test .taken)) in let e = c .before .trivia-end .ensures in omega arith
 
 turn-requires : tie.Need-turn-requires Inv-loop μ-loop
-turn-requires c κs = (going-roomy (c .before .before .before .before .before .before .before .before .before .before .before .before .pre .1) (c .before .before .before .before .before .before .loop .inv), (record { most = c .before .before .before .before .before .before .loop .inv .entries; size = c .before .before .before .before .before .before .loop .inv .stack }, ((placed (c .before .before .before .before .before .before .before .before .before .before .before .before .pre .1) (c .before .before .before .before .before .before .before .ends-of .ensures) (c .before .before .before .before .before .before .loop .inv) (more-rows (c .before .before .before .before .before .loop-test .taken)) (c .before .before .before .before .rows-end .ensures) (c .before .before .before .rows-end2 .ensures) (c .before .before .token-at .ensures)) .whole, c .before .before .before .before .before .before .loop .inv .shallow)))
+turn-requires c κs = (going-roomy (c .before .before .before .before .before .before .before .before .before .before .before .before .before .pre .1 .0) (c .before .before .before .before .before .before .loop .inv), (record { most = c .before .before .before .before .before .before .loop .inv .entries; size = c .before .before .before .before .before .before .loop .inv .stack }, ((placed (c .before .before .before .before .before .before .before .before .before .before .before .before .before .pre .1 .0) (c .before .before .before .before .before .before .before .ends-of .ensures) (c .before .before .before .before .before .before .loop .inv) (more-rows (c .before .before .before .before .before .loop-test .taken)) (c .before .before .before .before .trivia-end .ensures) (c .before .before .before .trivia-end2 .ensures) (c .before .before .token-at .ensures)) .whole, c .before .before .before .before .before .before .loop .inv .shallow)))
 
 cast-full : tie.Need-cast-full Inv-loop μ-loop
 cast-full c = search needs
@@ -51,7 +52,7 @@ same-length-2 : tie.Need-same-length-2 Inv-loop μ-loop
 same-length-2 c = c .before .before .stack .given ∙ c .before .before .before .before .before .before .before .before .before .before .before .before .loop .inv .lent
 
 returns : tie.Need-returns Inv-loop μ-loop
-returns c = let γ = c .before .before .before .before .before .before .before .before .before .before .before .before .loop .inv in let h = more-rows (c .before .before .before .before .before .before .before .before .before .before .before .loop-test .taken) in let π = placed (c .before .before .before .before .before .before .before .before .before .before .before .before .before .before .before .before .before .before .pre .1) (c .before .before .before .before .before .before .before .before .before .before .before .before .before .ends-of .ensures) γ h (c .before .before .before .before .before .before .before .before .before .before .rows-end .ensures) (c .before .before .before .before .before .before .before .before .before .rows-end2 .ensures) (c .before .before .before .before .before .before .before .before .token-at .ensures) in laid-stopped full (goes-full (c .before .before .before .before .before .before .before .before .before .before .before .before .before .before .before .before .before .before .pre .1) γ h (turned π (c .before .before .before .before .before .turn .ensures)) (c .if1 .taken)) (c .before .before .before .before .out .given ∙ γ .size)
+returns c = let γ = c .before .before .before .before .before .before .before .before .before .before .before .before .loop .inv in let h = more-rows (c .before .before .before .before .before .before .before .before .before .before .before .loop-test .taken) in let π = placed (c .before .before .before .before .before .before .before .before .before .before .before .before .before .before .before .before .before .before .before .pre .1 .0) (c .before .before .before .before .before .before .before .before .before .before .before .before .before .ends-of .ensures) γ h (c .before .before .before .before .before .before .before .before .before .before .trivia-end .ensures) (c .before .before .before .before .before .before .before .before .before .trivia-end2 .ensures) (c .before .before .before .before .before .before .before .before .token-at .ensures) in laid-stopped full (goes-full (c .before .before .before .before .before .before .before .before .before .before .before .before .before .before .before .before .before .before .before .pre .1 .0) γ h (turned π (c .before .before .before .before .before .turn .ensures)) (c .if1 .taken)) (c .before .before .before .before .out .given ∙ γ .size)
 
 cast-refused : tie.Need-cast-refused Inv-loop μ-loop
 cast-refused c = search needs
@@ -63,16 +64,16 @@ same-length-4 : tie.Need-same-length-4 Inv-loop μ-loop
 same-length-4 c = c .before .before .before .stack .given ∙ c .before .before .before .before .before .before .before .before .before .before .before .before .before .loop .inv .lent
 
 returns-2 : tie.Need-returns-2 Inv-loop μ-loop
-returns-2 c = let γ = c .before .before .before .before .before .before .before .before .before .before .before .before .before .loop .inv in let h = more-rows (c .before .before .before .before .before .before .before .before .before .before .before .before .loop-test .taken) in let π = placed (c .before .before .before .before .before .before .before .before .before .before .before .before .before .before .before .before .before .before .before .pre .1) (c .before .before .before .before .before .before .before .before .before .before .before .before .before .before .ends-of .ensures) γ h (c .before .before .before .before .before .before .before .before .before .before .before .rows-end .ensures) (c .before .before .before .before .before .before .before .before .before .before .rows-end2 .ensures) (c .before .before .before .before .before .before .before .before .before .token-at .ensures) in laid-stopped deep (goes-deep (c .before .before .before .before .before .before .before .before .before .before .before .before .before .before .before .before .before .before .before .pre .1) γ h (turned π (c .before .before .before .before .before .before .turn .ensures)) (c .before .if1 .left) (c .if2 .taken)) (c .before .before .before .before .before .out .given ∙ γ .size)
+returns-2 c = let γ = c .before .before .before .before .before .before .before .before .before .before .before .before .before .loop .inv in let h = more-rows (c .before .before .before .before .before .before .before .before .before .before .before .before .loop-test .taken) in let π = placed (c .before .before .before .before .before .before .before .before .before .before .before .before .before .before .before .before .before .before .before .before .pre .1 .0) (c .before .before .before .before .before .before .before .before .before .before .before .before .before .before .ends-of .ensures) γ h (c .before .before .before .before .before .before .before .before .before .before .before .trivia-end .ensures) (c .before .before .before .before .before .before .before .before .before .before .trivia-end2 .ensures) (c .before .before .before .before .before .before .before .before .before .token-at .ensures) in laid-stopped deep (goes-deep (c .before .before .before .before .before .before .before .before .before .before .before .before .before .before .before .before .before .before .before .before .pre .1 .0) γ h (turned π (c .before .before .before .before .before .before .turn .ensures)) (c .before .if1 .left) (c .if2 .taken)) (c .before .before .before .before .before .out .given ∙ γ .size)
 
 add-index : tie.Need-add-index Inv-loop μ-loop
-add-index c = record { fits = let f = few-tokens (c .before .before .before .before .before .before .before .before .before .before .before .before .before .before .before .before .before .before .before .pre .1) (c .before .before .before .before .before .before .before .before .before .before .before .before .before .loop .inv) in omega arith }
+add-index c = record { fits = let f = few-tokens (c .before .before .before .before .before .before .before .before .before .before .before .before .before .before .before .before .before .before .before .before .pre .1 .0) (c .before .before .before .before .before .before .before .before .before .before .before .before .before .loop .inv) in omega arith }
 
 loop-less : tie.Need-loop-less Inv-loop μ-loop
-loop-less c = let γ = c .before .before .before .before .before .before .before .before .before .before .before .before .before .loop .inv in let h = more-rows (c .before .before .before .before .before .before .before .before .before .before .before .before .loop-test .taken) in nearer (c .before .before .before .before .before .before .before .before .before .before .before .before .before .before .before .before .before .before .before .pre .1) γ h (placed (c .before .before .before .before .before .before .before .before .before .before .before .before .before .before .before .before .before .before .before .pre .1) (c .before .before .before .before .before .before .before .before .before .before .before .before .before .before .ends-of .ensures) γ h (c .before .before .before .before .before .before .before .before .before .before .before .rows-end .ensures) (c .before .before .before .before .before .before .before .before .before .before .rows-end2 .ensures) (c .before .before .before .before .before .before .before .before .before .token-at .ensures))
+loop-less c = let γ = c .before .before .before .before .before .before .before .before .before .before .before .before .before .loop .inv in let h = more-rows (c .before .before .before .before .before .before .before .before .before .before .before .before .loop-test .taken) in nearer (c .before .before .before .before .before .before .before .before .before .before .before .before .before .before .before .before .before .before .before .before .pre .1 .0) γ h (placed (c .before .before .before .before .before .before .before .before .before .before .before .before .before .before .before .before .before .before .before .before .pre .1 .0) (c .before .before .before .before .before .before .before .before .before .before .before .before .before .before .ends-of .ensures) γ h (c .before .before .before .before .before .before .before .before .before .before .before .trivia-end .ensures) (c .before .before .before .before .before .before .before .before .before .before .trivia-end2 .ensures) (c .before .before .before .before .before .before .before .before .before .token-at .ensures))
 
 loop-again : tie.Need-loop-again Inv-loop μ-loop
-loop-again c = let γ = c .before .before .before .before .before .before .before .before .before .before .before .before .before .loop .inv in let h = more-rows (c .before .before .before .before .before .before .before .before .before .before .before .before .loop-test .taken) in let π = placed (c .before .before .before .before .before .before .before .before .before .before .before .before .before .before .before .before .before .before .before .pre .1) (c .before .before .before .before .before .before .before .before .before .before .before .before .before .before .ends-of .ensures) γ h (c .before .before .before .before .before .before .before .before .before .before .before .rows-end .ensures) (c .before .before .before .before .before .before .before .before .before .before .rows-end2 .ensures) (c .before .before .before .before .before .before .before .before .before .token-at .ensures) in onward π (goes-on (c .before .before .before .before .before .before .before .before .before .before .before .before .before .before .before .before .before .before .before .pre .1) γ h (turned π (c .before .before .before .before .before .before .turn .ensures)) (c .before .if1 .left) (c .if2 .left) (c .before .before .before .stack .given))
+loop-again c = let γ = c .before .before .before .before .before .before .before .before .before .before .before .before .before .loop .inv in let h = more-rows (c .before .before .before .before .before .before .before .before .before .before .before .before .loop-test .taken) in let π = placed (c .before .before .before .before .before .before .before .before .before .before .before .before .before .before .before .before .before .before .before .before .pre .1 .0) (c .before .before .before .before .before .before .before .before .before .before .before .before .before .before .ends-of .ensures) γ h (c .before .before .before .before .before .before .before .before .before .before .before .trivia-end .ensures) (c .before .before .before .before .before .before .before .before .before .before .trivia-end2 .ensures) (c .before .before .before .before .before .before .before .before .before .token-at .ensures) in onward π (goes-on (c .before .before .before .before .before .before .before .before .before .before .before .before .before .before .before .before .before .before .before .before .pre .1 .0) γ h (turned π (c .before .before .before .before .before .before .turn .ensures)) (c .before .if1 .left) (c .if2 .left) (c .before .before .before .stack .given))
 
 same-length-5 : tie.Need-same-length-5 Inv-loop μ-loop
 same-length-5 c = c .before .loop .inv .size
@@ -81,7 +82,7 @@ same-length-6 : tie.Need-same-length-6 Inv-loop μ-loop
 same-length-6 c = c .before .loop .inv .lent
 
 returns-3 : tie.Need-returns-3 Inv-loop μ-loop
-returns-3 c = laid-done (c .before .loop .inv) (no-more-rows (c .before .before .before .before .before .before .before .pre .1) (c .before .loop .inv .head) (c .loop-test .left))
+returns-3 c = laid-done (c .before .loop .inv) (no-more-rows (c .before .before .before .before .before .before .before .before .pre .1 .0) (c .before .loop .inv .head) (c .loop-test .left))
 
 pub walk-spec : {M : Type 1} → statement M
 walk-spec =
@@ -92,9 +93,9 @@ walk-spec =
     ends-of-requires
     loop-holds
     sub-loop
-    rows-end-requires
-    add-rows-end
-    rows-end-requires-2
+    trivia-end-requires
+    add-trivia-end
+    trivia-end-requires-2
     token-at-requires
     turn-requires
     cast-full
