@@ -72,13 +72,3 @@ pub fn record_pending_after(pending: bool, kind: u32) -> bool
     }
     false
 }
-
-// How many commas that is.
-pub fn count_comma(wanted: bool) -> usize
-    ensures { λ r. ⌜ (r ≡ cond wanted 1 0) × (r < 2) ⌝ }
-{
-    if wanted {
-        return 1;
-    }
-    0
-}

@@ -2,7 +2,8 @@
 // is one past the output's end once something does not fit. Nothing is written then.
 ghost use mathlib.Core.List.{[], _∷_, _++_};
 ghost use mathlib.Core.Bool.{cond};
-ghost use Prim.Native.Nat.{_≤_};
+ghost use mathlib.Core.Path.{_≡_};
+ghost use Prim.Native.Nat.{_≤_, _<_};
 ghost use lib.ListN.{length, replicate};
 ghost use lib.Seq.{slice};
 ghost use Rattle.sink.specs.Sink.{Writes};
@@ -98,6 +99,16 @@ pub fn write_comma(out: &mut [u8], len: usize, wanted: bool) -> usize
         return write_byte(out, len, b',');
     }
     len
+}
+
+// How many commas that is.
+pub fn count_comma(wanted: bool) -> usize
+    ensures { λ r. ⌜ (r ≡ cond wanted 1 0) × (r < 2) ⌝ }
+{
+    if wanted {
+        return 1;
+    }
+    0
 }
 
 // The word `else`.
