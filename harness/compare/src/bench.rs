@@ -36,6 +36,24 @@ pub fn run(repeats: usize, hostile: bool) {
     measure_readers(repeats);
 }
 
+/// Lays one of the usual inputs out by the Rust or by ours, and prints its name and how many tokens were laid out.
+pub fn call(input: usize, times: usize, by_rust: bool) {
+    let inputs = usual_inputs();
+    let Some(input) = inputs.get(input - 1) else { return println!("none") };
+    let Packed { rows, text } = pack(&input.rows);
+    let read = model::tokens(&rows, &text).unwrap();
+    let tokens = rust_side::tokens(&read);
+    let mut out = vec![0; 64 * input.rows.len()];
+    for _ in 0..times {
+        if by_rust {
+            input.run_rust(&tokens);
+        } else {
+            input.run_ours(&rows, &text, &mut out);
+        }
+    }
+    println!("{} {}", input.calls * read.len(), input.name);
+}
+
 // ---- layouts
 
 struct Input {

@@ -29,7 +29,8 @@ use difference::Difference;
 use std::time::Instant;
 
 const USAGE: &str = "compare [STEP]: compares all cases, or one in STEP of them
-compare bench [SAMPLES [usual]]: the benchmark, as Markdown; `usual` leaves the hostile lists out";
+compare bench [SAMPLES [usual]]: the benchmark, as Markdown; `usual` leaves the hostile lists out
+compare calls rust|ours INPUT TIMES: lays out one of the benchmark's usual inputs, counted from 1, for a tool that counts";
 
 fn main() {
     let words: Vec<String> = std::env::args().skip(1).collect();
@@ -39,6 +40,8 @@ fn main() {
         ["bench"] => bench::run(15, true),
         ["bench", samples] => bench::run(number(samples), true),
         ["bench", samples, "usual"] => bench::run(number(samples), false),
+        ["calls", "rust", input, times] => bench::call(number(input), number(times), true),
+        ["calls", "ours", input, times] => bench::call(number(input), number(times), false),
         [step] => compare(number(step) as u64),
         _ => fail(USAGE),
     }
