@@ -19,7 +19,8 @@ use Rattle.format.specs.declared.formatter.Ends.{Ends}
 use Rattle.format.specs.declared.formatter.TokenAt.{TokenAt}
 use Rattle.format.specs.Pen.{Names, Ahead, Stands}
 use Rattle.format.specs.Trivia.{Part, triviaIn}
-use Rattle.walk.specs.Walk.{runRows, onlyTokens, Ending, TokenAtRow, TokenRows, Trivial, Walks}
+use Rattle.stretch.specs.Stretch.{onlyTokens}
+use Rattle.walk.specs.Walk.{runRows, Ending, TokenAtRow, TokenRows, Trivial, Walks}
 use Rattle.walk.proofs.Runs.{Checked, only-none, checked-behind, trailing-run, tokens-behind, run-ends, run-most, no-trail, TokenFirst, token-first}
 
 -- ---- rows by number

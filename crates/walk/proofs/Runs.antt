@@ -16,7 +16,8 @@ use Rattle.rows.specs.Bounds.{InBounds}
 use Rattle.rows.specs.Checks.{Before, atStart, after, mayTrail, orphan, badFrom}
 use Rattle.rows.specs.Token.{Token, Trivia, triviaOf, trailingOf, tokenOf, tokensFrom}
 use Rattle.rows.proofs.Sound.{first-sound, rest-good}
-use Rattle.walk.specs.Walk.{runRows, onlyTokens}
+use Rattle.stretch.specs.Stretch.{onlyTokens}
+use Rattle.walk.specs.Walk.{runRows}
 
 -- ---- behind a token: trailing rows
 

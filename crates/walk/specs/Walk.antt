@@ -30,11 +30,6 @@ unfoldable pub runRows : ℕ → List Row → ℕ
 runRows what [] = zero
 runRows what (r ∷ rs) = cond (eqb (r .what) what) (suc (runRows what rs)) zero
 
--- no row is a trivia row
-unfoldable pub onlyTokens : List Row → Bool
-onlyTokens [] = true
-onlyTokens (r ∷ rs) = eqb (r .what) TokenRow && onlyTokens rs
-
 -- from `ends` on the rows have no Comma, and no `}`; the tokens of no part are wider together, where they were measured
 pub record Ending (rows : List ℕ) (ends : Ends) : Type 0 where
   pub commas : (j : ℕ) → ends .commas ≤ 16 * j → lacks Comma (rowsOf (drop (16 * j) rows)) ≡ true

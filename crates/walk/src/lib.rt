@@ -1,4 +1,8 @@
 // The walk over checked rows: `push_token` for each token, and how it ends.
+use crate::steady::behind_stretch;
+use crate::steady::is_steady;
+use crate::steady::rows_between;
+use crate::steady::stretch_from;
 use crate::token::push_token;
 use format::formatter::Ends;
 use format::formatter::Formatter;
@@ -18,8 +22,10 @@ ghost use Rattle.rows.specs.Token.{Token};
 ghost use Rattle.push_token.specs.PushToken.{turn};
 ghost use Rattle.format.specs.Pen.{Roomy, StackRoom, Stands, on};
 ghost use Rattle.format.specs.Does.{Does};
-ghost use Rattle.walk.specs.Walk.{Fresh, runRows, onlyTokens, Ending, TokenAtRow, TokenRows, Trivial, Walks, Laid};
+ghost use Rattle.stretch.specs.Stretch.{onlyTokens};
+ghost use Rattle.walk.specs.Walk.{Fresh, runRows, Ending, TokenAtRow, TokenRows, Trivial, Walks, Laid};
 
+mod steady;
 mod token;
 
 // The list width from which on all tokens are measured together; below it a list's measure ends within so many tokens.
@@ -68,6 +74,12 @@ pub fn walk(
         }
         at = next;
         index += 1;
+        if is_steady(f, bare) {
+            let ahead = stretch_from(f, out, stack, rows, text, at);
+            f = behind_stretch(f, ahead, at);
+            index += rows_between(at, ahead.at);
+            at = ahead.at;
+        }
     }
     let len = f.len;
     let commas = f.commas;

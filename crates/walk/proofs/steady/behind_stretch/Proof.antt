@@ -1,0 +1,26 @@
+-- `walk::steady::behind_stretch` meets its contract. Assumes nothing.
+use mathlib.Core.Path.{refl}
+use borrow.Author.Tests.{lt-ltb, le-ltb}
+use Rattle.walk.proofs.steady.behind_stretch.Statement.{statement}
+use Rattle.walk.proofs.steady.behind_stretch.Tie as tie
+
+returns : tie.Need-returns
+returns c =
+    record {
+      form = λ s. rw (lt-ltb _ _ (c .if1 .taken));
+      len = refl;
+      deep = refl;
+      held = record { options = refl; indent = refl; group = refl; inline = refl; records = refl; signature = refl; commas = refl; count = refl };
+    }
+
+returns-2 : tie.Need-returns-2
+returns-2 c =
+    record {
+      form = λ s. rw (le-ltb _ _ (c .if1 .left));
+      len = refl;
+      deep = refl;
+      held = record { options = refl; indent = refl; group = refl; inline = refl; records = refl; signature = refl; commas = refl; count = refl };
+    }
+
+pub behind-stretch-spec : {M : Type 1} → statement M
+behind-stretch-spec = tie.close (tie.spec returns returns-2)
