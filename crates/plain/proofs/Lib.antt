@@ -1,5 +1,6 @@
 pub mod Bytes
 pub mod Runs
+pub mod Eight
 pub mod Fixed
 pub mod Tests
 pub mod Rows

@@ -1,15 +1,15 @@
 -- Runs of bytes of one set: counted off by the loops, and read as one piece. Assumes nothing.
-use mathlib.Core.Bool.{Bool, true, false, _&&_}
+use mathlib.Core.Bool.{Bool, true, false, _&&_, and-assoc, and-false}
 use mathlib.Core.List.{List, [], _∷_}
 use mathlib.Core.Path.{_≡_, refl, sym, _∙_}
-use Prim.Native.Nat.{ℕ, suc, _+_, _≤_, _<_}
-use native.Mathlib.Nat.{add-zero, add-suc, suc-add}
+use Prim.Native.Nat.{ℕ, zero, suc, _+_, _-_, _≤_, _<_, min}
+use native.Mathlib.Nat.{add-zero, add-suc, suc-add, min-eq-left, min-eq-right}
 use native.Mathlib.Numerals.{add-one}
 use native.Mathlib.Omega.{arith}
-use lib.Dec.{eqb}
-use lib.ListN.{length, getD, drop, drop-of-length-le}
-use lib.Seq.{drop-cons}
-use borrow.Author.Tests.{eq-eqb}
+use lib.Dec.{eqb, leb}
+use lib.ListN.{length, getD, take, drop, drop-of-length-le}
+use lib.Seq.{drop-cons, drop-drop}
+use borrow.Author.Tests.{eq-eqb, leb-true, leb-false}
 use Rattle.report.proofs.Logic.{split, impossible′, and-left, and-right}
 use Rattle.report.proofs.Below.{agree-below}
 use Rattle.pieces.specs.declared.bytes.Class.{Class}
@@ -49,6 +49,40 @@ module _ (f : ℕ → Bool) (w : List ℕ) (i : ℕ) (e : runOf f w ≡ all f (d
 pub run-some : (f : ℕ → Bool) (w : List ℕ) → runOf f w ≡ true → length w ≡ 0 → ⊥
 run-some f [] e h = impossible′ e
 run-some f (b ∷ w) e h = omega arith
+
+-- ---- eight at a time, the last eight at the end
+
+all-parts : (f : ℕ → Bool) (n : ℕ) (w : List ℕ) → all f w ≡ all f (take n w) && all f (drop n w)
+all-parts f zero w = refl
+all-parts f (suc n) [] = refl
+all-parts f (suc n) (b ∷ w) = rw (all-parts f n w) (sym (and-assoc (f b) (all f (take n w)) (all f (drop n w))))
+
+module _ (f : ℕ → Bool) (w : List ℕ) (h : 8 ≤ length w) where
+  abbrev last : ℕ
+  last = length w - 8
+
+  pub eights-stop : (at : ℕ) → all f (take 8 (drop at w)) ≡ false → false ≡ runOf f w
+  eights-stop at t =
+      sym (run-start f w (λ z. omega arith) ∙ all-parts f at w ∙ rw (all-parts f 8 (drop at w), t) (and-false (all f (take at w))))
+
+  module _ (i : ℕ) {at : ℕ} (here : at ≡ min i last) (t : all f (take 8 (drop at w)) ≡ true) where
+    eights-on : i ≤ last → all f (drop i w) ≡ all f (drop (i + 8) w)
+    eights-on g =
+        let t′ : all f (take 8 (drop i w)) ≡ true = rw (here, min-eq-left g) at t in
+        all-parts f 8 (drop i w) ∙ rw (t′, drop-drop)
+
+    eights-over : last ≤ i → all f (drop i w) ≡ all f (drop (i + 8) w)
+    eights-over g =
+        let t′ : all f (take 8 (drop last w)) ≡ true = rw (here, min-eq-right g) at t in
+        let past : length w ≤ last + 8 = omega arith in
+        let whole : all f (drop last w) ≡ true = all-parts f 8 (drop last w) ∙ rw (t′, drop-drop, drop-of-length-le w past) in
+        let e : last + (i - last) ≡ i = omega arith in
+        let out : length w ≤ i + 8 = omega arith in
+        let tail = and-right (all f (take (i - last) (drop last w))) (all f (drop (i - last) (drop last w))) (sym (all-parts f (i - last) (drop last w)) ∙ whole) in
+        rw (drop-of-length-le w out) (rw (drop-drop, e) at tail)
+
+    pub eights-more : runOf f w ≡ all f (drop i w) → runOf f w ≡ all f (drop (i + 8) w)
+    eights-more e = e ∙ split (leb i last) (λ q. eights-on (leb-true i last q)) (λ q. eights-over (omega (arith, leb-false i last q)))
 
 -- ---- read
 

@@ -1,13 +1,14 @@
 // A lexeme by itself: clauses 2 and 3, and its bytes.
+use crate::words::is_words;
 use pieces::Next;
 use pieces::next_piece;
 use rows::kinds;
 ghost use mathlib.Core.Bool.{_&&_};
 ghost use mathlib.Core.List.{[], _∷_};
 ghost use mathlib.Core.Path.{_≡_};
-ghost use Rattle.pieces.specs.Class.{digit, within};
+ghost use Rattle.pieces.specs.Class.{digit};
 ghost use Rattle.push_token.specs.Plain.{sameBytes, operatorByte, hasItsLexeme, readsWhole, beginsOperator};
-ghost use Rattle.plain.specs.Scan.{bracketOf, isName, isWordByte, runOf};
+ghost use Rattle.plain.specs.Scan.{bracketOf, isName, runOf};
 
 // Whether the kind has no fixed lexeme and the lexeme is a run of word bytes, which reads as one piece.
 pub fn is_name(kind: u32, lexeme: &[u8]) -> bool
@@ -101,55 +102,6 @@ pub fn is_operator(b: u8) -> bool
         return (OPERATOR_HIGH >> j) % 2 == 1;
     }
     false
-}
-
-// The word bytes, in the same way.
-const WORD_LOW: u64 = 0x03ff_0000_0000_0000;
-
-const WORD_HIGH: u64 = 0x07ff_fffe_87ff_fffe;
-
-// Most are small letters: these are asked for first.
-fn is_word(b: u8) -> bool
-    ensures { λ r. ⌜ r ≡ isWordByte b ⌝ }
-{
-    if is_small(b) {
-        return true;
-    }
-    let k = b as u32;
-    if k < 64 {
-        return (WORD_LOW >> k) % 2 == 1;
-    }
-    if k < 128 {
-        let j = k - 64;
-        return (WORD_HIGH >> j) % 2 == 1;
-    }
-    true
-}
-
-fn is_small(b: u8) -> bool
-    ensures { λ r. ⌜ r ≡ within 97 122 b ⌝ }
-{
-    if 97 <= b {
-        return b <= 122;
-    }
-    false
-}
-
-// Whether there are bytes, and all are word bytes.
-fn is_words(lexeme: &[u8]) -> bool
-    ensures { λ r. ⌜ r ≡ runOf isWordByte (now (lexeme .entry)) ⌝ }
-{
-    if lexeme.len() == 0 {
-        return false;
-    }
-    let mut i = 0;
-    while i < lexeme.len() {
-        if !is_word(lexeme[i]) {
-            return false;
-        }
-        i += 1;
-    }
-    true
 }
 
 // Whether there are bytes, and all are operator bytes.

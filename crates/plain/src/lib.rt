@@ -14,6 +14,7 @@ ghost use Rattle.push_token.specs.Plain.{plain};
 
 mod lexeme;
 mod seen;
+mod words;
 
 // Whether the tokens that the rows name in the text are plain. The rows are those that `rows::check` calls good.
 pub fn plain_mark(rows: &[u8], text: &[u8]) -> bool

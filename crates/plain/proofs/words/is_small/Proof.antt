@@ -1,7 +1,7 @@
--- `plain::lexeme::is_small` meets its contract. Assumes nothing.
+-- `plain::words::is_small` meets its contract. Assumes nothing.
 use borrow.Author.Tests.{le-leb, lt-leb}
-use Rattle.plain.proofs.lexeme.is_small.Statement.{statement}
-use Rattle.plain.proofs.lexeme.is_small.Tie as tie
+use Rattle.plain.proofs.words.is_small.Statement.{statement}
+use Rattle.plain.proofs.words.is_small.Tie as tie
 
 returns : tie.Need-returns
 returns c = rw (le-leb _ _ (c .if1 .taken))

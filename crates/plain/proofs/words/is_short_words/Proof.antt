@@ -1,4 +1,4 @@
--- `plain::lexeme::is_words` meets its contract. Assumes nothing.
+-- `plain::words::is_short_words` meets its contract. Assumes nothing.
 use mathlib.Core.Path.{_≡_, sym, _∙_}
 use Prim.Native.Nat.{_-_}
 use lib.ListN.{length, drop}
@@ -6,8 +6,8 @@ use borrow.Author.Needs.{needs}
 use borrow.Author.Tests.{not-true, not-false}
 use Rattle.plain.specs.Scan.{isWordByte, all, runOf}
 use Rattle.plain.proofs.Runs.{run-empty, run-start, run-more, run-stop, run-out}
-use Rattle.plain.proofs.lexeme.is_words.Statement.{statement}
-use Rattle.plain.proofs.lexeme.is_words.Tie as tie
+use Rattle.plain.proofs.words.is_short_words.Statement.{statement}
+use Rattle.plain.proofs.words.is_short_words.Tie as tie
 
 abbrev Inv-loop : tie.InvT-loop
 Inv-loop lexeme i₀ i = runOf isWordByte lexeme ≡ all isWordByte (drop i lexeme)
@@ -42,8 +42,8 @@ loop-again c = run-more isWordByte (c .before .before .before .before .before .b
 returns-3 : tie.Need-returns-3 Inv-loop μ-loop
 returns-3 c = run-out isWordByte (c .before .before .before .before .args .lexeme .now) (c .before .loop .i) (c .before .loop .inv) (search needs)
 
-pub is-words-spec : {M : Type 1} → statement M
-is-words-spec =
+pub is-short-words-spec : {M : Type 1} → statement M
+is-short-words-spec =
     tie.close
     (tie.spec
     Inv-loop

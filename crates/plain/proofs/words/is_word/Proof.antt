@@ -1,11 +1,11 @@
--- `plain::lexeme::is_word` meets its contract. Assumes nothing.
+-- `plain::words::is_word` meets its contract. Assumes nothing.
 use mathlib.Core.Path.{sym, _∙_}
 use borrow.Author.Needs.{needs}
 use borrow.Author.Tests.{lt-ltb, le-ltb}
 use Rattle.pieces.proofs.Sets.{words}
 use Rattle.plain.proofs.Runs.{small-word}
-use Rattle.plain.proofs.lexeme.is_word.Statement.{statement}
-use Rattle.plain.proofs.lexeme.is_word.Tie as tie
+use Rattle.plain.proofs.words.is_word.Statement.{statement}
+use Rattle.plain.proofs.words.is_word.Tie as tie
 
 is-small-requires : tie.Need-is-small-requires
 is-small-requires c κs = search needs

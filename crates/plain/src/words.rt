@@ -1,0 +1,133 @@
+// Runs of word bytes.
+use rows::number_at;
+ghost use mathlib.Core.Path.{_≡_};
+ghost use Prim.Native.Nat.{_+_, _≤_, _<_, min};
+ghost use lib.ListN.{length, take, drop};
+ghost use Rattle.pieces.specs.Class.{within};
+ghost use Rattle.plain.specs.Scan.{isWordByte, all, runOf};
+ghost use Rattle.plain.specs.Eight.{joined, eightOnes, bytesWithin};
+
+// Whether there are bytes, and all are word bytes. Eight are tested at a time: the last eight of all, where fewer are left.
+pub fn is_words(lexeme: &[u8]) -> bool
+    ensures { λ r. ⌜ r ≡ runOf isWordByte (now (lexeme .entry)) ⌝ }
+{
+    let size = lexeme.len();
+    if size < 8 {
+        return is_short_words(lexeme);
+    }
+    let last = size - 8;
+    let mut i = 0;
+    while i < size {
+        if !eight_words(lexeme, smaller(i, last)) {
+            return false;
+        }
+        i += 8;
+    }
+    true
+}
+
+// The same, byte by byte: quicker below eight.
+fn is_short_words(lexeme: &[u8]) -> bool
+    ensures { λ r. ⌜ r ≡ runOf isWordByte (now (lexeme .entry)) ⌝ }
+{
+    if lexeme.len() == 0 {
+        return false;
+    }
+    let mut i = 0;
+    while i < lexeme.len() {
+        if !is_word(lexeme[i]) {
+            return false;
+        }
+        i += 1;
+    }
+    true
+}
+
+fn smaller(a: usize, b: usize) -> usize
+    ensures { λ r. ⌜ r ≡ min a b ⌝ }
+{
+    if a < b {
+        return a;
+    }
+    b
+}
+
+// ---- eight bytes in one number
+
+// In each byte: the high bit, the bits below it, 1.
+const HIGH: u64 = 0x8080_8080_8080_8080;
+
+const LOW: u64 = 0x7f7f_7f7f_7f7f_7f7f;
+
+const ONES: u64 = 0x0101_0101_0101_0101;
+
+// Whether the eight bytes from `at` on are word bytes. The answer for each stands in its high bit; a byte with that bit set is one.
+fn eight_words(s: &[u8], at: usize) -> bool
+    requires { ⌜ at + 8 ≤ length (now s) ⌝ }
+    ensures { λ r. ⌜ r ≡ all isWordByte (take 8 (drop at (now (s .entry)))) ⌝ }
+{
+    let x = eight_bytes(s, at);
+    let low = x & LOW;
+    let word = bytes_within(low, b'0', b'9')
+        ^ bytes_within(low, b'A', b'Z')
+        ^ bytes_within(low, b'_', b'_')
+        ^ bytes_within(low, b'a', b'z');
+    (word | x) & HIGH == HIGH
+}
+
+// In each byte's high bit, whether the byte is one of `first` to `last`: whether it reaches the one and not what is behind the other.
+// All are below 128, so that no sum carries into the next byte.
+fn bytes_within(low: u64, first: u8, last: u8) -> u64
+    requires { ⌜ (low ≤ 0x7f7f_7f7f_7f7f_7f7f) × (first ≤ 128) × (last ≤ 127) ⌝ }
+    ensures { λ r. ⌜ r ≡ bytesWithin eightOnes low first last ⌝ }
+{
+    (low + (128 - first as u64) * ONES) ^ (low + (127 - last as u64) * ONES)
+}
+
+// The eight bytes from `at` on, little-endian; the sum compiles to one load.
+fn eight_bytes(s: &[u8], at: usize) -> u64
+    requires { ⌜ at + 8 ≤ length (now s) ⌝ }
+    ensures { λ r. ⌜ r ≡ joined (λ b. b) (take 8 (drop at (now (s .entry)))) ⌝ }
+{
+    wide(number_at(s, at)) + wide(number_at(s, at + 4)) * 0x1_0000_0000
+}
+
+fn wide(x: u32) -> u64
+    ensures { λ r. ⌜ (r ≡ x) × (r < 4294967296) ⌝ }
+{
+    x as u64
+}
+
+// ---- one byte
+
+// The word bytes below 64, and those of 64–127, as bits.
+const WORD_LOW: u64 = 0x03ff_0000_0000_0000;
+
+const WORD_HIGH: u64 = 0x07ff_fffe_87ff_fffe;
+
+// Most are small letters: these are asked for first.
+fn is_word(b: u8) -> bool
+    ensures { λ r. ⌜ r ≡ isWordByte b ⌝ }
+{
+    if is_small(b) {
+        return true;
+    }
+    let k = b as u32;
+    if k < 64 {
+        return (WORD_LOW >> k) % 2 == 1;
+    }
+    if k < 128 {
+        let j = k - 64;
+        return (WORD_HIGH >> j) % 2 == 1;
+    }
+    true
+}
+
+fn is_small(b: u8) -> bool
+    ensures { λ r. ⌜ r ≡ within 97 122 b ⌝ }
+{
+    if 97 <= b {
+        return b <= 122;
+    }
+    false
+}
