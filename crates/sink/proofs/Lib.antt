@@ -1,4 +1,5 @@
 pub mod Sink
+pub mod Over
 pub mod Marks
 pub mod Feeds
 pub mod Next

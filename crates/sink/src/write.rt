@@ -1,9 +1,11 @@
 // Writers into the lent output, on plain numbers: each takes the length so far and answers the length behind it, which
 // is one past the output's end once something does not fit. Nothing is written then.
+use crate::copy::copy;
+use crate::copy::copy_bytes;
 ghost use mathlib.Core.List.{[], _∷_, _++_};
 ghost use mathlib.Core.Bool.{cond};
 ghost use mathlib.Core.Path.{_≡_};
-ghost use Prim.Native.Nat.{_≤_, _<_};
+ghost use Prim.Native.Nat.{_+_, _-_, _≤_, _<_};
 ghost use lib.ListN.{length, replicate};
 ghost use lib.Seq.{slice};
 ghost use Rattle.sink.specs.Sink.{Writes};
@@ -57,6 +59,34 @@ pub fn emit_token_text(
     write_part(out, gapped, text, start, end)
 }
 
+// A space or none, and the bytes of `text` from `start` to `end`, of which there is one at least; all of it fits.
+pub fn put_token(
+    out: &mut [u8],
+    len: usize,
+    space: usize,
+    text: &[u8],
+    start: usize,
+    end: usize,
+) -> usize
+    requires { ⌜ (start < end) × (end ≤ length (now text)) ⌝ }
+    requires { ⌜ space ≤ 1 ⌝ }
+    requires { ⌜ len + (space + (end - start)) ≤ length (now out) ⌝ }
+    ensures { λ r. ⌜ Writes (now (out .entry)) len (replicate space 32 ++ slice start end (now (text .entry))) (now (out .exit)) r ⌝ }
+{
+    // Where no space is wanted, the lexeme goes over it.
+    out[len] = b' ';
+    let at = len + space;
+    let size = end - start;
+    let next = at + size;
+    // A token of one byte needs no loop.
+    out[at] = text[start];
+    if 1 < size {
+        copy(out, at, text, start, size);
+        return next;
+    }
+    next
+}
+
 fn write_gap(out: &mut [u8], len: usize, spaces: usize) -> usize
     ensures { λ r. ⌜ Writes (now (out .entry)) len (replicate spaces 32) (now (out .exit)) r ⌝ }
 {
@@ -78,11 +108,7 @@ pub fn write_part(out: &mut [u8], len: usize, text: &[u8], start: usize, end: us
     let n = end - start;
     if len <= size {
         if n <= size - len {
-            for i in 0..n {
-                let to = len + i;
-                let from = start + i;
-                out[to] = text[from];
-            }
+            copy_bytes(out, len, text, start, n);
             let next = len + n;
             return next;
         }

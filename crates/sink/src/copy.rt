@@ -1,0 +1,74 @@
+// A part of the text copied into the lent output, where it is known to fit.
+ghost use Prim.Native.Nat.{_+_, _≤_};
+ghost use lib.ListN.{length};
+ghost use lib.Seq.{slice};
+ghost use Rattle.sink.specs.Sink.{Writes};
+
+// How many bytes are copied at a time.
+const EIGHT: usize = 8;
+
+// Copies `size` bytes of `text` from `from` on to `out` from `to` on, eight at a time where there are eight.
+pub fn copy(out: &mut [u8], to: usize, text: &[u8], from: usize, size: usize)
+    requires { ⌜ from + size ≤ length (now text) ⌝ }
+    requires { ⌜ to + size ≤ length (now out) ⌝ }
+    ensures { λ r. ⌜ Writes (now (out .entry)) to (slice from (from + size) (now (text .entry))) (now (out .exit)) (to + size) ⌝ }
+{
+    if size < EIGHT {
+        copy_bytes(out, to, text, from, size);
+        return;
+    }
+    copy_eights(out, to, text, from, size);
+}
+
+// The same byte by byte. `write_part` takes it: with the eights there, the whole layout counted more instructions.
+pub fn copy_bytes(out: &mut [u8], to: usize, text: &[u8], from: usize, size: usize)
+    requires { ⌜ from + size ≤ length (now text) ⌝ }
+    requires { ⌜ to + size ≤ length (now out) ⌝ }
+    ensures { λ r. ⌜ Writes (now (out .entry)) to (slice from (from + size) (now (text .entry))) (now (out .exit)) (to + size) ⌝ }
+{
+    for i in 0..size {
+        let at = to + i;
+        let source = from + i;
+        out[at] = text[source];
+    }
+}
+
+// Eight bytes at a time. The last eight may go over bytes that are copied already.
+fn copy_eights(out: &mut [u8], to: usize, text: &[u8], from: usize, size: usize)
+    requires { ⌜ 8 ≤ size ⌝ }
+    requires { ⌜ from + size ≤ length (now text) ⌝ }
+    requires { ⌜ to + size ≤ length (now out) ⌝ }
+    ensures { λ r. ⌜ Writes (now (out .entry)) to (slice from (from + size) (now (text .entry))) (now (out .exit)) (to + size) ⌝ }
+{
+    let last = size - EIGHT;
+    let mut i = 0;
+    while i < last {
+        copy_eight(out, to + i, text, from + i);
+        i += EIGHT;
+    }
+    copy_eight(out, to + last, text, from + last);
+}
+
+// All eight are loaded before one is stored: the compiler makes one load and one store of it.
+fn copy_eight(out: &mut [u8], to: usize, text: &[u8], from: usize)
+    requires { ⌜ from + 8 ≤ length (now text) ⌝ }
+    requires { ⌜ to + 8 ≤ length (now out) ⌝ }
+    ensures { λ r. ⌜ Writes (now (out .entry)) to (slice from (from + 8) (now (text .entry))) (now (out .exit)) (to + 8) ⌝ }
+{
+    let b0 = text[from];
+    let b1 = text[from + 1];
+    let b2 = text[from + 2];
+    let b3 = text[from + 3];
+    let b4 = text[from + 4];
+    let b5 = text[from + 5];
+    let b6 = text[from + 6];
+    let b7 = text[from + 7];
+    out[to] = b0;
+    out[to + 1] = b1;
+    out[to + 2] = b2;
+    out[to + 3] = b3;
+    out[to + 4] = b4;
+    out[to + 5] = b5;
+    out[to + 6] = b6;
+    out[to + 7] = b7;
+}
