@@ -3,7 +3,7 @@ use rows::ROW_BYTES;
 use rows::kinds;
 use rows::row_at;
 use sink::numbers::spaces_between;
-use sink::write::emit_token_text;
+use sink::write::put_token;
 ghost use mathlib.Core.Bool.{true};
 ghost use mathlib.Core.Path.{_≡_};
 ghost use Prim.Native.Nat.{_+_, _-_, _≤_, _<_};
@@ -51,7 +51,7 @@ pub fn lay_stretch(
         if !has_room(out.len() - len, space, start, end) {
             return Stretch { at, len, prev };
         }
-        len = emit_token_text(out, len, space, text, start, end);
+        len = put_token(out, len, space, text, start, end);
         prev = kind;
         at += ROW_BYTES;
     }

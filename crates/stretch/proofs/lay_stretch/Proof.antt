@@ -56,8 +56,8 @@ same-length-2 c = c .before .before .before .before .before .before .before .bef
 returns-2 : tie.Need-returns-2 Inv-loop μ-loop
 returns-2 c = c .before .before .before .before .before .before .before .before .before .loop .inv .done
 
-emit-token-text-requires : tie.Need-emit-token-text-requires Inv-loop μ-loop
-emit-token-text-requires c κs = let i = inside-row (c .before .before .before .before .before .before .before .before .before .before .loop .inv) (c .before .before .before .before .before .before .before .before .before .loop-test .taken) _ (c .before .before .before .before .before .before .before .before .row-at .ensures) in (i .ordered, i .within)
+put-token-requires : tie.Need-put-token-requires Inv-loop μ-loop
+put-token-requires c κs = let i = inside-row (c .before .before .before .before .before .before .before .before .before .before .loop .inv) (c .before .before .before .before .before .before .before .before .before .loop-test .taken) _ (c .before .before .before .before .before .before .before .before .row-at .ensures) in let f = c .before .before .has-room .ensures (not-false _ (c .before .if2 .left)) in let r = c .before .before .before .before .before .before .before .before .before .before .loop .inv .done .room in let s = few (spaceAfter (some (c .before .before .before .before .before .before .before .before .before .before .loop .prev)) (c .before .before .before .before .before .before .before .before .before .before .before .before .before .before .args .unary) (c .before .before .before .before .before .before .before .before .row-at .result .kind)) (c .before .before .before .before .before .spaces-between .ensures) in let g = f .1 in ((f .0, i .within), (omega arith, omega arith))
 
 add-at : tie.Need-add-at Inv-loop μ-loop
 add-at c = record { fits = let w = c .before .before .before .before .before .before .before .before .before .before .before .before .before .loop .inv .done .within in let t = c .before .before .before .before .before .before .before .before .before .before .before .before .loop-test .taken in omega arith }
@@ -66,7 +66,7 @@ loop-less : tie.Need-loop-less Inv-loop μ-loop
 loop-less c = let w = c .before .before .before .before .before .before .before .before .before .before .before .before .before .loop .inv .done .within in let t = c .before .before .before .before .before .before .before .before .before .before .before .before .loop-test .taken in omega arith
 
 loop-again : tie.Need-loop-again Inv-loop μ-loop
-loop-again c = again (c .before .before .before .before .before .before .before .before .before .before .before .before .before .loop .inv) (c .before .before .before .before .before .before .before .before .before .before .before .before .loop-test .taken) _ (c .before .before .before .before .before .before .before .before .before .before .before .row-at .ensures) (sym (c .before .before .before .before .before .before .before .before .before .before .is-steady .ensures) ∙ not-false _ (c .before .before .before .before .before .before .before .before .before .if1 .left)) (c .before .before .before .before .before .before .before .before .spaces-between .ensures) (c .before .before .before .before .before .has-room .ensures (not-false _ (c .before .before .before .before .if2 .left)) .1) (c .before .before .emit-token-text .ensures)
+loop-again c = again (c .before .before .before .before .before .before .before .before .before .before .before .before .before .loop .inv) (c .before .before .before .before .before .before .before .before .before .before .before .before .loop-test .taken) _ (c .before .before .before .before .before .before .before .before .before .before .before .row-at .ensures) (sym (c .before .before .before .before .before .before .before .before .before .before .is-steady .ensures) ∙ not-false _ (c .before .before .before .before .before .before .before .before .before .if1 .left)) (c .before .before .before .before .before .before .before .before .spaces-between .ensures) (c .before .before .before .before .before .has-room .ensures (not-false _ (c .before .before .before .before .if2 .left)) .1) (c .before .before .put-token .ensures)
 
 same-length-3 : tie.Need-same-length-3 Inv-loop μ-loop
 same-length-3 c = c .before .loop .inv .done .size
@@ -93,7 +93,7 @@ lay-stretch-spec =
     has-room-requires
     same-length-2
     returns-2
-    emit-token-text-requires
+    put-token-requires
     add-at
     loop-less
     loop-again
