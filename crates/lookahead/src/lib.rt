@@ -2,7 +2,7 @@
 use crate::measure::Measure;
 use crate::measure::Span;
 use crate::measure::depth_after;
-use crate::measure::ends_group;
+use crate::measure::is_last;
 use crate::measure::is_top_comma;
 use crate::measure::size_of;
 use rows::ROW_BYTES;
@@ -13,6 +13,7 @@ ghost use mathlib.Core.Bool.{true};
 ghost use mathlib.Core.List.{List};
 ghost use mathlib.Core.Path.{_≡_};
 ghost use Prim.Native.Nat.{ℕ, _*_, _^_, _≤_, _<_};
+ghost use lib.Dec.{ltb};
 ghost use lib.ListN.{length, drop};
 ghost use Rattle.rows.specs.Row.{rowsOf};
 ghost use Rattle.rows.specs.Token.{tokensOf};
@@ -21,7 +22,7 @@ ghost use Rattle.rows.specs.Answer.{rowOf};
 ghost use Rattle.lookahead.specs.Space.{needsSpace, isValueKind};
 ghost use Rattle.lookahead.specs.Answer.{reported, spaceReport};
 ghost use Rattle.lookahead.specs.Measure.{start, params, sigMeasure, groupMeasure, shouldBreakSig, shouldBreakList, blockIsSingleLine, nextHasComment};
-ghost use Rattle.lookahead.specs.Scan.{lacks, widthRows, isComment, isTrivia, trails, endsLine, closesBlock, opensParenRows, groupOf, measureRows, measureOf, isMark, commaAhead, breaksAt};
+ghost use Rattle.lookahead.specs.Scan.{lacks, widthRows, isComment, isTrivia, trails, endsLine, opensParenRows, groupOf, measureRows, measureOf, tokenKind, GroupKinds, commaAhead, breaksAt};
 
 mod measure;
 mod sets;
@@ -161,14 +162,20 @@ pub fn block_is_single_line(rows: &[u8]) -> bool
                 return false;
             }
             behind = false;
+        } else if row.kind == kinds::LEFT_BRACE {
+            depth += 1;
+            if too_deep(rows, at, depth) {
+                return false;
+            }
+            behind = true;
         } else if row.kind <= kinds::RIGHT_BRACE {
             if ends_line(row.kind) {
                 return false;
             }
-            if closes_block(row.kind, depth) {
+            if depth <= 1 {
                 return !trails(rows, at);
             }
-            depth = depth_after(kinds::LEFT_BRACE, kinds::RIGHT_BRACE, row.kind, depth);
+            depth -= 1;
             behind = true;
         } else {
             behind = true;
@@ -299,7 +306,8 @@ fn until_wide(rows: &[u8], span: Span, limit: usize) -> Reached
 }
 
 // Whether a comma stands at the top of a group, from an index on, before the group closes. `own` and `other` are
-// the depths there: of the group's own kinds, and of the others.
+// the depths there: of the group's own kinds, and of the others. Its own kinds are tested first: a hostile list
+// nests them.
 fn comma_ahead(
     rows: &[u8],
     from: usize,
@@ -310,37 +318,58 @@ fn comma_ahead(
     other_opener: u32,
     other_closer: u32,
 ) -> bool
-    requires { ⌜ (own ≤ from) × (other ≤ from) × (from ≤ length (now rows)) ⌝ }
+    requires depths { ⌜ (own ≤ from) × (other ≤ from) × (from ≤ length (now rows)) ⌝ }
+    requires kinds { ⌜ GroupKinds opener closer «other_opener» «other_closer» ⌝ }
     ensures { λ r. ⌜ r ≡ commaAhead opener closer «other_opener» «other_closer» own other (rowsOf (drop from (now (rows .entry)))) ⌝ }
 {
     let mut own = own;
     let mut other = other;
     let mut at = from;
     while ROW_BYTES <= rows.len() - at {
-        let row = row_at(rows, at);
+        let kind = token_kind(row_at(rows, at));
         at += ROW_BYTES;
-        if is_mark(row) {
-            if ends_group(closer, row.kind, own, other) {
+        if kind == opener {
+            own += 1;
+            if too_deep(rows, at, own + other) { // all but one close, then the comma
                 return false;
             }
-            if is_top_comma(row.kind, own, other) {
+        } else if kind == closer {
+            if is_last(own, other) {
+                return false;
+            }
+            own = depth_after(opener, closer, kind, own);
+        } else if kind <= kinds::COMMA {
+            if kind == kinds::EOF {
+                return false;
+            }
+            if is_top_comma(kind, own, other) {
                 return true;
             }
-            own = depth_after(opener, closer, row.kind, own);
-            other = depth_after(other_opener, other_closer, row.kind, other);
+            other = depth_after(other_opener, other_closer, kind, other);
+            if too_deep(rows, at, own + other) {
+                return false;
+            }
         }
     }
     false
 }
 
-// Whether a row is a token of a kind that can change a depth, count or end a measure: those up to Comma.
-fn is_mark(row: Row) -> bool
-    ensures { λ r. ⌜ r ≡ isMark (rowOf row) ⌝ }
+// The kind of a token; a row that is no token's counts as a token that matters to no depth.
+fn token_kind(row: Row) -> u32
+    ensures { λ r. ⌜ r ≡ tokenKind (rowOf row) ⌝ }
 {
     if row.what != kinds::TOKEN {
-        return false;
+        return kinds::OTHER;
     }
-    row.kind <= kinds::COMMA
+    row.kind
+}
+
+// Whether fewer rows than `depth` stand from `at` on: too few to close so many.
+fn too_deep(rows: &[u8], at: usize, depth: usize) -> bool
+    requires { ⌜ at ≤ length (now rows) ⌝ }
+    ensures { λ r. ⌜ r ≡ ltb (length (rowsOf (drop at (now (rows .entry))))) depth ⌝ }
+{
+    (rows.len() - at) / ROW_BYTES < depth
 }
 
 // The whole measure.
@@ -420,16 +449,6 @@ fn ends_line(kind: u32) -> bool
         return true;
     }
     kind == kinds::EOF
-}
-
-// Whether a token of this kind closes the last block that is open.
-fn closes_block(kind: u32, depth: usize) -> bool
-    ensures { λ r. ⌜ r ≡ closesBlock kind depth ⌝ }
-{
-    if kind != kinds::RIGHT_BRACE {
-        return false;
-    }
-    depth <= 1
 }
 
 fn is_comment(row: Row) -> bool
