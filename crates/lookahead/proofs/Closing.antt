@@ -10,7 +10,7 @@ use borrow.Author.Tests.{eqb-true, eqb-false, ne-eqb}
 use Rattle.report.proofs.Logic.{split, and-left, and-right}
 use Rattle.rows.specs.Kinds.{Leading, TokenRow, LeftBrace, RightBrace, Comma}
 use Rattle.rows.specs.Row.{Row}
-use Rattle.lookahead.specs.Scan.{depthAfter, isTop, endsGroup, tokenKind, commaAhead, trails, endsLine, closesBlock, singleLineRows}
+use Rattle.lookahead.specs.Scan.{depthAfter, leastRows, isTop, endsGroup, tokenKind, commaAhead, trails, endsLine, closesBlock, singleLineRows}
 
 -- ---- a token closes one at most
 
@@ -34,7 +34,7 @@ depths-least o c o′ c′ k own other n =
 -- ---- the two scans
 
 module _ (o c o′ c′ : ℕ) (apart : c ≡ c′ → ⊥) where
-  pub comma-deep : (rs : List Row) (own other : ℕ) → length rs < own + other → commaAhead o c o′ c′ own other rs ≡ false
+  pub comma-deep : (rs : List Row) (own other : ℕ) → length rs < leastRows (own + other) → commaAhead o c o′ c′ own other rs ≡ false
   unfolding commaAhead
   comma-deep [] own other h = refl
   comma-deep (r ∷ rs) own other h =
@@ -47,7 +47,7 @@ module _ (o c o′ c′ : ℕ) (apart : c ≡ c′ → ⊥) where
       (λ f. rw f (let l = depths-least o c o′ c′ (tokenKind r) own other apart in
       comma-deep rs _ _ (omega (arith, l, h))))))
 
-pub block-deep : (rs : List Row) (depth : ℕ) → length rs < depth → singleLineRows depth rs ≡ false
+pub block-deep : (rs : List Row) (depth : ℕ) → length rs < leastRows depth → singleLineRows depth rs ≡ false
 unfolding singleLineRows
 block-deep [] depth h = refl
 block-deep (r ∷ rs) depth h =

@@ -2,19 +2,19 @@
 use mathlib.Core.Bool.{Bool, true, false, cond, not, _&&_, _||_, or-true, or-false, and-false, and-comm}
 use mathlib.Core.List.{List, [], _∷_}
 use mathlib.Core.Path.{_≡_, refl, sym, ap, _∙_}
-use Prim.Native.Nat.{ℕ, zero, suc, _+_, _-_, _≤_, _<_}
+use Prim.Native.Nat.{ℕ, zero, suc, _+_, _-_, _/_, _≤_, _<_}
 use native.Mathlib.Omega.{arith}
-use lib.Dec.{eqb, ltb}
+use lib.Dec.{eqb}
 use lib.ListN.{length, drop}
-use borrow.Author.Tests.{eqb-true, eq-eqb, ne-eqb, ltb-true}
+use borrow.Author.Tests.{eqb-true, eq-eqb, ne-eqb}
 use Rattle.report.proofs.Logic.{impossible, and-left, and-right, or-cases, or-left, or-right}
 use Rattle.rows.specs.Kinds.{Leading, TokenRow, Trailing, Eof, Newline, LeftBrace, RightBrace, LeftParen, Comma}
 use Rattle.rows.specs.Row.{Row, rowAt, rowsOf}
 use Rattle.rows.specs.Token.{tokensOf}
 use Rattle.lookahead.specs.Measure.{nextHasComment, blockIsSingleLine, anyComment}
-use Rattle.lookahead.specs.Scan.{tokenKind, GroupKinds, isLast, isTop, endsGroup, commaAhead, isComment, commentAhead, depthAfter, isTrivia, trails, endsLine, closesBlock, singleLineRows, opensParenRows}
+use Rattle.lookahead.specs.Scan.{leastRows, tokenKind, GroupKinds, isLast, isTop, endsGroup, commaAhead, isComment, commentAhead, depthAfter, isTrivia, trails, endsLine, closesBlock, singleLineRows, opensParenRows}
 use Rattle.lookahead.proofs.Tokens.{comment-rows, single-rows}
-use Rattle.lookahead.proofs.Rests.{here, over}
+use Rattle.lookahead.proofs.Rests.{here, over, rows-left}
 use Rattle.lookahead.proofs.Closing.{comma-deep, block-deep}
 use Rattle.lookahead.proofs.Steps.{ends-eof, ends-other, ends-closer, ends-above, depth-after-none}
 
@@ -107,12 +107,8 @@ module _ {o c o′ c′ : ℕ} (κ : GroupKinds o c o′ c′) where
           pub top-more : found ≡ false → {d : ℕ} → d ≡ depthAfter o′ c′ k other → Ahead rows answer (commaAhead o c o′ c′ own d) (at + 16)
           top-more w x = top-passed (ends-other c k own other z m) (sym w ∙ g) (sym (depth-after-none o c k own n m)) x
 
-    pub top-unclosed : {deep : Bool} → deep ≡ ltb (length (rowsOf (drop at rows))) (own + other) → deep ≡ true → false ≡ answer
-    top-unclosed e y = sym (α .left ∙ comma-deep o c o′ c′ (κ .closers) (rowsOf (drop at rows)) own other (ltb-true _ _ (sym e ∙ y)))
-
-    pub top-none : length rows - at < 16 → false ≡ answer
-    unfolding commaAhead
-    top-none h = no-row (commaAhead o c o′ c′ own other) α refl h
+    pub top-over : {left : ℕ} → left ≡ (length rows - at) / 16 → left < leastRows (own + other) → false ≡ answer
+    top-over l h = sym (α .left ∙ comma-deep o c o′ c′ (κ .closers) (rowsOf (drop at rows)) own other (omega (arith, rows-left rows at l)))
 
 -- ---- `next_has_comment`
 
@@ -214,16 +210,12 @@ module _ {rows : List ℕ} {answer : Bool} {at : ℕ} (behind : Bool) (depth : �
           pub block-less : 1 < depth → Ahead rows answer (restOfBlock true (depth - 1)) (at + 16)
           block-less d = behind-token (sym f ∙ z) (rw (ne-eqb (depth - 1) 0 (λ q. omega arith), and-false)) (rw closing)
 
-  pub block-unclosed : {deep : Bool} → deep ≡ ltb (length (rowsOf (drop at rows))) depth → deep ≡ true → false ≡ answer
-  block-unclosed e y = sym (α .left ∙ rw (block-deep (rowsOf (drop at rows)) depth (ltb-true _ _ (sym e ∙ y))) (go (behind && trails (rowsOf (drop at rows)))))
+  pub block-over : {left : ℕ} → left ≡ (length rows - at) / 16 → left < leastRows depth → false ≡ answer
+  block-over l h = sym (α .left ∙ rw (block-deep (rowsOf (drop at rows)) depth (omega (arith, rows-left rows at l))) (go (behind && trails (rowsOf (drop at rows)))))
     where
       go : (b : Bool) → cond b false false ≡ false
       go true = refl
       go false = refl
-
-  pub block-none : length rows - at < 16 → false ≡ answer
-  unfolding singleLineRows
-  block-none h = no-row (restOfBlock behind depth) α (rw (and-false behind)) h
 
 pub block-said : (rows text : List ℕ) {x : Bool} → x ≡ singleLineRows 0 (rowsOf rows) → x ≡ blockIsSingleLine (tokensOf rows text)
 unfolding tokensOf

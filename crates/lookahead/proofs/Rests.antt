@@ -14,5 +14,6 @@ module _ (rows : List ℕ) (at : ℕ) (within : at ≤ length rows) where
   pub over : length rows - at < 16 → rowsOf (drop at rows) ≡ []
   over h = part-none rows at (omega arith)
 
-pub rows-left : (rows : List ℕ) (at : ℕ) → (length rows - at) / 16 ≡ length (rowsOf (drop at rows))
-rows-left rows at = sym (rows-length (drop at rows) ∙ ap (λ n. n / 16) (length-drop at rows))
+-- how many they are, as the code counts them
+pub rows-left : (rows : List ℕ) (at : ℕ) {left : ℕ} → left ≡ (length rows - at) / 16 → length (rowsOf (drop at rows)) ≡ left
+rows-left rows at l = rows-length (drop at rows) ∙ ap (λ n. n / 16) (length-drop at rows) ∙ sym l

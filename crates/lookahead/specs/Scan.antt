@@ -42,6 +42,10 @@ commentAhead seen (r ∷ rs) = cond (eqb (r .what) TokenRow) seen (commentAhead 
 abbrev pub depthAfter : ℕ → ℕ → ℕ → ℕ → ℕ
 depthAfter opener closer k depth = cond (eqb k opener) (depth + 1) (cond (eqb k closer) (depth - 1) depth)
 
+-- the rows that a scan needs at least: one for each level that is open, and one where none is
+abbrev pub leastRows : ℕ → ℕ
+leastRows depth = depth - 1 + 1
+
 -- ---- `block_is_single_line`
 
 -- a row that is no token's is trivia of a token: it leads, or trails behind a token's row

@@ -13,7 +13,6 @@ ghost use mathlib.Core.Bool.{true};
 ghost use mathlib.Core.List.{List};
 ghost use mathlib.Core.Path.{_≡_};
 ghost use Prim.Native.Nat.{ℕ, _*_, _^_, _≤_, _<_};
-ghost use lib.Dec.{ltb};
 ghost use lib.ListN.{length, drop};
 ghost use Rattle.rows.specs.Row.{rowsOf};
 ghost use Rattle.rows.specs.Token.{tokensOf};
@@ -22,7 +21,7 @@ ghost use Rattle.rows.specs.Answer.{rowOf};
 ghost use Rattle.lookahead.specs.Space.{needsSpace, isValueKind};
 ghost use Rattle.lookahead.specs.Answer.{reported, spaceReport};
 ghost use Rattle.lookahead.specs.Measure.{start, params, sigMeasure, groupMeasure, shouldBreakSig, shouldBreakList, blockIsSingleLine, nextHasComment};
-ghost use Rattle.lookahead.specs.Scan.{lacks, widthRows, isComment, isTrivia, trails, endsLine, opensParenRows, groupOf, measureRows, measureOf, tokenKind, GroupKinds, commaAhead, breaksAt};
+ghost use Rattle.lookahead.specs.Scan.{lacks, widthRows, isComment, isTrivia, trails, endsLine, opensParenRows, groupOf, measureRows, measureOf, leastRows, tokenKind, GroupKinds, commaAhead, breaksAt};
 
 mod measure;
 mod sets;
@@ -154,9 +153,11 @@ pub fn block_is_single_line(rows: &[u8]) -> bool
     let mut depth = 0;
     let mut behind = false; // a token's row
     let mut at = 0;
-    while ROW_BYTES <= rows.len() - at {
+    let mut left = rows.len() / ROW_BYTES;
+    while least_rows(depth) <= left {
         let row = row_at(rows, at);
         at += ROW_BYTES;
+        left -= 1;
         if row.what != kinds::TOKEN {
             if is_trivia(row.what, behind) {
                 return false;
@@ -164,9 +165,6 @@ pub fn block_is_single_line(rows: &[u8]) -> bool
             behind = false;
         } else if row.kind == kinds::LEFT_BRACE {
             depth += 1;
-            if too_deep(rows, at, depth) {
-                return false;
-            }
             behind = true;
         } else if row.kind <= kinds::RIGHT_BRACE {
             if ends_line(row.kind) {
@@ -325,14 +323,13 @@ fn comma_ahead(
     let mut own = own;
     let mut other = other;
     let mut at = from;
-    while ROW_BYTES <= rows.len() - at {
+    let mut left = (rows.len() - from) / ROW_BYTES;
+    while least_rows(own + other) <= left {
         let kind = token_kind(row_at(rows, at));
         at += ROW_BYTES;
+        left -= 1;
         if kind == opener {
             own += 1;
-            if too_deep(rows, at, own + other) { // all but one close, then the comma
-                return false;
-            }
         } else if kind == closer {
             if is_last(own, other) {
                 return false;
@@ -346,9 +343,6 @@ fn comma_ahead(
                 return true;
             }
             other = depth_after(other_opener, other_closer, kind, other);
-            if too_deep(rows, at, own + other) {
-                return false;
-            }
         }
     }
     false
@@ -364,12 +358,15 @@ fn token_kind(row: Row) -> u32
     row.kind
 }
 
-// Whether fewer rows than `depth` stand from `at` on: too few to close so many.
-fn too_deep(rows: &[u8], at: usize, depth: usize) -> bool
-    requires { ⌜ at ≤ length (now rows) ⌝ }
-    ensures { λ r. ⌜ r ≡ ltb (length (rowsOf (drop at (now (rows .entry))))) depth ⌝ }
+// The rows that a scan needs at least: one for each level that is open, since a token closes one at most, and one
+// where none is. With fewer left, its answer is no.
+fn least_rows(depth: usize) -> usize
+    ensures { λ r. ⌜ r ≡ leastRows depth ⌝ }
 {
-    (rows.len() - at) / ROW_BYTES < depth
+    if depth == 0 {
+        return 1;
+    }
+    depth
 }
 
 // The whole measure.
