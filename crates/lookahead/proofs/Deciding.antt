@@ -4,11 +4,11 @@ use mathlib.Core.List.{List, [], _∷_}
 use mathlib.Core.Path.{_≡_, refl, sym, ap, _∙_}
 use Prim.Native.Nat.{ℕ, _+_, _-_, _≤_, _<_}
 use native.Mathlib.Omega.{arith}
-use lib.Dec.{eqb, leb, ltb}
+use lib.Dec.{eqb, ltb}
 use lib.ListN.{drop}
-use borrow.Author.Tests.{ne-eqb, lt-ltb, leb-false}
+use borrow.Author.Tests.{lt-ltb}
 use Rattle.report.proofs.Logic.{split}
-use Rattle.rows.specs.Kinds.{TokenRow, LeftParen, RightParen, LeftBracket, RightBracket, Comma}
+use Rattle.rows.specs.Kinds.{TokenRow, LeftParen, RightParen, LeftBracket, RightBracket, Comma, Other}
 use Rattle.rows.specs.Row.{Row, rowsOf}
 use Rattle.lookahead.specs.declared.measure.Span.{Span}
 use Rattle.lookahead.specs.declared.measure.Span.the-variants.{Signature, Paren, Bracket}
@@ -57,18 +57,13 @@ module _ (span : Span) (own other : Measure → ℕ) (o c o′ c′ : ℕ) (lo :
   comma-rows m [] z = rw z
   comma-rows m (r ∷ rs) z =
       split (eqb (r .what) TokenRow)
-      (λ e. split (leb (r .kind) Comma)
-      (λ f. rw (e, f, stops m (r .kind)) (split (endsGroup c (r .kind) (own m) (other m)) (λ g. rw (g, z))
+      (λ e. rw (e, stops m (r .kind)) (split (endsGroup c (r .kind) (own m) (other m)) (λ g. rw (g, z))
       (λ g. rw (g, ← top m) (split (eqb (r .kind) Comma && topIn span (m .parenDepth) (m .bracketDepth))
       (λ h. rw (comma-stays span m r rs h, h))
       (λ h. rw (← own-after m (r .kind) (r .end - r .start), ← other-after m (r .kind) (r .end - r .start), h)
       (rw h at (comma-rows (behind span m r) rs (ap (λ b. more b (m .commas)) h ∙ z))))))))
-      (λ f. let l = leb-false (r .kind) Comma f in
-      rw (e, f, stops m (r .kind), ends-above c (r .kind) (own m) (other m) lc l)
-      (ap (λ d. commaAhead o c o′ c′ d (other m) rs) (sym (own-after m (r .kind) (r .end - r .start) ∙ depth-after-none o c (r .kind) (own m) (λ q. omega arith) (λ q. omega arith)))
-      ∙ ap (λ d. commaAhead o c o′ c′ (own (behind span m r)) d rs) (sym (other-after m (r .kind) (r .end - r .start) ∙ depth-after-none o′ c′ (r .kind) (other m) (λ q. omega arith) (λ q. omega arith)))
-      ∙ comma-rows (behind span m r) rs (rw (ne-eqb (r .kind) Comma (λ q. omega arith)) z))))
-      (λ e. rw e (comma-rows m rs z))
+      (λ e. rw (e, ends-above c Other (own m) (other m) lc (omega arith), depth-after-none o c Other (own m) (λ q. omega arith) (λ q. omega arith), depth-after-none o′ c′ Other (other m) (λ q. omega arith) (λ q. omega arith))
+      (comma-rows m rs z))
 
 -- ---- the decision
 

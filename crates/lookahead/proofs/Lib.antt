@@ -4,6 +4,7 @@ pub mod Tokens
 pub mod Rests
 pub mod Measuring
 pub mod Deciding
+pub mod Closing
 pub mod Looking
 pub mod Lacks
 pub mod Narrow

@@ -2,9 +2,10 @@
 -- Assumes nothing.
 use mathlib.Core.Bool.{Bool, true, false, cond, not, _&&_, _||_}
 use mathlib.Core.List.{List, [], _∷_}
+use mathlib.Core.Path.{_≡_}
 use Prim.Native.Nat.{ℕ, _+_, _-_, _^_, _<_}
-use lib.Dec.{eqb, leb, ltb}
-use Rattle.rows.specs.Kinds.{Leading, TokenRow, Trailing, BlankLine, Eof, Newline, LeftBrace, RightBrace, LeftParen, RightParen, LeftBracket, RightBracket, Comma}
+use lib.Dec.{eqb, ltb}
+use Rattle.rows.specs.Kinds.{Leading, TokenRow, Trailing, BlankLine, Eof, Newline, LeftBrace, RightBrace, LeftParen, RightParen, LeftBracket, RightBracket, Comma, Other}
 use Rattle.rows.specs.Row.{Row}
 use Rattle.lookahead.specs.declared.measure.Span.{Span}
 use Rattle.lookahead.specs.declared.measure.Span.the-variants.{Signature, Paren, Bracket}
@@ -40,6 +41,10 @@ commentAhead seen (r ∷ rs) = cond (eqb (r .what) TokenRow) seen (commentAhead 
 -- the depth behind a token of the kind k
 abbrev pub depthAfter : ℕ → ℕ → ℕ → ℕ → ℕ
 depthAfter opener closer k depth = cond (eqb k opener) (depth + 1) (cond (eqb k closer) (depth - 1) depth)
+
+-- the rows that a scan needs at least: one for each level that is open, and one where none is
+abbrev pub leastRows : ℕ → ℕ
+leastRows depth = depth - 1 + 1
 
 -- ---- `block_is_single_line`
 
@@ -125,19 +130,29 @@ measureOf m = record { parenDepth = m .parens; bracketDepth = m .brackets; comma
 
 -- ---- a comma at the top of a group
 
--- a token of a kind that the depths, the commas or the end of a measure depend on
-abbrev pub isMark : Row → Bool
-isMark r = eqb (r .what) TokenRow && leb (r .kind) Comma
+-- the kind of a token; a row that is no token's counts as one of the kind Other, which matters to no depth
+abbrev pub tokenKind : Row → ℕ
+tokenKind r = cond (eqb (r .what) TokenRow) (r .kind) Other
+
+-- the kinds that open and close a group, and those of the other: four between Eof and Comma
+pub record GroupKinds (o c o′ c′ : ℕ) : Type 0 where
+  pub opener : (Eof < o) × (o < Comma)
+  pub closer : (Eof < c) × (c < Comma)
+  pub otherOpener : (Eof < o′) × (o′ < Comma)
+  pub otherCloser : (Eof < c′) × (c′ < Comma)
+  pub own : o ≡ c → ⊥
+  pub openers : o ≡ o′ → ⊥
+  pub opened : o ≡ c′ → ⊥
+  pub closed : c ≡ o′ → ⊥
+  pub closers : c ≡ c′ → ⊥
 
 -- a comma stands directly inside the group, before it ends
 unfoldable pub commaAhead : ℕ → ℕ → ℕ → ℕ → ℕ → ℕ → List Row → Bool
 commaAhead opener closer otherOpener otherCloser own other [] = false
 commaAhead opener closer otherOpener otherCloser own other (r ∷ rs) =
-    cond (isMark r)
-    (cond (endsGroup closer (r .kind) own other) false
-    (cond (eqb (r .kind) Comma && isTop own other) true
-    (commaAhead opener closer otherOpener otherCloser (depthAfter opener closer (r .kind) own) (depthAfter otherOpener otherCloser (r .kind) other) rs)))
-    (commaAhead opener closer otherOpener otherCloser own other rs)
+    cond (endsGroup closer (tokenKind r) own other) false
+    (cond (eqb (tokenKind r) Comma && isTop own other) true
+    (commaAhead opener closer otherOpener otherCloser (depthAfter opener closer (tokenKind r) own) (depthAfter otherOpener otherCloser (tokenKind r) other) rs))
 
 -- ---- the two decisions
 

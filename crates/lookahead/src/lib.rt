@@ -2,7 +2,7 @@
 use crate::measure::Measure;
 use crate::measure::Span;
 use crate::measure::depth_after;
-use crate::measure::ends_group;
+use crate::measure::is_last;
 use crate::measure::is_top_comma;
 use crate::measure::size_of;
 use rows::ROW_BYTES;
@@ -21,7 +21,7 @@ ghost use Rattle.rows.specs.Answer.{rowOf};
 ghost use Rattle.lookahead.specs.Space.{needsSpace, isValueKind};
 ghost use Rattle.lookahead.specs.Answer.{reported, spaceReport};
 ghost use Rattle.lookahead.specs.Measure.{start, params, sigMeasure, groupMeasure, shouldBreakSig, shouldBreakList, blockIsSingleLine, nextHasComment};
-ghost use Rattle.lookahead.specs.Scan.{lacks, widthRows, isComment, isTrivia, trails, endsLine, closesBlock, opensParenRows, groupOf, measureRows, measureOf, isMark, commaAhead, breaksAt};
+ghost use Rattle.lookahead.specs.Scan.{lacks, widthRows, isComment, isTrivia, trails, endsLine, opensParenRows, groupOf, measureRows, measureOf, leastRows, tokenKind, GroupKinds, commaAhead, breaksAt};
 
 mod measure;
 mod sets;
@@ -153,22 +153,27 @@ pub fn block_is_single_line(rows: &[u8]) -> bool
     let mut depth = 0;
     let mut behind = false; // a token's row
     let mut at = 0;
-    while ROW_BYTES <= rows.len() - at {
+    let mut left = rows.len() / ROW_BYTES;
+    while least_rows(depth) <= left {
         let row = row_at(rows, at);
         at += ROW_BYTES;
+        left -= 1;
         if row.what != kinds::TOKEN {
             if is_trivia(row.what, behind) {
                 return false;
             }
             behind = false;
+        } else if row.kind == kinds::LEFT_BRACE {
+            depth += 1;
+            behind = true;
         } else if row.kind <= kinds::RIGHT_BRACE {
             if ends_line(row.kind) {
                 return false;
             }
-            if closes_block(row.kind, depth) {
+            if depth <= 1 {
                 return !trails(rows, at);
             }
-            depth = depth_after(kinds::LEFT_BRACE, kinds::RIGHT_BRACE, row.kind, depth);
+            depth -= 1;
             behind = true;
         } else {
             behind = true;
@@ -299,7 +304,8 @@ fn until_wide(rows: &[u8], span: Span, limit: usize) -> Reached
 }
 
 // Whether a comma stands at the top of a group, from an index on, before the group closes. `own` and `other` are
-// the depths there: of the group's own kinds, and of the others.
+// the depths there: of the group's own kinds, and of the others. Its own kinds are tested first: a hostile list
+// nests them.
 fn comma_ahead(
     rows: &[u8],
     from: usize,
@@ -310,37 +316,57 @@ fn comma_ahead(
     other_opener: u32,
     other_closer: u32,
 ) -> bool
-    requires { ⌜ (own ≤ from) × (other ≤ from) × (from ≤ length (now rows)) ⌝ }
+    requires depths { ⌜ (own ≤ from) × (other ≤ from) × (from ≤ length (now rows)) ⌝ }
+    requires kinds { ⌜ GroupKinds opener closer «other_opener» «other_closer» ⌝ }
     ensures { λ r. ⌜ r ≡ commaAhead opener closer «other_opener» «other_closer» own other (rowsOf (drop from (now (rows .entry)))) ⌝ }
 {
     let mut own = own;
     let mut other = other;
     let mut at = from;
-    while ROW_BYTES <= rows.len() - at {
-        let row = row_at(rows, at);
+    let mut left = (rows.len() - from) / ROW_BYTES;
+    while least_rows(own + other) <= left {
+        let kind = token_kind(row_at(rows, at));
         at += ROW_BYTES;
-        if is_mark(row) {
-            if ends_group(closer, row.kind, own, other) {
+        left -= 1;
+        if kind == opener {
+            own += 1;
+        } else if kind == closer {
+            if is_last(own, other) {
                 return false;
             }
-            if is_top_comma(row.kind, own, other) {
+            own = depth_after(opener, closer, kind, own);
+        } else if kind <= kinds::COMMA {
+            if kind == kinds::EOF {
+                return false;
+            }
+            if is_top_comma(kind, own, other) {
                 return true;
             }
-            own = depth_after(opener, closer, row.kind, own);
-            other = depth_after(other_opener, other_closer, row.kind, other);
+            other = depth_after(other_opener, other_closer, kind, other);
         }
     }
     false
 }
 
-// Whether a row is a token of a kind that can change a depth, count or end a measure: those up to Comma.
-fn is_mark(row: Row) -> bool
-    ensures { λ r. ⌜ r ≡ isMark (rowOf row) ⌝ }
+// The kind of a token; a row that is no token's counts as a token that matters to no depth.
+fn token_kind(row: Row) -> u32
+    ensures { λ r. ⌜ r ≡ tokenKind (rowOf row) ⌝ }
 {
     if row.what != kinds::TOKEN {
-        return false;
+        return kinds::OTHER;
     }
-    row.kind <= kinds::COMMA
+    row.kind
+}
+
+// The rows that a scan needs at least: one for each level that is open, since a token closes one at most, and one
+// where none is. With fewer left, its answer is no.
+fn least_rows(depth: usize) -> usize
+    ensures { λ r. ⌜ r ≡ leastRows depth ⌝ }
+{
+    if depth == 0 {
+        return 1;
+    }
+    depth
 }
 
 // The whole measure.
@@ -420,16 +446,6 @@ fn ends_line(kind: u32) -> bool
         return true;
     }
     kind == kinds::EOF
-}
-
-// Whether a token of this kind closes the last block that is open.
-fn closes_block(kind: u32, depth: usize) -> bool
-    ensures { λ r. ⌜ r ≡ closesBlock kind depth ⌝ }
-{
-    if kind != kinds::RIGHT_BRACE {
-        return false;
-    }
-    depth <= 1
 }
 
 fn is_comment(row: Row) -> bool

@@ -123,7 +123,7 @@ impl Measure {
 }
 
 // Whether a group ends before a token of this kind, at these depths: its last closer, or Eof.
-pub fn ends_group(closer: u32, kind: u32, own: usize, other: usize) -> bool
+fn ends_group(closer: u32, kind: u32, own: usize, other: usize) -> bool
     ensures { λ r. ⌜ r ≡ endsGroup closer kind own other ⌝ }
 {
     if kind == kinds::EOF {
@@ -146,7 +146,7 @@ pub fn is_top_comma(kind: u32, own: usize, other: usize) -> bool
 }
 
 // Whether no more than one of the opening kind is open, and none of the other.
-fn is_last(own: usize, other: usize) -> bool
+pub fn is_last(own: usize, other: usize) -> bool
     ensures { λ r. ⌜ r ≡ isLast own other ⌝ }
 {
     if 0 < other {
