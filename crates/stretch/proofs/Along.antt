@@ -1,66 +1,41 @@
 -- The loop of a stretch: what holds at each turn, and what a turn does with it. Assumes nothing.
 use mathlib.Core.Bool.{Bool, true, false, cond}
-use mathlib.Core.List.{List, [], _∷_, _++_}
-use mathlib.Core.Option.{none, some}
+use mathlib.Core.List.{List, _++_}
+use mathlib.Core.Option.{some}
 use mathlib.Core.Path.{_≡_, refl, sym, ap, _∙_}
-use Prim.Native.Nat.{ℕ, _+_, _-_, _*_, _/_, _≤_, _<_}
+use Prim.Native.Nat.{ℕ, _+_, _-_, _/_, _≤_, _<_}
 use native.Mathlib.Omega.{arith}
-use borrow.Author.Tests.{eqb-true, lt-ltb, le-ltb}
-use lib.Dec.{eqb, ltb}
+use borrow.Author.Tests.{lt-ltb, le-ltb}
+use lib.Dec.{ltb}
 use lib.ListN.{length, take, drop, replicate, length-append, length-replicate}
 use lib.Seq.{length-slice, length-take-le}
-use Rattle.report.proofs.Logic.{and-left, and-right}
-use Rattle.rows.specs.Kinds.{TokenRow}
 use Rattle.rows.specs.Row.{Row, rowAt, rowsOf}
 use Rattle.rows.specs.Bounds.{InBounds, Inside}
 use Rattle.rows.specs.Options.{Options}
-use Rattle.rows.specs.Token.{Token, bytesOf, trailingOf, tokensFrom, tokensOf}
+use Rattle.rows.specs.Token.{bytesOf, tokensOf}
 use Rattle.rows.proofs.RowList.{part-cons}
 use Rattle.push_token.specs.Formatter.{Formatter}
-use Rattle.push_token.specs.Act.{State, state, run}
+use Rattle.push_token.specs.Act.{state}
 use Rattle.push_token.specs.Emit.{spaceAfter}
-use Rattle.push_token.specs.PushToken.{turn}
-use Rattle.push_token.specs.Layout.{finished, checked, layFrom}
+use Rattle.push_token.specs.Layout.{finished, layFrom}
 use Rattle.sink.specs.Sink.{Writes}
 use Rattle.sink.proofs.Sink.{later}
 use Rattle.stretch.specs.declared.Stretch.{Stretch}
 use Rattle.stretch.specs.Stretch.{onlyTokens, isSteady, Steady, behind, Stretched}
+use Rattle.stretch.proofs.Lone.{lone, only-behind, lay-turn}
 use Rattle.stretch.proofs.Steady.{steady-turn}
 
--- ---- a row where there is no trivia
+-- ---- the row's text
 
-abbrev lone : List ℕ → Row → Token
-lone text r = record { kind = r .kind; lexeme = bytesOf text r; leading = []; trailing = [] }
-
-no-trail : (text : List ℕ) (rs : List Row) → onlyTokens rs ≡ true → trailingOf text rs ≡ []
-unfolding trailingOf onlyTokens
-no-trail text [] e = refl
-no-trail text (r ∷ rs) e = let w : r .what ≡ TokenRow = eqb-true (r .what) TokenRow (and-left _ (onlyTokens rs) e) in rw w
-
-row-token : (text : List ℕ) (r : Row) (rs : List Row) → onlyTokens (r ∷ rs) ≡ true → tokensFrom text [] (r ∷ rs) ≡ lone text r ∷ tokensFrom text [] rs
-unfolding tokensFrom onlyTokens
-row-token text r rs e =
-    let w : r .what ≡ TokenRow = eqb-true (r .what) TokenRow (and-left _ (onlyTokens rs) e) in
-    let n : trailingOf text rs ≡ [] = no-trail text rs (and-right (eqb (r .what) TokenRow) (onlyTokens rs) e) in
-    rw (w, n)
-
-module _ (rows text : List ℕ) (at : ℕ) (only : onlyTokens (rowsOf (drop at rows)) ≡ true) (bounds : InBounds text (rowsOf (drop at rows))) (h : at + 16 ≤ length rows) where
-  pub token-here : tokensOf (drop at rows) text ≡ lone text (rowAt rows at) ∷ tokensOf (drop (at + 16) rows) text
-  unfolding tokensOf
-  token-here = rw (part-cons rows at h) (row-token text (rowAt rows at) (rowsOf (drop (at + 16) rows)) (rw (part-cons rows at h) at only))
-
-  pub only-behind : onlyTokens (rowsOf (drop (at + 16) rows)) ≡ true
-  unfolding onlyTokens
-  only-behind = and-right (eqb (rowAt rows at .what) TokenRow) (onlyTokens (rowsOf (drop (at + 16) rows))) (rw (part-cons rows at h) at only)
-
+module _ (rows text : List ℕ) (at : ℕ) (bounds : InBounds text (rowsOf (drop at rows))) (h : at + 16 ≤ length rows) where
   bounds-cons : Inside text (rowAt rows at) × InBounds text (rowsOf (drop (at + 16) rows))
   unfolding InBounds
   bounds-cons = rw (part-cons rows at h) at bounds
 
-  pub inside : Inside text (rowAt rows at)
+  inside : Inside text (rowAt rows at)
   inside = bounds-cons .0
 
-  pub bounds-behind : InBounds text (rowsOf (drop (at + 16) rows))
+  bounds-behind : InBounds text (rowsOf (drop (at + 16) rows))
   bounds-behind = bounds-cons .1
 
 -- ---- one token of the definition's loop
@@ -78,13 +53,6 @@ still-steady taken σ =
       shallow = σ .shallow;
       unbroken = σ .unbroken;
     }
-
-goes-on : (size i : ℕ) (s : State) → length (s .out) ≤ size → s .formatter .tooDeep ≡ none → checked size i s ≡ finished s
-goes-on size i s h e = rw (le-ltb size (length (s .out)) h, e)
-
-lay-more : (o : Options) (size : ℕ) (s : State) (i : ℕ) (t : Token) (ts : List Token) → layFrom o size (finished s) i (t ∷ ts) ≡ layFrom o size (checked size i (run (turn o i t ts) s)) (i + 1) ts
-unfolding layFrom
-lay-more o size s i t ts = refl
 
 -- ---- what holds at the loop's head
 
@@ -126,7 +94,7 @@ module _ {rows text l m : List ℕ} {from n before at len prev : ℕ} {unary com
   here = let w = α .done .within in omega arith
 
   pub row-inside : Inside text (rowAt rows at)
-  row-inside = inside rows text at (α .only) (α .bounds) here
+  row-inside = inside rows text at (α .bounds) here
 
   abbrev spaces : ℕ
   spaces = cond (spaceAfter (some prev) unary (rowAt rows at .kind)) 1 0
@@ -153,15 +121,9 @@ module _ {rows text l m : List ℕ} {from n before at len prev : ℕ} {unary com
         → layFrom o (length l) (finished (state (behind (ltb from at) prev f) (take len m) c)) j (tokensOf (drop at rows) text)
         ≡ layFrom o (length l) (finished (state (behind true (rowAt rows at .kind) f) (take len′ m′) c)) (j + 1) (tokensOf (drop (at + 16) rows) text)
     step o f c j σ =
-        let u = w .fits all-fit in
-        let t = lone text (rowAt rows at) in
-        let ts = tokensOf (drop (at + 16) rows) text in
         let g = behind (ltb from at) prev f in
-        let e = steady-turn o j t ts g (take len m) c (still-steady (ltb from at) σ) refl refl steady in
-        ap (λ x. layFrom o (length l) (finished (state g (take len m) c)) j x) (token-here rows text at (α .only) (α .bounds) here)
-        ∙ lay-more o (length l) (state g (take len m) c) j t ts
-        ∙ ap (λ x. layFrom o (length l) (checked (length l) j x) (j + 1) ts) (e ∙ ap (λ x. state (behind true (rowAt rows at .kind) f) x c) (sym (u .text)))
-        ∙ ap (λ x. layFrom o (length l) x (j + 1) ts) (goes-on (length l) j (state (behind true (rowAt rows at .kind) f) (take len′ m′) c) text-fits (σ .shallow))
+        let e = steady-turn o j (lone text (rowAt rows at)) (tokensOf (drop (at + 16) rows) text) g (take len m) c (still-steady (ltb from at) σ) refl refl steady in
+        lay-turn rows at (α .only) here text o (length l) j (state g (take len m) c) (e ∙ ap (λ x. state (behind true (rowAt rows at .kind) f) x c) (sym (w .fits all-fit .text))) text-fits (σ .shallow)
 
     pub more : Along rows text from n before unary commas l (at + 16) len′ (rowAt rows at .kind) m′
     more =
@@ -173,8 +135,8 @@ module _ {rows text l m : List ℕ} {from n before at len prev : ℕ} {unary com
         let g = α .far in
         record {
           far = omega arith;
-          only = only-behind rows text at (α .only) (α .bounds) here;
-          bounds = bounds-behind rows text at (α .only) (α .bounds) here;
+          only = only-behind rows at (α .only) here;
+          bounds = bounds-behind rows text at (α .bounds) here;
           done =
               record {
                 whole = let x = δ .whole in omega arith;

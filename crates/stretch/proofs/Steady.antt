@@ -1,32 +1,24 @@
 -- What `push_token` does with a token that only writes its lexeme. Assumes nothing.
-use mathlib.Core.Bool.{Bool, true, false, cond, not, _&&_, _||_}
-use mathlib.Core.List.{List, [], _∷_, _++_, append-assoc}
-use mathlib.Core.Option.{Option, none, some}
+use mathlib.Core.Bool.{Bool, true, false, cond, _&&_, _||_}
+use mathlib.Core.List.{List, [], _++_, append-assoc}
+use mathlib.Core.Option.{some}
 use mathlib.Core.Path.{_≡_, refl, sym, ap, _∙_}
-use Prim.Native.Nat.{ℕ, _≤_, _<_}
+use Prim.Native.Nat.{ℕ, _<_}
 use native.Mathlib.Omega.{arith}
 use borrow.Author.Tests.{ne-eqb, eqb-true, ltb-true}
-use lib.Dec.{eqb, ltb, leb}
-use lib.ListN.{length, replicate}
+use lib.Dec.{eqb, ltb}
+use lib.ListN.{replicate}
 use Rattle.report.proofs.Logic.{split, or-cases, and-left, and-right}
 use Rattle.rows.specs.Kinds.{Eof, Newline, LeftBrace, RightBrace, LeftParen, RightParen, LeftBracket, RightBracket, Comma, Minus, Else, Fn, Record, Identifier}
 use Rattle.rows.specs.Options.{Options}
-use Rattle.rows.specs.Token.{Token, Trivia}
-use Rattle.lookahead.specs.Measure.{isEmpty}
-use Rattle.push_token.specs.Formatter.{Formatter, setAtLineStart, setPrev, setPrevMinusIsUnary, setFnState, setRecordPending, setJustClosedInline, setInlineClose, setReturned}
-use Rattle.push_token.specs.Act.{State, state, Act, update, _⨾_, choose, nothing, if, run}
-use Rattle.push_token.specs.Emit.{isSome, space, spaceAfter, endedBy, fnStateAfter, trackFnState, leadingTrivia, trailingTrivia, tokenGap, trackMinus, pushLexeme}
+use Rattle.rows.specs.Token.{Token}
+use Rattle.push_token.specs.Formatter.{Formatter, setRecordPending}
+use Rattle.push_token.specs.Act.{State, state, run}
+use Rattle.push_token.specs.Emit.{space, spaceAfter, endedBy, trackFnState, tokenGap, trackMinus, pushLexeme}
 use Rattle.push_token.specs.Arms.{atRecordFields, inBrokenList, commaArm, otherArm}
-use Rattle.push_token.specs.PushToken.{arm, takeInlineClose, overflows, turn}
+use Rattle.push_token.specs.PushToken.{arm, takeInlineClose, turn}
 use Rattle.stretch.specs.Stretch.{isSteady, Steady, behind}
-
-and-no : (b : Bool) → b && false ≡ false
-and-no true = refl
-and-no false = refl
-
-same : {A : Type 0} (b : Bool) {x : A} → cond b x x ≡ x
-same true = refl
-same false = refl
+use Rattle.stretch.proofs.Turn.{and-no, chosen-not, by-arm, with-same, fn-kept}
 
 sized : (needed : Bool) → cond needed space [] ≡ replicate (cond needed 1 0) 32
 sized true = refl
@@ -72,26 +64,7 @@ is-ordinary k h =
     (λ e. let a = ltb-true Comma k (and-left (ltb Comma k) (ltb k Minus) e) in let b = ltb-true k Minus (and-right (ltb Comma k) (ltb k Minus) e) in ordinary k a (λ x. omega arith) (λ x. omega arith) (λ x. omega arith) (λ x. omega arith))
     (λ e. let a = ltb-true Record k e in ordinary k (omega arith) (λ x. omega arith) (λ x. omega arith) (λ x. omega arith) (λ x. omega arith))
 
--- ---- acts, one after the other
-
-module _ (s : State) where
-  chosen-not : (t : State → Bool) (a b : Act) → t s ≡ false → run (choose t a b) s ≡ run b s
-  unfolding run
-  chosen-not t a b e = rw e
-
-  in-turn : (a b : Act) → run (a ⨾ b) s ≡ run b (run a s)
-  unfolding run
-  in-turn a b = refl
-
-  bare-lead : (o : Options) (lead : List Trivia) (x : Act) → lead ≡ [] → run (leadingTrivia o lead ⨾ update (takeInlineClose (isEmpty lead)) ⨾ x) s ≡ run x (state (takeInlineClose true (s .formatter)) (s .out) (s .commas))
-  unfolding run leadingTrivia
-  bare-lead o lead x e = rw e
-
-  bare-trail : (trail : List Trivia) (x : Act) → s .formatter .returned ≡ false → trail ≡ [] → run (if (λ f. f .returned) nothing (trailingTrivia trail) ⨾ x) s ≡ run x s
-  unfolding run trailingTrivia
-  bare-trail trail x r e = rw (r, e)
-
--- ---- the arm, and refusal 4
+-- ---- the arm
 
 module _ (o : Options) (i : ℕ) (t : Token) (ts : List Token) (s : State) where
   arm-other : Ordinary (t .kind) → run (arm o i t ts) s ≡ run (otherArm o t) s
@@ -103,25 +76,8 @@ module _ (o : Options) (i : ℕ) (t : Token) (ts : List Token) (s : State) where
   unfolding run
   arm-comma e = rw e
 
-  no-overflow : (f : Formatter) → eqb (t .kind) LeftParen ≡ false → eqb (t .kind) LeftBracket ≡ false → overflows o t ts f ≡ false
-  no-overflow f p b = rw (p, b) (and-no (leb 64 (length (f .breakStack))))
-
--- ---- the formatter behind it
-
-module _ (f : Formatter) (k : ℕ) where
-  -- what a token takes anew or may change, and the last kind
-  abbrev with : Bool → Bool → ℕ → Bool → Bool → Bool → Formatter
-  with start unary fn pending closed inline =
-      setInlineClose inline (setJustClosedInline closed (setRecordPending pending (setFnState fn (setPrevMinusIsUnary unary (setAtLineStart start (setPrev (some k) (setReturned false f)))))))
-
-  with-same : {a a′ b b′ : Bool} {n n′ : ℕ} {d d′ e e′ g g′ : Bool} → a ≡ a′ → b ≡ b′ → n ≡ n′ → d ≡ d′ → e ≡ e′ → g ≡ g′ → with a b n d e g ≡ with a′ b′ n′ d′ e′ g′
-  with-same a b n d e g = rw (a, b, n, d, e, g)
-
-  fn-kept : f .fnState ≡ 0 → eqb k Fn ≡ false → eqb k Newline ≡ false → cond (isSome (f .sigBreakDepth)) (f .fnState) (fnStateAfter k f) ≡ f .fnState
-  fn-kept z a b = rw (z, a, b, and-no (eqb k Identifier)) (same (isSome (f .sigBreakDepth)))
-
-  unary-kept : eqb k Minus ≡ false → trackMinus k f .prevMinusIsUnary ≡ f .prevMinusIsUnary
-  unary-kept e = rw e
+unary-kept : (f : Formatter) (k : ℕ) → eqb k Minus ≡ false → trackMinus k f .prevMinusIsUnary ≡ f .prevMinusIsUnary
+unary-kept f k e = rw e
 
 -- ---- the turn
 
@@ -129,13 +85,13 @@ module _ (o : Options) (i : ℕ) (t : Token) (ts : List Token) (f : Formatter) (
   abbrev taken : Formatter
   taken = takeInlineClose true f
 
-  -- behind the arm, which wrote the lexeme
-  ended : (pending : Bool) (text : List ℕ) → pending ≡ false → eqb (t .kind) Minus ≡ false → eqb (t .kind) Fn ≡ false → eqb (t .kind) Newline ≡ false
-      → run (if (λ g. g .returned) nothing (trailingTrivia (t .trailing)) ⨾ update (trackFnState (t .kind))) (state (endedBy (t .kind) (trackMinus (t .kind) (setRecordPending pending taken))) text c) ≡ state (behind true (t .kind) f) text c
-  unfolding run
-  ended pending text e m n l =
-      bare-trail _ (t .trailing) (update (trackFnState (t .kind))) refl trail
-      ∙ ap (λ g. state g text c) (with-same f (t .kind) (sym (σ .mid-line)) (unary-kept f (t .kind) m) (fn-kept f (t .kind) (σ .no-fn) n l) (e ∙ sym (σ .no-record)) (sym (σ .not-closed)) (σ .not-closed))
+  -- the formatter behind the arm, which wrote the lexeme
+  abbrev pushed : Bool → Formatter
+  pushed pending = endedBy (t .kind) (trackMinus (t .kind) (setRecordPending pending taken))
+
+  ended : (pending : Bool) → pending ≡ false → eqb (t .kind) Minus ≡ false → eqb (t .kind) Fn ≡ false → eqb (t .kind) Newline ≡ false → trackFnState (t .kind) (pushed pending) ≡ behind true (t .kind) f
+  ended pending e m n l =
+      with-same f (t .kind) (sym (σ .mid-line)) (unary-kept f (t .kind) m) (fn-kept f (t .kind) (σ .no-fn) n l) (e ∙ sym (σ .no-record)) (sym (σ .not-closed)) (σ .not-closed)
 
   -- the bytes: a space or none, and the lexeme
   abbrev bytes : List ℕ
@@ -146,24 +102,15 @@ module _ (o : Options) (i : ℕ) (t : Token) (ts : List Token) (f : Formatter) (
       ap (λ g. (out ++ g) ++ t .lexeme) (rw (σ .mid-line, σ .prev, σ .minus) (sized (spaceAfter (some p) unary (t .kind))))
       ∙ append-assoc out (replicate (cond (spaceAfter (some p) unary (t .kind)) 1 0) 32) (t .lexeme)
 
-  lexeme-pushed : (pending : Bool) → run (pushLexeme o t) (state (setRecordPending pending taken) out c) ≡ state (endedBy (t .kind) (trackMinus (t .kind) (setRecordPending pending taken))) (out ++ bytes) c
+  lexeme-pushed : (pending : Bool) → run (pushLexeme o t) (state (setRecordPending pending taken) out c) ≡ state (pushed pending) (out ++ bytes) c
   unfolding run
-  lexeme-pushed pending = ap (λ l. state (endedBy (t .kind) (trackMinus (t .kind) (setRecordPending pending taken))) l c) (gap-bytes pending)
-
-  abbrev rest : Act
-  rest = if (λ g. g .returned) nothing (trailingTrivia (t .trailing)) ⨾ update (trackFnState (t .kind))
+  lexeme-pushed pending = ap (λ l. state (pushed pending) l c) (gap-bytes pending)
 
   turned : (pending : Bool) → pending ≡ false → eqb (t .kind) Minus ≡ false → eqb (t .kind) Fn ≡ false → eqb (t .kind) Newline ≡ false → eqb (t .kind) LeftParen ≡ false → eqb (t .kind) LeftBracket ≡ false
       → run (arm o i t ts) (state taken out c) ≡ run (pushLexeme o t) (state (setRecordPending pending taken) out c)
       → run (turn o i t ts) (state f out c) ≡ state (behind true (t .kind) f) (out ++ bytes) c
   turned pending e m n l a b r =
-      chosen-not (state f out c) (λ s. isSome (s .formatter .tooDeep)) _ _ (rw (σ .shallow))
-      ∙ chosen-not (state f out c) (λ s. s .formatter .skipNext) _ _ (σ .no-skip)
-      ∙ bare-lead (state f out c) o (t .leading) _ lead
-      ∙ chosen-not (state taken out c) (λ s. overflows o t ts (s .formatter)) _ _ (no-overflow o i t ts (state f out c) taken a b)
-      ∙ in-turn (state taken out c) (arm o i t ts) rest
-      ∙ ap (run rest) (r ∙ lexeme-pushed pending)
-      ∙ ended pending (out ++ bytes) e m n l
+      by-arm o i t ts f out c lead trail (σ .shallow) (σ .no-skip) a b (r ∙ lexeme-pushed pending) refl ∙ ap (λ g. state g (out ++ bytes) c) (ended pending e m n l)
 
   comma-pushed : t .kind ≡ Comma → commas ≡ true → run (arm o i t ts) (state taken out c) ≡ run (pushLexeme o t) (state taken out c)
   unfolding commaArm

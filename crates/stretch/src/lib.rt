@@ -12,6 +12,8 @@ ghost use Rattle.rows.specs.Row.{rowsOf};
 ghost use Rattle.rows.specs.Bounds.{InBounds};
 ghost use Rattle.stretch.specs.Stretch.{onlyTokens, isSteady, Stretched};
 
+pub mod braces;
+
 // Where a stretch ends: the first row behind it, the length of the text, and the last token's kind.
 pub struct Stretch {
     pub at: usize,

@@ -1,4 +1,4 @@
--- A stretch ahead of the walk: when it may begin, and the state behind it.
+-- A stretch or braces ahead of the walk: when they may begin, and the state behind them.
 -- Assumes nothing.
 use mathlib.Core.Bool.{Bool, true, false, not, _||_}
 use mathlib.Core.List.{List}
@@ -12,17 +12,28 @@ use Rattle.format.specs.declared.formatter.Prev.{Prev}
 use Rattle.format.specs.declared.formatter.Prev.the-variants.{Nothing, Kind}
 use Rattle.format.specs.Pen.{Held, prevOf, formatterOf}
 use Rattle.stretch.specs.declared.Stretch.{Stretch}
+use Rattle.stretch.specs.declared.braces.Braces.{Braces}
 use Rattle.stretch.specs.Stretch.{behind}
+use Rattle.stretch.specs.Braces.{behindBraces}
 
 -- in a line, behind a token, with nothing pending, and there is no trivia
-pub record Ready (f : Formatter) (b : Bool) : Type 0 where
+pub record Settled (f : Formatter) (b : Bool) : Type 0 where
   pub bare : b ≡ true
   pub mid-line : f .«at_line_start» ≡ false
-  pub not-closed : f .«just_closed_inline» ≡ false
   pub no-record : f .«record_pending» ≡ false
   pub no-skip : f .«skip_next» ≡ false
   pub no-fn : f .«fn_state» ≡ 0
   pub token : isSome (prevOf (f .prev .kind)) ≡ true
+
+-- a stretch may begin
+pub record Ready (f : Formatter) (b : Bool) : Type 0 where
+  pub settled : Settled f b
+  pub not-closed : f .«just_closed_inline» ≡ false
+
+-- braces of a one-line block may come
+pub record Nested (f : Formatter) (b : Bool) : Type 0 where
+  pub settled : Settled f b
+  pub outside : f .«in_record» ≡ false
 
 -- the last token's kind; 0 where there is none
 abbrev pub kindOf : Prev → ℕ
@@ -39,3 +50,18 @@ pub record Behind (f : Formatter) (from : ℕ) (ahead : Stretch) (g : Formatter)
   pub len : g .len ≡ ahead .len
   pub deep : g .«too_deep» ≡ f .«too_deep»
   pub held : Held f g
+
+-- where braces begin
+abbrev pub placeOf : Formatter → ℕ → Braces
+placeOf f at =
+    record { at = at; len = f .len; prev = kindOf (f .prev .kind); depth = f .«inline_depth» .0; closed = f .«just_closed_inline»; «inline_close» = f .«inline_close» }
+
+-- g is the state f behind braces that began at a row
+pub record BehindBraces (f : Formatter) (from : ℕ) (ahead : Braces) (g : Formatter) : Type 0 where
+  pub form : (stack : List ℕ) → formatterOf g stack ≡ behindBraces (ltb from (ahead .at)) ahead (formatterOf f stack)
+  pub len : g .len ≡ ahead .len
+  pub deep : g .«too_deep» ≡ f .«too_deep»
+  pub options : g .options ≡ f .options
+  pub signature : g .«sig_break_depth» ≡ f .«sig_break_depth»
+  pub commas : g .commas ≡ f .commas
+  pub count : g .«break_count» ≡ f .«break_count»

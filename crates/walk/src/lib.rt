@@ -1,5 +1,8 @@
 // The walk over checked rows: `push_token` for each token, and how it ends.
+use crate::steady::behind_braces;
 use crate::steady::behind_stretch;
+use crate::steady::braces_from;
+use crate::steady::is_nested;
 use crate::steady::is_steady;
 use crate::steady::rows_between;
 use crate::steady::stretch_from;
@@ -74,7 +77,12 @@ pub fn walk(
         }
         at = next;
         index += 1;
-        if is_steady(f, bare) {
+        if is_nested(f, bare, rows, at) {
+            let ahead = braces_from(f, out, rows, at);
+            f = behind_braces(f, ahead, at);
+            index += rows_between(at, ahead.at);
+            at = ahead.at;
+        } else if is_steady(f, bare) {
             let ahead = stretch_from(f, out, stack, rows, text, at);
             f = behind_stretch(f, ahead, at);
             index += rows_between(at, ahead.at);

@@ -1,47 +1,33 @@
-// Where the next tokens may only write their lexemes, they are laid out as a stretch, without the state.
+// Where the next tokens may only write their lexemes, or are braces of a one-line block, they are laid out without the state.
 use format::formatter::Before;
 use format::formatter::Formatter;
+use format::formatter::InlineDepth;
 use format::formatter::Prev;
 use rows::ROW_BYTES;
+use rows::kinds;
+use rows::row_at;
 use stretch::Stretch;
+use stretch::braces::Braces;
+use stretch::braces::lay_braces;
 use stretch::lay_stretch;
 ghost use mathlib.Core.Bool.{true};
 ghost use mathlib.Core.Path.{_≡_};
-ghost use Prim.Native.Nat.{_-_, _/_, _≤_};
+ghost use Prim.Native.Nat.{_+_, _-_, _/_, _≤_, _<_};
 ghost use lib.ListN.{length, drop};
 ghost use Rattle.rows.specs.Row.{rowsOf};
 ghost use Rattle.rows.specs.Bounds.{InBounds};
 ghost use Rattle.stretch.specs.Stretch.{onlyTokens, Stretched};
-ghost use Rattle.walk.specs.Ahead.{Ready, kindOf, keepsCommas, Behind};
+ghost use Rattle.stretch.specs.Braces.{Braced};
+ghost use Rattle.walk.specs.Ahead.{Settled, Ready, kindOf, keepsCommas, Behind, Nested, placeOf, BehindBraces};
 
 // Whether a stretch may begin: in a line, behind a token, with nothing pending, and there is no trivia.
 pub fn is_steady(f: Formatter, bare: bool) -> bool
     ensures { λ r. ⌜ (r ≡ true → Ready f bare) ⌝ }
 {
-    if !bare {
+    if !is_settled(f, bare) {
         return false;
     }
-    if f.at_line_start {
-        return false;
-    }
-    if f.just_closed_inline {
-        return false;
-    }
-    if f.record_pending {
-        return false;
-    }
-    if f.skip_next {
-        return false;
-    }
-    if 0 < f.fn_state {
-        return false;
-    }
-    let before = f.prev;
-    let prev = before.kind;
-    match prev {
-        Prev::Nothing => false,
-        Prev::Kind(_) => true,
-    }
+    !f.just_closed_inline
 }
 
 // The stretch from the row at `at` on; it may be empty.
@@ -80,12 +66,101 @@ pub fn behind_stretch(mut f: Formatter, ahead: Stretch, at: usize) -> Formatter
     f
 }
 
+// Whether braces of a one-line block may come next: outside records, in a line, behind a token, with nothing pending,
+// and there is no trivia.
+pub fn is_nested(f: Formatter, bare: bool, rows: &[u8], at: usize) -> bool
+    requires { ⌜ at ≤ length (now rows) ⌝ }
+    ensures { λ r. ⌜ (r ≡ true → Nested f bare) ⌝ }
+{
+    let depth = f.inline_depth;
+    if depth.0 == 0 {
+        return false;
+    }
+    if f.in_record {
+        return false;
+    }
+    if !is_settled(f, bare) {
+        return false;
+    }
+    if rows.len() - at < ROW_BYTES {
+        return false;
+    }
+    let row = row_at(rows, at);
+    row.kind <= kinds::RIGHT_BRACE
+}
+
+// The braces from the row at `at` on; there may be none.
+pub fn braces_from(f: Formatter, out: &mut [u8], rows: &[u8], at: usize) -> Braces
+    requires { ⌜ (at ≤ length (now rows)) × (f .len ≤ length (now out)) ⌝ }
+    requires { ⌜ onlyTokens (rowsOf (drop at (now rows))) ≡ true ⌝ }
+    requires { ⌜ f .«inline_depth» .0 + length (now rows) < 4294967296 ⌝ }
+    ensures { λ r. ⌜ Braced (now (rows .entry)) (placeOf f at) (now (out .entry)) (now (out .exit)) r ⌝ }
+{
+    let depth = f.inline_depth;
+    let prev = kind_before(f);
+    let from = Braces {
+        at,
+        len: f.len,
+        prev,
+        depth: depth.0,
+        closed: f.just_closed_inline,
+        inline_close: f.inline_close,
+    };
+    lay_braces(out, rows, from)
+}
+
+// The state behind braces that began at `at`.
+pub fn behind_braces(mut f: Formatter, ahead: Braces, at: usize) -> Formatter
+    ensures { λ r. ⌜ BehindBraces f at ahead r ⌝ }
+{
+    let prev = Before {
+        kind: Prev::Kind(ahead.prev),
+    };
+    let depth = InlineDepth(ahead.depth);
+    f.len = ahead.len;
+    f.prev = prev;
+    f.inline_depth = depth;
+    f.just_closed_inline = ahead.closed;
+    f.inline_close = ahead.inline_close;
+    if at < ahead.at {
+        f.returned = false;
+    }
+    f
+}
+
 // How many rows stand between two places.
 pub fn rows_between(from: usize, to: usize) -> u32
     requires { ⌜ (from ≤ to) × (to ≤ 1048560) ⌝ }
     ensures { λ r. ⌜ r ≡ (to - from) / 16 ⌝ }
 {
     ((to - from) / ROW_BYTES) as u32
+}
+
+// In a line, behind a token, with nothing pending, and there is no trivia.
+fn is_settled(f: Formatter, bare: bool) -> bool
+    ensures { λ r. ⌜ (r ≡ true → Settled f bare) ⌝ }
+{
+    if !bare {
+        return false;
+    }
+    if f.at_line_start {
+        return false;
+    }
+    if f.record_pending {
+        return false;
+    }
+    if f.skip_next {
+        return false;
+    }
+    if 0 < f.fn_state {
+        return false;
+    }
+    let before = f.prev;
+    let prev = before.kind;
+    match prev {
+        Prev::Nothing => false,
+        Prev::Kind(_) => true,
+    }
 }
 
 // A Comma does not break its line.

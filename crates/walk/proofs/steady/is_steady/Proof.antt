@@ -1,52 +1,18 @@
 -- `walk::steady::is_steady` meets its contract. Assumes nothing.
+use borrow.Author.Tests.{not-false, not-true}
 use borrow.Author.Needs.{needs}
-use borrow.Author.Tests.{not-false}
-use native.Mathlib.Omega.{arith}
 use Rattle.report.proofs.Logic.{impossible′}
 use Rattle.walk.proofs.steady.is_steady.Statement.{statement}
 use Rattle.walk.proofs.steady.is_steady.Tie as tie
+
+is-settled-requires : tie.Need-is-settled-requires
+is-settled-requires c κs = search needs
 
 returns : tie.Need-returns
 returns c = λ e. impossible′ e
 
 returns-2 : tie.Need-returns-2
-returns-2 c = λ e. impossible′ e
-
-returns-3 : tie.Need-returns-3
-returns-3 c = λ e. impossible′ e
-
-returns-4 : tie.Need-returns-4
-returns-4 c = λ e. impossible′ e
-
-returns-5 : tie.Need-returns-5
-returns-5 c = λ e. impossible′ e
-
-returns-6 : tie.Need-returns-6
-returns-6 c = λ e. impossible′ e
-
-enum-told : tie.Need-enum-told
-enum-told c = search needs
-
-enum-told-2 : tie.Need-enum-told-2
-enum-told-2 c = search needs
-
-returns-7 : tie.Need-returns-7
-returns-7 c = λ e. impossible′ e
-
-returns-8 : tie.Need-returns-8
-returns-8 c = λ e. record { bare = not-false _ (c .before .before .before .before .before .before .before .before .before .if1 .left); mid-line = c .before .before .before .before .before .before .before .before .if2 .left; not-closed = c .before .before .before .before .before .before .before .if3 .left; no-record = c .before .before .before .before .before .before .if4 .left; no-skip = c .before .before .before .before .before .if5 .left; no-fn = let z = c .before .before .before .if6 .left in omega arith; token = rw (c .enum-told2 .given .1) }
+returns-2 c = λ e. record { settled = c .before .before .is-settled .ensures (not-false _ (c .before .if1 .left)); not-closed = not-true _ e }
 
 pub is-steady-spec : {M : Type 1} → statement M
-is-steady-spec =
-    tie.close
-    (tie.spec
-    returns
-    returns-2
-    returns-3
-    returns-4
-    returns-5
-    returns-6
-    enum-told
-    enum-told-2
-    returns-7
-    returns-8)
+is-steady-spec = tie.close (tie.spec is-settled-requires returns returns-2)
