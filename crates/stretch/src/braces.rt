@@ -18,7 +18,7 @@ pub struct Braces {
     pub at: usize,
     pub len: usize,
     pub prev: u32,
-    pub depth: u32,
+    pub depth: usize,
     pub closed: bool,
     pub inline_close: bool,
 }
@@ -27,7 +27,7 @@ pub struct Braces {
 pub fn lay_braces(out: &mut [u8], rows: &[u8], from: Braces) -> Braces
     requires { ⌜ (from .at ≤ length (now rows)) × (from .len ≤ length (now out)) ⌝ }
     requires { ⌜ onlyTokens (rowsOf (drop (from .at) (now rows))) ≡ true ⌝ }
-    requires { ⌜ from .depth + length (now rows) < 4294967296 ⌝ }
+    requires { ⌜ from .depth + length (now rows) < 18446744073709551616 ⌝ }
     ensures { λ r. ⌜ Braced (now (rows .entry)) from (now (out .entry)) (now (out .exit)) r ⌝ }
 {
     let mut b = from;
@@ -50,7 +50,7 @@ pub fn lay_braces(out: &mut [u8], rows: &[u8], from: Braces) -> Braces
 }
 
 // Whether a block is open, and a space and a brace fit into `room` bytes.
-fn is_open(depth: u32, room: usize) -> bool
+fn is_open(depth: usize, room: usize) -> bool
     ensures { λ r. ⌜ (r ≡ true → (0 < depth) × (2 ≤ room)) ⌝ }
 {
     if room < 2 {
@@ -62,7 +62,7 @@ fn is_open(depth: u32, room: usize) -> bool
 fn open_inline(out: &mut [u8], b: Braces) -> Braces
     requires { ⌜ b .at + 16 < 18446744073709551616 ⌝ }
     requires { ⌜ b .len + 2 ≤ length (now out) ⌝ }
-    requires { ⌜ b .depth + 1 < 4294967296 ⌝ }
+    requires { ⌜ b .depth + 1 < 18446744073709551616 ⌝ }
     ensures { λ r. ⌜ Writes (now (out .entry)) (b .len) opener (now (out .exit)) (r .len) × (r ≡ opened b (r .len)) ⌝ }
 {
     let len = put_spaced(out, b.len, b'{');

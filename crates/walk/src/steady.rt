@@ -76,33 +76,34 @@ pub fn is_nested(f: Formatter, bare: bool, rows: &[u8], at: usize) -> bool
     if depth.0 == 0 {
         return false;
     }
-    if f.in_record {
-        return false;
-    }
-    if !is_settled(f, bare) {
-        return false;
-    }
     if rows.len() - at < ROW_BYTES {
         return false;
     }
     let row = row_at(rows, at);
-    row.kind <= kinds::RIGHT_BRACE
+    if kinds::RIGHT_BRACE < row.kind {
+        return false;
+    }
+    if f.in_record {
+        return false;
+    }
+    is_settled(f, bare)
 }
 
 // The braces from the row at `at` on; there may be none.
 pub fn braces_from(f: Formatter, out: &mut [u8], rows: &[u8], at: usize) -> Braces
     requires { ⌜ (at ≤ length (now rows)) × (f .len ≤ length (now out)) ⌝ }
     requires { ⌜ onlyTokens (rowsOf (drop at (now rows))) ≡ true ⌝ }
-    requires { ⌜ f .«inline_depth» .0 + length (now rows) < 4294967296 ⌝ }
+    requires { ⌜ f .«inline_depth» .0 + length (now rows) < 18446744073709551616 ⌝ }
     ensures { λ r. ⌜ Braced (now (rows .entry)) (placeOf f at) (now (out .entry)) (now (out .exit)) r ⌝ }
 {
-    let depth = f.inline_depth;
+    let inline = f.inline_depth;
+    let depth = inline.0 as usize;
     let prev = kind_before(f);
     let from = Braces {
         at,
         len: f.len,
         prev,
-        depth: depth.0,
+        depth,
         closed: f.just_closed_inline,
         inline_close: f.inline_close,
     };
@@ -111,12 +112,14 @@ pub fn braces_from(f: Formatter, out: &mut [u8], rows: &[u8], at: usize) -> Brac
 
 // The state behind braces that began at `at`.
 pub fn behind_braces(mut f: Formatter, ahead: Braces, at: usize) -> Formatter
+    requires { ⌜ ahead .depth < 4294967296 ⌝ }
     ensures { λ r. ⌜ BehindBraces f at ahead r ⌝ }
 {
     let prev = Before {
         kind: Prev::Kind(ahead.prev),
     };
-    let depth = InlineDepth(ahead.depth);
+    let inline = ahead.depth as u32;
+    let depth = InlineDepth(inline);
     f.len = ahead.len;
     f.prev = prev;
     f.inline_depth = depth;

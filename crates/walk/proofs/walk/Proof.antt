@@ -77,7 +77,7 @@ braces-from-requires : tie.Need-braces-from-requires Inv-loop μ-loop
 braces-from-requires c κs = let ω = c .before .before .before .before .before .before .before .before .before .before .before .before .before .before .before .before .before .before .before .before .before .before .before .pre .1 .0 in let γ = c .before .before .before .before .before .before .before .before .before .before .before .before .before .before .before .before .loop .inv in let h = more-rows (c .before .before .before .before .before .before .before .before .before .before .before .before .before .before .before .loop-test .taken) in let π = placed ω (c .before .before .before .before .before .before .before .before .before .before .before .before .before .before .before .before .before .ends-of .ensures) γ h (c .before .before .before .before .before .before .before .before .before .before .before .before .before .before .trivia-end .ensures) (c .before .before .before .before .before .before .before .before .before .before .before .before .before .trivia-end2 .ensures) (c .before .before .before .before .before .before .before .before .before .before .before .before .token-at .ensures) in let γ′ = onward π (goes-on ω γ h (turned π (c .before .before .before .before .before .before .before .before .before .turn .ensures)) (c .before .before .before .before .if1 .left) (c .before .before .before .if2 .left) (c .before .before .before .before .before .before .stack .given)) in let ν = c .before .before .is-nested .ensures (c .before .if3 .taken) in let only = c .before .before .before .before .before .before .before .before .before .before .before .before .before .before .before .before .before .before .before .before .before .before .before .pre .1 .1 (ν .settled .bare) in ((γ′ .head .within, γ′ .room), (only-at _ _ (γ′ .head .whole) only, let d = γ′ .counts .inline in let n = few-tokens ω γ′ in let q = ω .few in omega arith))
 
 behind-braces-requires : tie.Need-behind-braces-requires Inv-loop μ-loop
-behind-braces-requires c κs = search needs
+behind-braces-requires c κs = let ω = c .before .before .before .before .before .before .before .before .before .before .before .before .before .before .before .before .before .before .before .before .before .before .before .before .before .before .pre .1 .0 in let γ = c .before .before .before .before .before .before .before .before .before .before .before .before .before .before .before .before .before .before .before .loop .inv in let h = more-rows (c .before .before .before .before .before .before .before .before .before .before .before .before .before .before .before .before .before .before .loop-test .taken) in let π = placed ω (c .before .before .before .before .before .before .before .before .before .before .before .before .before .before .before .before .before .before .before .before .ends-of .ensures) γ h (c .before .before .before .before .before .before .before .before .before .before .before .before .before .before .before .before .before .trivia-end .ensures) (c .before .before .before .before .before .before .before .before .before .before .before .before .before .before .before .before .trivia-end2 .ensures) (c .before .before .before .before .before .before .before .before .before .before .before .before .before .before .before .token-at .ensures) in let γ′ = onward π (goes-on ω γ h (turned π (c .before .before .before .before .before .before .before .before .before .before .before .before .turn .ensures)) (c .before .before .before .before .before .before .before .if1 .left) (c .before .before .before .before .before .before .if2 .left) (c .before .before .before .before .before .before .before .before .before .stack .given)) in let σ = c .before .before .braces-from .ensures in let w = σ .within in let d = σ .deep in let a = γ′ .counts .inline in let n = few-tokens ω γ′ in let q = ω .few in omega arith
 
 rows-between-requires : tie.Need-rows-between-requires Inv-loop μ-loop
 rows-between-requires c κs = let σ = c .before .before .before .braces-from .ensures in let w = σ .whole in let x = σ .within in let ω = c .before .before .before .before .before .before .before .before .before .before .before .before .before .before .before .before .before .before .before .before .before .before .before .before .before .before .before .pre .1 .0 .few in (omega arith, omega arith)

@@ -3,6 +3,9 @@ use borrow.Author.Needs.{needs}
 use Rattle.walk.proofs.steady.braces_from.Statement.{statement}
 use Rattle.walk.proofs.steady.braces_from.Tie as tie
 
+cast-depth : tie.Need-cast-depth
+cast-depth c = search needs
+
 kind-before-requires : tie.Need-kind-before-requires
 kind-before-requires c κs = search needs
 
@@ -17,4 +20,4 @@ returns c = rw (c .before .before .before .before .kind-before .ensures) at (c .
 
 pub braces-from-spec : {M : Type 1} → statement M
 braces-from-spec =
-    tie.close (tie.spec kind-before-requires lay-braces-requires same-length returns)
+    tie.close (tie.spec cast-depth kind-before-requires lay-braces-requires same-length returns)
