@@ -1,7 +1,9 @@
 pub mod Begin
 pub mod ClassRuns
+pub mod Eight
 pub mod Filling
 pub mod Number
+pub mod Ordinary
 pub mod Quote
 pub mod Resume
 pub mod Scan

@@ -1,5 +1,5 @@
 -- Reading from an index on, a byte or a run at a time. Assumes nothing.
-use mathlib.Core.Bool.{Bool, true, false, cond}
+use mathlib.Core.Bool.{Bool, true, false, cond, _&&_}
 use mathlib.Core.List.{List, [], _∷_}
 use mathlib.Core.Path.{_≡_, refl, sym, ap, _∙_}
 use Prim.Native.Nat.{ℕ, zero, suc, _+_, _≤_, _<_}
@@ -8,14 +8,14 @@ use native.Mathlib.Numerals.{add-one}
 use native.Mathlib.Omega.{arith}
 use lib.Dec.{ltb}
 use borrow.Author.Tests.{ltb-true, ltb-false}
-use lib.ListN.{length, getD, drop, drop-of-length-le, length-drop}
+use lib.ListN.{length, getD, take, drop, drop-of-length-le, length-drop}
 use lib.Seq.{drop-cons, drop-drop, getD-drop}
-use Rattle.report.proofs.Logic.{split}
+use Rattle.report.proofs.Logic.{split, and-left, and-right}
 use Rattle.pieces.specs.declared.bytes.Class.{Class}
 use Rattle.pieces.specs.declared.bytes.Class.the-variants.{Gap}
 use Rattle.pieces.specs.Class.{class, isGap, isWord, isOperator}
 use Rattle.pieces.specs.Reading.{Reading, done, refused, piece, Kind, word, operator, Mode, between, inside, Joined, ends, takes, keep, join, Begun, nothing, opens, begin, flush, peek, afterBegin, read, readFrom}
-use Rattle.pieces.specs.Sets.{runLength}
+use Rattle.pieces.specs.Sets.{runLength, all}
 use Rattle.pieces.specs.Ends.{EndsAt, joinAt}
 use Rattle.pieces.proofs.Sets.{gap-of}
 
@@ -92,6 +92,16 @@ module _ (f : ℕ → Bool) (text : List ℕ) (i : ℕ) where
 
   pub run-out : length text ≤ i → i ≡ i + runLength f (drop i text)
   run-out h = rw (drop-of-length-le text h) (omega arith)
+
+-- several bytes of the run at once
+pub run-all : (f : ℕ → Bool) (n : ℕ) (text : List ℕ) (i : ℕ) → i + n ≤ length text → all f (take n (drop i text)) ≡ true → (i + n) + runLength f (drop (i + n) text) ≡ i + runLength f (drop i text)
+run-all f zero text i h e = rw add-zero
+run-all f (suc n) text i h e =
+    let here′ = here text i (omega arith) in
+    let e′ : f (getD text i 0) && all f (take n (drop (i + 1) text)) ≡ true = rw here′ at e in
+    let z : i + suc n ≡ (i + 1) + n = omega arith in
+    rw z (run-all f n text (i + 1) (omega arith) (and-right (f (getD text i 0)) (all f (take n (drop (i + 1) text))) e′))
+    ∙ run-more f text i (omega arith) (and-left (f (getD text i 0)) (all f (take n (drop (i + 1) text))) e′)
 
 -- two tests that agree on bytes count the same run
 pub run-agree : (f g : ℕ → Bool) → ((b : ℕ) → b < 256 → f b ≡ g b) → (text : List ℕ) → ((i : ℕ) → getD text i 0 < 256) → (i : ℕ) → runLength f (drop i text) ≡ runLength g (drop i text)

@@ -1,9 +1,10 @@
 -- Where an open piece ends: what the scanning functions promise to `next_piece`.
 -- Assumes nothing.
-use mathlib.Core.Bool.{Bool, true, false}
+use mathlib.Core.Bool.{Bool, true, false, not, _&&_}
 use mathlib.Core.Path.{_≡_}
 use mathlib.Core.List.{List}
 use Prim.Native.Nat.{ℕ, _+_}
+use lib.Dec.{eqb}
 use lib.ListN.{drop, getD}
 use Rattle.pieces.specs.declared.runs.QuoteEnd.{QuoteEnd}
 use Rattle.pieces.specs.declared.runs.QuoteEnd.the-variants.{At, Never}
@@ -16,6 +17,10 @@ pub record EndsAt (text : List ℕ) (k : Kind) (from e : ℕ) : Type 0 where
 abbrev pub QuoteEnds : List ℕ → ℕ → ℕ → QuoteEnd → Type 0
 QuoteEnds text q from (At e) = EndsAt text (quoted q) from e
 QuoteEnds text q from Never = (s : ℕ) → read (drop from text) (inside (quoted q)) s from ≡ refused s
+
+-- a byte that a quote opened by q passes over alone: neither q nor a backslash
+abbrev pub ordinary : ℕ → ℕ → Bool
+ordinary q b = not (eqb b q) && not (eqb b 92)
 
 abbrev pub taken : Joined → Bool
 taken ends = false

@@ -5,3 +5,4 @@ pub mod Answer
 pub mod Commas
 pub mod Sets
 pub mod Ends
+pub mod Eight

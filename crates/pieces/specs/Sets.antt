@@ -1,6 +1,6 @@
 -- Sets of bytes, and runs of bytes in a set: what the code's loops count.
 -- Assumes nothing.
-use mathlib.Core.Bool.{Bool, true, false, cond}
+use mathlib.Core.Bool.{Bool, true, false, cond, _&&_}
 use mathlib.Core.List.{List, [], _∷_}
 use Prim.Native.Nat.{ℕ, zero, suc, _-_, _/_, _%_, _^_}
 use lib.Dec.{eqb, ltb}
@@ -16,3 +16,8 @@ member low high upper b = cond (ltb b 64) (bit low b) (cond (ltb b 128) (bit hig
 abbrev pub runLength : (ℕ → Bool) → List ℕ → ℕ
 runLength f [] = zero
 runLength f (b ∷ t) = cond (f b) (suc (runLength f t)) zero
+
+-- all bytes are in the set
+abbrev pub all : (ℕ → Bool) → List ℕ → Bool
+all f [] = true
+all f (b ∷ w) = f b && all f w

@@ -10,6 +10,7 @@ ghost use Rattle.pieces.specs.Next.{next, Begins, quotedNext};
 ghost use Rattle.pieces.specs.Answer.{reported, readAnswer, readSlots, fits, put};
 
 mod bytes;
+pub mod eights;
 mod runs;
 
 // What reading a text answers: the number of pieces, or a refusal with its place.

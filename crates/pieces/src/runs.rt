@@ -1,13 +1,14 @@
 // Where an open piece ends, by its kind.
 use crate::bytes;
+use crate::eights;
 ghost use mathlib.Core.Path.{_≡_};
 ghost use mathlib.Core.Bool.{cond};
-ghost use Prim.Native.Nat.{_+_, _<_};
-ghost use lib.ListN.{drop, length};
+ghost use Prim.Native.Nat.{_+_, _≤_, _<_};
+ghost use lib.ListN.{take, drop, length};
 ghost use Rattle.pieces.specs.Class.{class, digit, isGap};
 ghost use Rattle.pieces.specs.Reading.{word, number, operator};
-ghost use Rattle.pieces.specs.Sets.{member, runLength};
-ghost use Rattle.pieces.specs.Ends.{EndsAt, QuoteEnds, taken, joinAt};
+ghost use Rattle.pieces.specs.Sets.{member, runLength, all};
+ghost use Rattle.pieces.specs.Ends.{EndsAt, QuoteEnds, taken, joinAt, ordinary};
 
 // Where a quote ends: behind the quote that closes it, or never.
 pub enum QuoteEnd {
@@ -43,18 +44,63 @@ pub fn operator_end(text: &[u8], from: usize) -> usize
 pub fn quote_end(text: &[u8], from: usize, quote: u8) -> QuoteEnd
     ensures { λ r. ⌜ QuoteEnds (now (text .entry)) quote from r ⌝ }
 {
-    let mut i = from;
+    let mut i = ordinary_end(text, from, quote);
     while i < text.len() {
-        let b = text[i];
-        if b == quote {
+        if text[i] == quote {
             return QuoteEnd::At(i + 1);
         }
-        if b == b'\\' {
-            i += 1;
+        i = ordinary_end(text, i + 2, quote); // a backslash takes the byte behind it along
+    }
+    QuoteEnd::Never
+}
+
+// Behind the ordinary bytes that start at `from`: neither the quote nor a backslash.
+fn ordinary_end(text: &[u8], from: usize, quote: u8) -> usize
+    ensures { λ r. ⌜ r ≡ from + runLength (ordinary quote) (drop from (now (text .entry))) ⌝ }
+{
+    let mut i = ordinary_eights(text, from, quote);
+    while i < text.len() {
+        if !is_ordinary(quote, text[i]) {
+            return i;
         }
         i += 1;
     }
-    QuoteEnd::Never
+    i
+}
+
+fn is_ordinary(quote: u8, b: u8) -> bool
+    ensures { λ r. ⌜ r ≡ ordinary quote b ⌝ }
+{
+    if b == quote {
+        return false;
+    }
+    b != b'\\'
+}
+
+// Behind as many of them as eights that are tested at once pass over.
+fn ordinary_eights(text: &[u8], from: usize, quote: u8) -> usize
+    ensures { λ r. ⌜ r + runLength (ordinary quote) (drop r (now (text .entry))) ≡ from + runLength (ordinary quote) (drop from (now (text .entry))) ⌝ }
+{
+    if text.len() < 8 {
+        return from;
+    }
+    let last = text.len() - 8;
+    let mut i = from;
+    while i <= last {
+        if !eight_ordinary(text, i, quote) {
+            return i;
+        }
+        i += 8;
+    }
+    i
+}
+
+fn eight_ordinary(text: &[u8], at: usize, quote: u8) -> bool
+    requires { ⌜ at + 8 ≤ length (now text) ⌝ }
+    ensures { λ r. ⌜ r ≡ all (ordinary quote) (take 8 (drop at (now (text .entry)))) ⌝ }
+{
+    let x = eights::eight_bytes(text, at);
+    eights::bytes_other(x, quote) & eights::bytes_other(x, b'\\') == eights::HIGH
 }
 
 // Behind a run that a digit began: word bytes, and each `.` that a digit follows.

@@ -10,8 +10,9 @@ use Rattle.report.proofs.Logic.{split}
 use Rattle.rows.specs.Kinds.{LeftBrace, RightBrace, LeftParen, RightParen, LeftBracket, RightBracket, Comma, Colon, Semicolon, Question, Dot, DotDot, ColonColon, Hash, Bang, BangHash, Minus, Else}
 use Rattle.pieces.specs.Class.{class}
 use Rattle.pieces.specs.Reading.{read}
+use Rattle.pieces.specs.Sets.{all}
 use Rattle.push_token.specs.Plain.{sameBytes, operatorByte, onlyOperators, hasItsLexeme, readsWhole, beginsOperator}
-use Rattle.plain.specs.Scan.{bracketOf, all, runOf}
+use Rattle.plain.specs.Scan.{bracketOf, runOf}
 use Rattle.plain.proofs.Bytes.{same-eq}
 use Rattle.plain.proofs.Runs.{operators-whole}
 

@@ -18,8 +18,9 @@ use Rattle.pieces.specs.Class.{class, digit, within, isWord, isOperator}
 use Rattle.pieces.specs.Reading.{done, piece, Kind, word, number, operator, inside, takes, join, opens, begin, peek, read}
 use Rattle.pieces.proofs.Sets.{word-of, operator-of}
 use Rattle.pieces.proofs.Whole.{Solid}
+use Rattle.pieces.specs.Sets.{all}
 use Rattle.push_token.specs.Plain.{operatorByte, readsWhole, beginsOperator, endsOperator}
-use Rattle.plain.specs.Scan.{isWordByte, all, runOf}
+use Rattle.plain.specs.Scan.{isWordByte, runOf}
 
 -- ---- the loops
 

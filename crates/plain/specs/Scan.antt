@@ -9,6 +9,7 @@ use Rattle.rows.specs.Kinds.{TokenRow, Eof, Newline, LeftBrace, RightBrace, Lef
 use Rattle.rows.specs.Row.{Row}
 use Rattle.rows.specs.Token.{bytesOf}
 use Rattle.pieces.specs.Class.{class, digit, isWord}
+use Rattle.pieces.specs.Sets.{all}
 use Rattle.push_token.specs.Plain.{operatorByte, hasItsLexeme, readsWhole, beginsOperator, endsOperator, beginsDigit, tightBefore, tightBehind}
 use Rattle.plain.specs.declared.seen.Seen.{Seen}
 
@@ -85,10 +86,6 @@ factsOf s = record {
 
 abbrev pub isWordByte : ℕ → Bool
 isWordByte b = isWord (class b)
-
-abbrev pub all : (ℕ → Bool) → List ℕ → Bool
-all f [] = true
-all f (b ∷ w) = f b && all f w
 
 -- w has bytes, and all are in the set f
 abbrev pub runOf : (ℕ → Bool) → List ℕ → Bool

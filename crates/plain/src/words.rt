@@ -1,11 +1,13 @@
 // Runs of word bytes.
-use rows::number_at;
+use pieces::eights;
 ghost use mathlib.Core.Path.{_≡_};
 ghost use Prim.Native.Nat.{_+_, _≤_, _<_, min};
 ghost use lib.ListN.{length, take, drop};
 ghost use Rattle.pieces.specs.Class.{within};
-ghost use Rattle.plain.specs.Scan.{isWordByte, all, runOf};
-ghost use Rattle.plain.specs.Eight.{joined, eightOnes, bytesWithin};
+ghost use Rattle.pieces.specs.Sets.{all};
+ghost use Rattle.pieces.specs.Eight.{eightOnes};
+ghost use Rattle.plain.specs.Scan.{isWordByte, runOf};
+ghost use Rattle.plain.specs.Eight.{bytesWithin};
 
 // Whether there are bytes, and all are word bytes. Eight are tested at a time: the last eight of all, where fewer are left.
 pub fn is_words(lexeme: &[u8]) -> bool
@@ -54,25 +56,18 @@ fn smaller(a: usize, b: usize) -> usize
 
 // ---- eight bytes in one number
 
-// In each byte: the high bit, the bits below it, 1.
-const HIGH: u64 = 0x8080_8080_8080_8080;
-
-const LOW: u64 = 0x7f7f_7f7f_7f7f_7f7f;
-
-const ONES: u64 = 0x0101_0101_0101_0101;
-
 // Whether the eight bytes from `at` on are word bytes. The answer for each stands in its high bit; a byte with that bit set is one.
 fn eight_words(s: &[u8], at: usize) -> bool
     requires { ⌜ at + 8 ≤ length (now s) ⌝ }
     ensures { λ r. ⌜ r ≡ all isWordByte (take 8 (drop at (now (s .entry)))) ⌝ }
 {
-    let x = eight_bytes(s, at);
-    let low = x & LOW;
+    let x = eights::eight_bytes(s, at);
+    let low = x & eights::LOW;
     let word = bytes_within(low, b'0', b'9')
         ^ bytes_within(low, b'A', b'Z')
         ^ bytes_within(low, b'_', b'_')
         ^ bytes_within(low, b'a', b'z');
-    (word | x) & HIGH == HIGH
+    (word | x) & eights::HIGH == eights::HIGH
 }
 
 // In each byte's high bit, whether the byte is one of `first` to `last`: whether it reaches the one and not what is behind the other.
@@ -81,21 +76,7 @@ fn bytes_within(low: u64, first: u8, last: u8) -> u64
     requires { ⌜ (low ≤ 0x7f7f_7f7f_7f7f_7f7f) × (first ≤ 128) × (last ≤ 127) ⌝ }
     ensures { λ r. ⌜ r ≡ bytesWithin eightOnes low first last ⌝ }
 {
-    (low + (128 - first as u64) * ONES) ^ (low + (127 - last as u64) * ONES)
-}
-
-// The eight bytes from `at` on, little-endian; the sum compiles to one load.
-fn eight_bytes(s: &[u8], at: usize) -> u64
-    requires { ⌜ at + 8 ≤ length (now s) ⌝ }
-    ensures { λ r. ⌜ r ≡ joined (λ b. b) (take 8 (drop at (now (s .entry)))) ⌝ }
-{
-    wide(number_at(s, at)) + wide(number_at(s, at + 4)) * 0x1_0000_0000
-}
-
-fn wide(x: u32) -> u64
-    ensures { λ r. ⌜ (r ≡ x) × (r < 4294967296) ⌝ }
-{
-    x as u64
+    (low + (128 - first as u64) * eights::ONES) ^ (low + (127 - last as u64) * eights::ONES)
 }
 
 // ---- one byte

@@ -1,44 +1,45 @@
 -- `pieces::runs::quote_end` meets its contract. Assumes nothing.
-use mathlib.Core.Logic.{⊎-elim}
 use Prim.Native.Nat.{_-_}
 use native.Mathlib.Omega.{arith}
 use lib.ListN.{length}
 use borrow.Author.Needs.{needs}
-use Rattle.pieces.specs.Reading.{quoted}
-use Rattle.pieces.proofs.Quote.{quote-closed, quote-more, quote-escaped, quote-never}
-use Rattle.pieces.proofs.Scan.{Reaches, reaches-start}
+use Rattle.pieces.proofs.Quote.{Stops, stops, quote-closed, quote-escaped, quote-never}
+use Rattle.pieces.proofs.Scan.{reaches-start}
 use Rattle.pieces.proofs.runs.quote_end.Statement.{statement}
 use Rattle.pieces.proofs.runs.quote_end.Tie as tie
 
 abbrev Inv-loop : tie.InvT-loop
-Inv-loop text from quote i₀ i = Reaches text (quoted quote) from (quoted quote) i
+Inv-loop text from quote i₀ i = Stops text quote from i
 
 abbrev μ-loop : tie.MeasureT-loop
 μ-loop text from quote i₀ i = length text - i
 
+ordinary-end-requires : tie.Need-ordinary-end-requires Inv-loop μ-loop
+ordinary-end-requires c κs = search needs
+
 loop-holds : tie.Need-loop-holds Inv-loop μ-loop
-loop-holds c = reaches-start
+loop-holds c = stops reaches-start (c .ordinary-end .ensures)
 
-shared-slice-read-b : tie.Need-shared-slice-read-b Inv-loop μ-loop
-shared-slice-read-b c = search needs
+shared-slice-read-if1 : tie.Need-shared-slice-read-if1 Inv-loop μ-loop
+shared-slice-read-if1 c = search needs
 
-add-t10 : tie.Need-add-t10 Inv-loop μ-loop
-add-t10 c = search needs
+add-t9 : tie.Need-add-t9 Inv-loop μ-loop
+add-t9 c = search needs
 
 returns : tie.Need-returns Inv-loop μ-loop
 returns c = quote-closed (c .before .before .before .loop .inv) (search needs) (c .if1 .taken)
 
-add-i : tie.Need-add-i Inv-loop μ-loop
-add-i c = search needs
+add-ordinary-end : tie.Need-add-ordinary-end Inv-loop μ-loop
+add-ordinary-end c = search needs
 
-add-i-2 : tie.Need-add-i-2 Inv-loop μ-loop
-add-i-2 c = ⊎-elim (λ w. omega arith) (λ w. omega arith) (c .before .if2 .came)
+ordinary-end-requires-2 : tie.Need-ordinary-end-requires-2 Inv-loop μ-loop
+ordinary-end-requires-2 c κs = search needs
 
 loop-less : tie.Need-loop-less Inv-loop μ-loop
-loop-less c = ⊎-elim (λ w. omega arith) (λ w. omega arith) (c .before .if2 .came)
+loop-less c = search needs
 
 loop-again : tie.Need-loop-again Inv-loop μ-loop
-loop-again c = ⊎-elim (λ w. rw (w .1) (quote-escaped (c .before .before .before .before .before .loop .inv) (search needs) (c .before .before .if1 .left) (w .0 .taken))) (λ w. rw (w .1) (quote-more (c .before .before .before .before .before .loop .inv) (search needs) (c .before .before .if1 .left) (w .0 .left))) (c .before .if2 .came)
+loop-again c = stops (quote-escaped (c .before .before .before .before .loop .inv) (search needs) (c .before .if1 .left)) (c .ordinary-end2 .ensures)
 
 returns-2 : tie.Need-returns-2 Inv-loop μ-loop
 returns-2 c = quote-never (c .before .loop .inv) (search needs)
@@ -49,12 +50,13 @@ quote-end-spec =
     (tie.spec
     Inv-loop
     μ-loop
+    ordinary-end-requires
     loop-holds
-    shared-slice-read-b
-    add-t10
+    shared-slice-read-if1
+    add-t9
     returns
-    add-i
-    add-i-2
+    add-ordinary-end
+    ordinary-end-requires-2
     loop-less
     loop-again
     returns-2)

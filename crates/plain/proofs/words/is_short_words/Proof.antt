@@ -4,7 +4,8 @@ use Prim.Native.Nat.{_-_}
 use lib.ListN.{length, drop}
 use borrow.Author.Needs.{needs}
 use borrow.Author.Tests.{not-true, not-false}
-use Rattle.plain.specs.Scan.{isWordByte, all, runOf}
+use Rattle.pieces.specs.Sets.{all}
+use Rattle.plain.specs.Scan.{isWordByte, runOf}
 use Rattle.plain.proofs.Runs.{run-empty, run-start, run-more, run-stop, run-out}
 use Rattle.plain.proofs.words.is_short_words.Statement.{statement}
 use Rattle.plain.proofs.words.is_short_words.Tie as tie

@@ -6,7 +6,8 @@ use native.Mathlib.Omega.{arith}
 use lib.ListN.{length, drop}
 use borrow.Author.Needs.{needs}
 use borrow.Author.Tests.{not-true, not-false}
-use Rattle.plain.specs.Scan.{isWordByte, all, runOf}
+use Rattle.pieces.specs.Sets.{all}
+use Rattle.plain.specs.Scan.{isWordByte, runOf}
 use Rattle.plain.proofs.Runs.{run-start, run-out, eights-more, eights-stop}
 use Rattle.plain.proofs.words.is_words.Statement.{statement}
 use Rattle.plain.proofs.words.is_words.Tie as tie
