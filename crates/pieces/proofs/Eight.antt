@@ -41,7 +41,7 @@ eight-read s at h = from-drop s at ∙ first-eight (drop at s) (rw length-drop (
 -- ---- an operation acts on each byte
 
 -- takes bytes to bytes
-abbrev pub Bytewise : (ℕ → ℕ) → Type 0
+abbrev Bytewise : (ℕ → ℕ) → Type 0
 Bytewise f = (b : ℕ) → b < 256 → f b < 256
 
 -- has bytes alone

@@ -1,14 +1,14 @@
 -- The test of eight bytes at once for the ordinary bytes of a quote. Assumes nothing.
 use mathlib.Core.Bool.{Bool, true, false, not, _&&_, cond}
 use mathlib.Core.List.{List}
-use mathlib.Core.Path.{_≡_, refl, _∙_}
+use mathlib.Core.Path.{_≡_, refl}
 use Prim.Native.Nat.{ℕ, _+_, _*_, _≤_, _<_}
 use native.Mathlib.Nat.{mul-one}
 use native.Mathlib.Omega.{arith}
-use lib.Bits.{bitAnd, bitOr, bitXor, and-le-l, and-le-r, xor-lt, xor-self, xor-add-and}
+use lib.Bits.{bitAnd, bitXor, and-le-l, and-le-r, xor-lt, xor-self, xor-add-and}
 use lib.Dec.{eqb}
 use lib.ListN.{length, take, drop}
-use borrow.Author.Tests.{eqb-true, eqb-false, eq-eqb, ne-eqb}
+use borrow.Author.Tests.{eqb-true, eqb-false, ne-eqb}
 use Rattle.report.proofs.Logic.{split}
 use Rattle.report.proofs.Below.{below}
 use Rattle.pieces.specs.Sets.{all}

@@ -1,7 +1,7 @@
 -- An open quote: its ordinary bytes, and the byte behind them. Assumes nothing.
-use mathlib.Core.Bool.{Bool, true, false, not, _&&_, cond}
+use mathlib.Core.Bool.{false}
 use mathlib.Core.List.{List, [], _∷_}
-use mathlib.Core.Path.{_≡_, refl, sym, ap, _∙_}
+use mathlib.Core.Path.{_≡_, refl, sym, _∙_}
 use Prim.Native.Nat.{ℕ, suc, _+_, _≤_, _<_}
 use native.Mathlib.Nat.{add-zero, add-suc, suc-add}
 use native.Mathlib.Omega.{arith}
@@ -10,10 +10,10 @@ use lib.ListN.{length, getD, drop}
 use lib.Seq.{drop-drop}
 use borrow.Author.Tests.{eq-eqb, ne-eqb, eqb-true, ltb-true, ltb-false}
 use Rattle.report.proofs.Logic.{split, impossible}
-use Rattle.pieces.specs.Reading.{Reading, refused, Kind, closed, quoted, escaped, inside, read}
+use Rattle.pieces.specs.Reading.{refused, closed, quoted, escaped, inside, read}
 use Rattle.pieces.specs.Sets.{runLength}
-use Rattle.pieces.specs.Ends.{EndsAt, QuoteEnds, ordinary}
-use Rattle.pieces.proofs.Scan.{Reaches, reaches-start, reaches-more, reaches-end, ends-here, at-end, run-stops}
+use Rattle.pieces.specs.Ends.{EndsAt, ordinary}
+use Rattle.pieces.proofs.Scan.{Reaches, reaches-more, reaches-end, ends-here, at-end, run-stops}
 
 -- ---- the loop's invariant
 

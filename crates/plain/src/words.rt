@@ -1,7 +1,7 @@
 // Runs of word bytes.
 use pieces::eights;
 ghost use mathlib.Core.Path.{_≡_};
-ghost use Prim.Native.Nat.{_+_, _≤_, _<_, min};
+ghost use Prim.Native.Nat.{_+_, _≤_, min};
 ghost use lib.ListN.{length, take, drop};
 ghost use Rattle.pieces.specs.Class.{within};
 ghost use Rattle.pieces.specs.Sets.{all};

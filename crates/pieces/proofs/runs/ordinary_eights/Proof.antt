@@ -3,7 +3,7 @@ use mathlib.Core.Path.{_≡_, refl, sym, _∙_}
 use Prim.Native.Nat.{_+_, _-_}
 use lib.ListN.{length, drop}
 use borrow.Author.Needs.{needs}
-use borrow.Author.Tests.{not-true, not-false}
+use borrow.Author.Tests.{not-false}
 use Rattle.pieces.specs.Sets.{runLength}
 use Rattle.pieces.specs.Ends.{ordinary}
 use Rattle.pieces.proofs.Scan.{run-all}

@@ -1,6 +1,5 @@
 -- `pieces::runs::quote_end` meets its contract. Assumes nothing.
 use Prim.Native.Nat.{_-_}
-use native.Mathlib.Omega.{arith}
 use lib.ListN.{length}
 use borrow.Author.Needs.{needs}
 use Rattle.pieces.proofs.Quote.{Stops, stops, quote-closed, quote-escaped, quote-never}
