@@ -157,6 +157,8 @@ const TYPICAL: &str = "record Beacon { orbits : int , kept : bool , name : strin
 
 const LONG_NAMES: &str = "fourteen_bytes fourteen_bytes fourteen_bytes fourteen_bytes fourteen_bytes ,";
 
+const STRINGS: &str = "25:\"string\\sof\\stwenty_\" ,";
+
 const SMALL: &str = "fn add ( a : int , b : int ) 34:-> int NL { NL 34:return add ( a , b , 1 ) 34:+ b NL } NL";
 
 const WIDE: &str =
@@ -176,12 +178,13 @@ fn usual_inputs() -> Vec<Input> {
         Input::new("a small list", DEFAULTS, list(SMALL)),
         Input::new("wide broken lists", DEFAULTS, repeated(WIDE, MOST_ROWS)),
         Input::new("comments", DEFAULTS, repeated(COMMENTED, MOST_ROWS)),
+        Input::new("strings of 20 bytes, commas", DEFAULTS, repeated(STRINGS, MOST_ROWS)),
     ]
 }
 
 /// Each list in full and with half its rows, so that the growth is seen.
 fn hostile_inputs() -> Vec<Input> {
-    let lists: [(&str, Options, fn(usize) -> Vec<Row>); 13] = [
+    let lists: [(&str, Options, fn(usize) -> Vec<Row>); 14] = [
         ("all `(`", DEFAULTS, |n| repeated("(", n)),
         ("all `[`", DEFAULTS, |n| repeated("[", n)),
         ("all `{`", SAME_LINE, |n| repeated("{", n)),
@@ -194,6 +197,7 @@ fn hostile_inputs() -> Vec<Input> {
         ("`fn (`", DEFAULTS, |n| repeated("fn (", n)),
         ("all `(`, a `,` last", DEFAULTS, |n| [repeated("(", n - 1), list(",")].concat()),
         ("all `{`, a `}` last", SAME_LINE, |n| [repeated("{", n - 1), list("}")].concat()),
+        ("`(` and a name behind a comment, a `,` last", DEFAULTS, |n| [repeated("( l0:c;a", n - 1), list(",")].concat()),
         ("`(` nested around `a ,`", DEFAULTS, |n| nested_around("(", "a ,", ")", n)),
     ];
     let sizes = [MOST_ROWS / 2, MOST_ROWS];
