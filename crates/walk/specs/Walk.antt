@@ -1,13 +1,13 @@
 -- The walk over checked rows: a token's rows, and what a walk comes to.
 -- Assumes nothing.
-use mathlib.Core.Bool.{Bool, true, false, cond, _&&_}
+use mathlib.Core.Bool.{true, cond}
 use mathlib.Core.List.{List, [], _∷_, _++_}
 use mathlib.Core.Option.{none}
 use mathlib.Core.Path.{_≡_}
 use Prim.Native.Nat.{ℕ, zero, suc, _+_, _-_, _*_, _/_, _%_, _≤_, _<_}
 use lib.Dec.{eqb}
 use lib.ListN.{length, drop}
-use Rattle.report.specs.Report.{deep, full}
+use Rattle.report.specs.Report.{deep}
 use Rattle.rows.specs.Kinds.{TokenRow, Comma, RightBrace}
 use Rattle.rows.specs.Row.{Row, rowAt, rowsOf}
 use Rattle.rows.specs.Checks.{atStart, badFrom}
@@ -22,7 +22,7 @@ use Rattle.format.specs.declared.formatter.Ends.{Ends}
 use Rattle.format.specs.declared.formatter.TokenAt.{TokenAt}
 use Rattle.walk.specs.declared.Walked.{Walked}
 use Rattle.walk.specs.declared.Walked.the-variants.{Finished, Deep, Full}
-use Rattle.format.specs.Pen.{Pen, stateOf, opts, formatterOf, Names, Ahead}
+use Rattle.format.specs.Pen.{Pen, opts, formatterOf, Names, Ahead}
 use Rattle.format.specs.Trivia.{Part, triviaIn}
 
 -- how many rows of a what stand first

@@ -1,7 +1,5 @@
 -- `stretch::has_room` meets its contract. Assumes nothing.
 use borrow.Author.Needs.{needs}
-use borrow.Author.Tests.{leb-true}
-use native.Mathlib.Omega.{arith}
 use Rattle.report.proofs.Logic.{impossible′}
 use Rattle.stretch.proofs.has_room.Statement.{statement}
 use Rattle.stretch.proofs.has_room.Tie as tie

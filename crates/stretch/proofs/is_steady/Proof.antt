@@ -1,9 +1,4 @@
 -- `stretch::is_steady` meets its contract. Assumes nothing.
-use mathlib.Core.Path.{_≡_}
-use native.Mathlib.Omega.{arith}
-use borrow.Author.Tests.{lt-ltb, le-ltb, eq-eqb, ne-eqb}
-use lib.Dec.{eqb, ltb}
-use Rattle.stretch.specs.Stretch.{isSteady}
 use Rattle.stretch.proofs.Taken.{above-record, at-comma, below-comma, between}
 use Rattle.stretch.proofs.is_steady.Statement.{statement}
 use Rattle.stretch.proofs.is_steady.Tie as tie

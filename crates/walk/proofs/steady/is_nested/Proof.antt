@@ -1,5 +1,4 @@
 -- `walk::steady::is_nested` meets its contract. Assumes nothing.
-use borrow.Author.Tests.{not-false}
 use borrow.Author.Needs.{needs}
 use Rattle.report.proofs.Logic.{impossible′}
 use Rattle.walk.proofs.steady.is_nested.Statement.{statement}
