@@ -36,7 +36,7 @@ row-token text r rs e =
 goes-on : (size i : ℕ) (s : State) → length (s .out) ≤ size → s .formatter .tooDeep ≡ none → checked size i s ≡ finished s
 goes-on size i s h e = rw (le-ltb size (length (s .out)) h, e)
 
-lay-more : (o : Options) (size : ℕ) (s : State) (i : ℕ) (t : Token) (ts : List Token) → layFrom o size (finished s) i (t ∷ ts) ≡ layFrom o size (checked size i (run (turn o i t ts) s)) (i + 1) ts
+pub lay-more : (o : Options) (size : ℕ) (s : State) (i : ℕ) (t : Token) (ts : List Token) → layFrom o size (finished s) i (t ∷ ts) ≡ layFrom o size (checked size i (run (turn o i t ts) s)) (i + 1) ts
 unfolding layFrom
 lay-more o size s i t ts = refl
 

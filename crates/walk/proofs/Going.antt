@@ -24,6 +24,7 @@ use Rattle.format.specs.Pen.{Pen, on, stateOf, opts, formatterOf, signatureOf, 
 use Rattle.format.specs.Does.{Does, Arrives}
 use Rattle.format.proofs.Does.{far}
 use Rattle.sink.proofs.Sink.{later}
+use Rattle.stretch.proofs.Lone.{lay-more}
 use Rattle.walk.specs.declared.Walked.{Walked}
 use Rattle.walk.specs.declared.Walked.the-variants.{Finished, Deep, Full}
 use Rattle.walk.specs.Walk.{Fresh, Ending, TokenAtRow, TokenRows, Trivial, Walks, walkOf, walkedOf, Laid}
@@ -36,10 +37,6 @@ lay-stopped : (o : Options) (size n j i : ℕ) (ts : List Token) → layFrom o s
 unfolding layFrom
 lay-stopped o size n j i [] = refl
 lay-stopped o size n j i (t ∷ ts) = lay-stopped o size n j (i + 1) ts
-
-lay-more : (o : Options) (size : ℕ) (s : State) (i : ℕ) (t : Token) (ts : List Token) → layFrom o size (finished s) i (t ∷ ts) ≡ layFrom o size (checked size i (run (turn o i t ts) s)) (i + 1) ts
-unfolding layFrom
-lay-more o size s i t ts = refl
 
 -- ---- the counts
 
