@@ -178,7 +178,7 @@ fn usual_inputs() -> Vec<Input> {
         Input::new("a small list", DEFAULTS, list(SMALL)),
         Input::new("wide broken lists", DEFAULTS, repeated(WIDE, MOST_ROWS)),
         Input::new("comments", DEFAULTS, repeated(COMMENTED, MOST_ROWS)),
-        Input::new("strings of 20 bytes, commas", DEFAULTS, repeated(STRINGS, MOST_ROWS)),
+        Input::new("strings of 19 bytes, commas", DEFAULTS, repeated(STRINGS, MOST_ROWS)),
     ]
 }
 
