@@ -1,5 +1,5 @@
-// The formatter's state, under the names of format.rs. It goes in and comes back by value; the output and the
-// broken-group stack are lent beside it, so that no array is copied.
+// The fields of the formatter's state, under the names of format.rs. They go in and come back by value; the output and the
+// broken-group stack are lent beside them, so that no array is copied.
 use lookahead::is_value_kind;
 use rows::kinds;
 use sink::numbers::indent_size;

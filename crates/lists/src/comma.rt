@@ -1,4 +1,4 @@
-// A comma that ends its line.
+// What a comma does where it ends its line.
 use fields::Before;
 use fields::Fields;
 use fields::NewlineAt;

@@ -1,5 +1,4 @@
 -- `fields::Fields::gap_before` meets its contract. Assumes nothing.
-use mathlib.Core.Path.{_∙_, sym}
 use borrow.Author.Needs.{needs}
 use Rattle.fields.proofs.Fields.gap_before.Statement.{statement}
 use Rattle.fields.proofs.Fields.gap_before.Tie as tie
