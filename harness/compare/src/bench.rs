@@ -1,6 +1,6 @@
 //! The benchmark: the Rust and the doors on the same inputs, in one run, as Markdown tables.
 use crate::doors::{self, Options};
-use crate::lists::{list, pack, Packed, Row, MOST_ROWS};
+use crate::lists::{list, pack, usual, Packed, Row, MOST_ROWS, USUAL};
 use crate::{clock, model, rust_side, sheet};
 use std::hint::black_box;
 
@@ -8,6 +8,9 @@ const DEFAULTS: Options = [1, 4, 40, 40];
 const NO_INDENT: Options = [1, 0, 40, 40];
 const WIDEST: Options = [1, 0, 65_535, 65_535];
 const SAME_LINE: Options = [0, 4, 40, 40];
+
+/// Rows of a list of two kinds.
+const PAIR_ROWS: usize = 1024;
 
 /// All tables, or those of usual inputs alone; `repeats` samples for each number, of which the best counts.
 pub fn run(repeats: usize, hostile: bool) {
@@ -34,6 +37,34 @@ pub fn run(repeats: usize, hostile: bool) {
     println!("| call | input | bytes | a plain Rust loop | ours | ours / Rust |");
     println!("|---|---|---|---|---|---|");
     measure_readers(repeats);
+}
+
+/// Each list of two kinds in turns, and how ours compares; the lists on which ours is slower, worst first, as a Markdown table.
+pub fn run_pairs(repeats: usize) {
+    let kinds = 0..USUAL.len() as u32;
+    let pairs: Vec<(u32, u32)> = kinds.clone().flat_map(|a| kinds.clone().skip(a as usize).map(move |b| (a, b))).collect();
+    let mut ratios: Vec<(f64, String)> = pairs.iter().map(|&pair| pair_ratio(pair, repeats)).collect();
+    ratios.sort_by(|a, b| b.0.total_cmp(&a.0));
+    let slower = ratios.iter().take_while(|&&(ratio, _)| ratio > 1.0).count();
+    println!("Of {} lists, ours is slower on {slower}; the median is {:.2}.\n", ratios.len(), ratios[ratios.len() / 2].0);
+    println!("| list | Rust | ours | ours / Rust |\n|---|---|---|---|");
+    ratios[..slower].iter().for_each(|(_, line)| println!("{line}"));
+}
+
+fn pair_ratio((first, second): (u32, u32), repeats: usize) -> (f64, String) {
+    let rows: Vec<Row> = [first, second].map(usual).into_iter().cycle().take(PAIR_ROWS).collect();
+    let input = Input::new("", DEFAULTS, rows);
+    let [rust, ours, _] = input.times(repeats);
+    let names = [first, second].map(name);
+    (ours / rust, format!("| `{} {}` | {rust:.1} | {ours:.1} | {:.2} |", names[0], names[1], ours / rust))
+}
+
+fn name(kind: u32) -> &'static str {
+    match kind {
+        0 => "EOF",
+        1 => "NL",
+        _ => USUAL[kind as usize],
+    }
 }
 
 /// Lays one of the usual inputs out by the Rust or by ours, and prints its name and how many tokens were laid out.
@@ -73,6 +104,25 @@ impl Input {
     fn measure(&self, repeats: usize) {
         let Packed { rows, text } = pack(&self.rows);
         let read = model::tokens(&rows, &text).unwrap();
+        let expected = rust_side::text(&rust_side::tokens(&read), self.options);
+        let refusal = doors::layout(self.options, &rows, &text, &mut vec![0; expected.len()]).refusal;
+        let [rust, ours, cleared] = self.times(repeats);
+        let note = if refusal == 0 { String::new() } else { format!(" (refusal {refusal})") };
+        println!(
+            "| {}{note} | {:?} | {} | {} | {} | {rust:.1} | {ours:.1} | {cleared:.1} | {:.2} |",
+            self.name,
+            self.options,
+            self.rows.len(),
+            read.len(),
+            expected.len(),
+            ours / rust
+        );
+    }
+
+    /// Nanoseconds a token: the Rust's, ours, and ours with the output cleared first.
+    fn times(&self, repeats: usize) -> [f64; 3] {
+        let Packed { rows, text } = pack(&self.rows);
+        let read = model::tokens(&rows, &text).unwrap();
         let tokens = rust_side::tokens(&read);
         let expected = rust_side::text(&tokens, self.options);
         let mut out = vec![0; expected.len()];
@@ -84,17 +134,7 @@ impl Input {
         let mut ours = || self.run_ours(&rows, &text, &mut out);
         let mut cleared = || self.run_cleared(&rows, &text, &mut cleared_out);
         let times = best_of_each(repeats, [&mut rust, &mut ours, &mut cleared]);
-        let [rust, ours, cleared] = times.map(|ns| ns / (self.calls * read.len()) as f64);
-        let note = if answer.refusal == 0 { String::new() } else { format!(" (refusal {})", answer.refusal) };
-        println!(
-            "| {}{note} | {:?} | {} | {} | {} | {rust:.1} | {ours:.1} | {cleared:.1} | {:.2} |",
-            self.name,
-            self.options,
-            self.rows.len(),
-            read.len(),
-            expected.len(),
-            ours / rust
-        );
+        times.map(|ns| ns / (self.calls * read.len()) as f64)
     }
 
     fn measure_parts(&self, repeats: usize) {

@@ -70,8 +70,12 @@ fn is_number(s: &str) -> bool {
     !s.is_empty() && s.bytes().all(|b| b.is_ascii_digit())
 }
 
+/// A token of the kind, with its usual lexeme.
+pub fn usual(kind: u32) -> Row {
+    Row { what: TOKEN, kind, bytes: USUAL[kind as usize].into() }
+}
+
 fn token(word: &str) -> Row {
-    let usual = |kind: u32| Row { what: TOKEN, kind, bytes: USUAL[kind as usize].into() };
     match word.split_once(':') {
         Some((kind, bytes)) if is_number(kind) => {
             return Row { what: TOKEN, kind: kind.parse().unwrap(), bytes: unescape(bytes) }

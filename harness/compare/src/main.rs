@@ -30,6 +30,7 @@ use std::time::Instant;
 
 const USAGE: &str = "compare [STEP]: compares all cases, or one in STEP of them
 compare bench [SAMPLES [usual]]: the benchmark, as Markdown; `usual` leaves the hostile lists out
+compare pairs SAMPLES: the lists of two kinds in turns on which ours is slower than the Rust, as Markdown
 compare calls rust|ours INPUT TIMES: lays out one of the benchmark's usual inputs, counted from 1, for a tool that counts";
 
 fn main() {
@@ -40,6 +41,7 @@ fn main() {
         ["bench"] => bench::run(15, true),
         ["bench", samples] => bench::run(number(samples), true),
         ["bench", samples, "usual"] => bench::run(number(samples), false),
+        ["pairs", samples] => bench::run_pairs(number(samples)),
         ["calls", "rust", input, times] => bench::call(number(input), number(times), true),
         ["calls", "ours", input, times] => bench::call(number(input), number(times), false),
         [step] => compare(number(step) as u64),
