@@ -1,11 +1,13 @@
-// The plain mark (document 01), in one pass over rows that were checked.
+// The plain mark (document 01), in one pass over the rows, which looks for bad rows too.
 use crate::lexeme::is_name;
 use crate::seen::Seen;
 use rows::ROW_BYTES;
 use rows::kinds;
+use rows::misnames;
 use rows::row_at;
-ghost use mathlib.Core.Path.{_≡_};
+ghost use mathlib.Core.Bool.{true};
 ghost use mathlib.Core.Option.{none};
+ghost use mathlib.Core.Path.{_≡_};
 ghost use lib.ListN.{length};
 ghost use Rattle.rows.specs.Row.{rowsOf};
 ghost use Rattle.rows.specs.Token.{tokensOf};
@@ -16,16 +18,19 @@ mod lexeme;
 mod seen;
 mod words;
 
-// Whether the tokens that the rows name in the text are plain. The rows are those that `rows::check` calls good.
+// Whether the tokens that the rows name in the text are plain: the mark where no row is bad, and no where one is.
 pub fn plain_mark(rows: &[u8], text: &[u8]) -> bool
-    requires { ⌜ badFrom (length (now text)) atStart 0 (rowsOf (now rows)) ≡ none ⌝ }
-    ensures { λ r. ⌜ r ≡ plain (tokensOf (now (rows .entry)) (now (text .entry))) ⌝ }
+    ensures good { λ r. ⌜ (r ≡ true → badFrom (length (now (text .entry))) atStart 0 (rowsOf (now (rows .entry))) ≡ none) ⌝ }
+    ensures mark { λ r. ⌜ (badFrom (length (now (text .entry))) atStart 0 (rowsOf (now (rows .entry))) ≡ none → r ≡ plain (tokensOf (now (rows .entry)) (now (text .entry)))) ⌝ }
 {
     let mut seen = Seen::new();
     let mut at = 0;
     while ROW_BYTES <= rows.len() - at {
         let row = row_at(rows, at);
         if row.what != kinds::TOKEN {
+            return false;
+        }
+        if misnames(row, kinds::OTHER, text.len()) {
             return false;
         }
         let start = row.start as usize;

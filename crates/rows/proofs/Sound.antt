@@ -10,7 +10,7 @@ use lib.ListN.{length, getD}
 use lib.Seq.{length-slice}
 use borrow.Author.Tests.{ltb-false}
 use Rattle.report.proofs.Logic.{or-left, or-right}
-use Rattle.rows.specs.Kinds.{Trailing}
+use Rattle.rows.specs.Kinds.{TokenRow, Trailing, Other}
 use Rattle.rows.specs.Row.{Row}
 use Rattle.rows.specs.Options.{orElse}
 use Rattle.rows.specs.Token.{bytesOf}
@@ -42,6 +42,18 @@ sound size before r e =
       within = ltb-false _ _ (or-right (a || b || c) d e₄);
       trails = or-right (a || b || c || d) t e;
     }
+
+-- a token's row: what `misnames` answers of it
+
+or-none : (a : Bool) → a || false ≡ a
+or-none true = refl
+or-none false = refl
+
+abbrev pub misnamed : ℕ → ℕ → Row → Bool
+misnamed top size r = ltb top (r .kind) || ltb (r .end) (r .start) || ltb size (r .end)
+
+pub token-bad : (size : ℕ) (before : Before) (r : Row) → r .what ≡ TokenRow → badRow size before r ≡ misnamed Other size r
+token-bad size before r w = rw w (or-none (misnamed Other size r))
 
 -- ---- the rows of a list that is not refused
 

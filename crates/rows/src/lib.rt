@@ -1,11 +1,12 @@
 // The rows that the lexer sends, and what is looked at before a layout (document 01, 'The rows arrive').
-ghost use mathlib.Core.Bool.{_||_};
+ghost use mathlib.Core.Bool.{true, _||_};
+ghost use mathlib.Core.Option.{none};
 ghost use mathlib.Core.Path.{_≡_};
 ghost use Prim.Native.Nat.{_+_, _≤_, _<_};
 ghost use lib.Dec.{ltb};
 ghost use lib.ListN.{length};
-ghost use Rattle.rows.specs.Row.{number, rowAt};
-ghost use Rattle.rows.specs.Checks.{mayTrail, badRow, after};
+ghost use Rattle.rows.specs.Row.{number, rowAt, rowsOf};
+ghost use Rattle.rows.specs.Checks.{mayTrail, badRow, atStart, after, badFrom};
 ghost use Rattle.rows.specs.Answer.{reported, checkReport, rowsReport, eachRowReport, rowOf};
 
 pub mod kinds;
@@ -29,6 +30,22 @@ pub fn check(
 ) -> Checked
     ensures { λ r. ⌜ reported r ≡ checkReport style «indent_width» «signature_width» «list_width» (now (rows .entry)) (length (now (text .entry))) ⌝ }
 {
+    check_unless(style, indent_width, signature_width, list_width, rows, text, false)
+}
+
+// The same for a caller who may know that no row is bad: `good` tells so, and none is looked at.
+pub fn check_unless(
+    style: u32,
+    indent_width: u32,
+    signature_width: u32,
+    list_width: u32,
+    rows: &[u8],
+    text: &[u8],
+    good: bool,
+) -> Checked
+    requires { ⌜ (good ≡ true → badFrom (length (now text)) atStart 0 (rowsOf (now rows)) ≡ none) ⌝ }
+    ensures { λ r. ⌜ reported r ≡ checkReport style «indent_width» «signature_width» «list_width» (now (rows .entry)) (length (now (text .entry))) ⌝ }
+{
     if 1 < style {
         return Checked::BadOption(0);
     }
@@ -41,7 +58,7 @@ pub fn check(
     if 65535 < list_width {
         return Checked::BadOption(3);
     }
-    check_rows(rows, text.len())
+    check_rows(rows, text.len(), good)
 }
 
 // The bytes of a row.
@@ -88,7 +105,8 @@ fn wide(b: u8) -> u32
 }
 
 // Refusals 2 and 3, where the text has `size` bytes.
-fn check_rows(rows: &[u8], size: usize) -> Checked
+fn check_rows(rows: &[u8], size: usize, good: bool) -> Checked
+    requires { ⌜ (good ≡ true → badFrom size atStart 0 (rowsOf (now rows)) ≡ none) ⌝ }
     ensures { λ r. ⌜ reported r ≡ rowsReport (now (rows .entry)) size ⌝ }
 {
     if rows.len() % ROW_BYTES != 0 {
@@ -96,6 +114,9 @@ fn check_rows(rows: &[u8], size: usize) -> Checked
     }
     if MOST_ROWS < rows.len() / ROW_BYTES {
         return Checked::Ragged;
+    }
+    if good {
+        return Checked::Good;
     }
     check_each_row(rows, size)
 }
@@ -145,7 +166,7 @@ fn is_bad(row: Row, before: u32, size: usize) -> bool
 }
 
 // Whether a row has a kind above the highest of its what, or names no bytes of the text.
-fn misnames(row: Row, top: u32, size: usize) -> bool
+pub fn misnames(row: Row, top: u32, size: usize) -> bool
     ensures { λ r. ⌜ r ≡ (ltb top (row .kind) || ltb (row .end) (row .start) || ltb size (row .end)) ⌝ }
 {
     if top < row.kind {

@@ -6,7 +6,7 @@ use lib.ListN.{length}
 use borrow.Author.Needs.{needs}
 use borrow.Author.Tests.{not-true, not-false}
 use Rattle.plain.specs.Scan.{factsOf}
-use Rattle.plain.proofs.Pass.{Left, start, inside, trivia, unfit, more, more-name, finished}
+use Rattle.plain.proofs.Pass.{Left, start, inside, trivia, named-badly, unfit, more, more-name, finished}
 use Rattle.plain.proofs.plain_mark.Statement.{statement}
 use Rattle.plain.proofs.plain_mark.Tie as tie
 
@@ -20,7 +20,7 @@ new-requires : tie.Need-new-requires Inv-loop μ-loop
 new-requires c κs = search needs
 
 loop-holds : tie.Need-loop-holds Inv-loop μ-loop
-loop-holds c = start (c .before .before .before .args .rows .now) (c .before .before .before .args .text .now) (c .before .before .before .pre) (c .new .ensures)
+loop-holds c = start _ _ (c .new .ensures)
 
 sub-loop : tie.Need-sub-loop Inv-loop μ-loop
 sub-loop c = search needs

@@ -1,34 +1,14 @@
 -- `rows::check` meets its contract. Assumes nothing.
-use borrow.Author.Tests.{lt-ltb, le-ltb}
 use borrow.Author.Needs.{needs}
-use Rattle.rows.specs.Options.{badOption}
-use Rattle.rows.specs.Answer.{checkReport}
+use Rattle.report.proofs.Logic.{impossible′}
 use Rattle.rows.proofs.check.Statement.{statement}
 use Rattle.rows.proofs.check.Tie as tie
 
+check-unless-requires : tie.Need-check-unless-requires
+check-unless-requires c κs = λ e. impossible′ e
+
 returns : tie.Need-returns
-unfolding checkReport badOption
-returns c = rw (lt-ltb _ _ (c .if1 .taken))
-
-returns-2 : tie.Need-returns-2
-unfolding checkReport badOption
-returns-2 c = rw (le-ltb _ _ (c .before .if1 .left), lt-ltb _ _ (c .if2 .taken))
-
-returns-3 : tie.Need-returns-3
-unfolding checkReport badOption
-returns-3 c = rw (le-ltb _ _ (c .before .before .if1 .left), le-ltb _ _ (c .before .if2 .left), lt-ltb _ _ (c .if3 .taken))
-
-returns-4 : tie.Need-returns-4
-unfolding checkReport badOption
-returns-4 c = rw (le-ltb _ _ (c .before .before .before .if1 .left), le-ltb _ _ (c .before .before .if2 .left), le-ltb _ _ (c .before .if3 .left), lt-ltb _ _ (c .if4 .taken))
-
-check-rows-requires : tie.Need-check-rows-requires
-check-rows-requires c κs = search needs
-
-returns-5 : tie.Need-returns-5
-unfolding checkReport badOption
-returns-5 c = rw (le-ltb _ _ (c .before .before .before .before .if1 .left), le-ltb _ _ (c .before .before .before .if2 .left), le-ltb _ _ (c .before .before .if3 .left), le-ltb _ _ (c .before .if4 .left)) (c .check-rows .ensures)
+returns c = search needs
 
 pub check-spec : {M : Type 1} → statement M
-check-spec =
-    tie.close (tie.spec returns returns-2 returns-3 returns-4 check-rows-requires returns-5)
+check-spec = tie.close (tie.spec check-unless-requires returns)

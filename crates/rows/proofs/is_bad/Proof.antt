@@ -10,25 +10,15 @@ use Rattle.rows.specs.Kinds.{Leading, TokenRow, Trailing, BlankLine, Oth
 use Rattle.rows.specs.Row.{Row}
 use Rattle.rows.specs.Checks.{topKind, mayTrail, after}
 use Rattle.rows.specs.Answer.{rowOf}
+use Rattle.rows.proofs.Sound.{misnamed, token-bad}
 use Rattle.rows.proofs.is_bad.Statement.{statement}
 use Rattle.rows.proofs.is_bad.Tie as tie
-
--- what `misnames` answers
-abbrev misnamed : ℕ → ℕ → Row → Bool
-misnamed top size r = ltb top (r .kind) || ltb (r .end) (r .start) || ltb size (r .end)
 
 -- `badRow`, where a trailing row may stand or not
 abbrev bad : ℕ → Bool → Row → Bool
 bad size may r = ltb Trailing (r .what) || ltb (topKind (r .what)) (r .kind) || ltb (r .end) (r .start) || ltb size (r .end) || (eqb (r .what) Trailing && not may)
 
-or-false : (a : Bool) → a || false ≡ a
-or-false true = refl
-or-false false = refl
-
 module _ (size : ℕ) (may : Bool) (r : Row) where
-  token-bad : {m : Bool} → r .what ≡ TokenRow → m ≡ misnamed Other size r → m ≡ bad size may r
-  token-bad w e = e ∙ rw w (sym (or-false (misnamed Other size r)))
-
   module _ (n : (r .what ≡ TokenRow) → ⊥) (l : r .what ≤ Trailing) where
     trivia-bad : {m : Bool} → m ≡ misnamed BlankLine size r → m ≡ true → true ≡ bad size may r
     trivia-bad e t = rw (le-ltb Trailing (r .what) l, ne-eqb (r .what) TokenRow n, sym e ∙ t)
@@ -45,7 +35,7 @@ misnames-requires : tie.Need-misnames-requires
 misnames-requires c κs = search needs
 
 returns : tie.Need-returns
-returns c = token-bad (c .before .before .before .args .size) (mayTrail (after (c .before .before .before .args .before))) (rowOf (c .before .before .before .args .row)) (c .before .if1 .taken) (c .misnames .ensures)
+returns c = c .misnames .ensures ∙ sym (token-bad (c .before .before .before .args .size) (after (c .before .before .before .args .before)) (rowOf (c .before .before .before .args .row)) (c .before .if1 .taken))
 
 returns-2 : tie.Need-returns-2
 returns-2 c = rw (lt-ltb _ _ (c .if2 .taken))
