@@ -10,10 +10,10 @@ use Rattle.lookahead.specs.Measure.{blockIsSingleLine}
 use Rattle.push_token.specs.Formatter.{setRecordPending, setInRecord, setRecordDepth}
 use Rattle.push_token.specs.Act.{State, Act, update, _⨾_, if, run}
 use Rattle.push_token.specs.Arms.{inOneLineBlock, nextIs, emptyRecord, openBlock, leftBraceArm}
-use Rattle.format.specs.Pen.{Pen, stateOf, opts}
-use Rattle.format.specs.Parts.{opensBlock, recordEntered, openInnerInline, openInline}
-use Rattle.format.specs.Does.{Does}
-use Rattle.format.proofs.Does.{same-run}
+use Rattle.fields.specs.Pen.{Pen, stateOf, opts}
+use Rattle.blocks.specs.Parts.{opensBlock, recordEntered, openInnerInline, openInline}
+use Rattle.fields.specs.Does.{Does}
+use Rattle.fields.proofs.Does.{same-run}
 
 -- over any acts in the places of the arm's own
 module _ (t : Token) (ts : List Token) (empty inner inline block : Act) where

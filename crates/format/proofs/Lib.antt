@@ -1,10 +1,4 @@
-pub mod Stack
-pub mod Does
-pub mod Gaps
 pub mod Tests
-pub mod Openers
 pub mod Newlines
 pub mod Braces
-pub mod Comments
-pub mod Held
-pub mod Due
+pub mod Openers

@@ -9,10 +9,10 @@ use Rattle.lookahead.specs.Measure.{nextHasComment}
 use Rattle.push_token.specs.Act.{State, choose, nothing, run}
 use Rattle.push_token.specs.Emit.{isAt}
 use Rattle.push_token.specs.Arms.{inOneLineBlock, isEmptyText, endsWithTwoFeeds, newlineArm}
-use Rattle.format.specs.Pen.{Pen, newlineOf}
+use Rattle.fields.specs.Pen.{Pen, newlineOf}
 use Rattle.format.specs.Parts.{feedsLine, feedLine}
-use Rattle.format.specs.Does.{Does}
-use Rattle.format.proofs.Does.{same-run}
+use Rattle.fields.specs.Does.{Does}
+use Rattle.fields.proofs.Does.{same-run}
 
 run-newline : (i : ℕ) (ts : List Token) (s : State) → isAt (s .formatter .suppressNewlineAt) i ≡ false → run (newlineArm i ts) s ≡ run (choose (feedsLine ts) feedLine nothing) s
 unfolding run newlineArm

@@ -1,28 +1,21 @@
 -- What the definition's tests come to, by what the code reads. Assumes nothing.
-use mathlib.Core.Bool.{true, false}
+use mathlib.Core.Bool.{false}
 use mathlib.Core.List.{List, [], _∷_}
 use mathlib.Core.Logic.{_⊎_, ⊎-elim}
 use mathlib.Core.Path.{_≡_, refl, sym}
-use Prim.Native.Nat.{ℕ, zero, suc, _-_, _≤_, _<_}
+use Prim.Native.Nat.{ℕ, zero, suc, _-_, _≤_}
 use native.Mathlib.Omega.{arith}
 use borrow.Author.Tests.{ne-eqb}
 use lib.Dec.{eqb}
-use lib.ListN.{length, take, getD}
-use Rattle.push_token.specs.Emit.{isSome, isAt}
+use lib.ListN.{length, take}
+use Rattle.push_token.specs.Emit.{isAt}
 use Rattle.push_token.specs.Arms.{isEmptyText, shallower}
-use Rattle.format.specs.Pen.{signatureOf}
+use Rattle.fields.specs.Pen.{signatureOf}
 
 -- ---- the ways that meet, by which one the code came
 
 pub by-way : {A B C : Type 0} → A ⊎ B → (A → C) → (B → C) → C
 by-way s f g = ⊎-elim f g s
-
--- ---- the stack
-
-pub getD-past : (k : List ℕ) (i : ℕ) → length k ≤ i → getD k i 0 ≡ 0
-getD-past [] i h = refl
-getD-past (x ∷ k) zero h = absurd (omega arith)
-getD-past (x ∷ k) (suc i) h = getD-past k i (omega arith)
 
 -- ---- the text so far
 
@@ -32,14 +25,6 @@ empty-take (suc n) [] h = absurd (omega arith)
 empty-take (suc n) (x ∷ l) h = sym (ne-eqb (suc n) 0 (λ e. omega arith))
 
 -- ---- the depth of a broken signature
-
-pub sig-some : (d : ℕ) → 0 < d → isSome (signatureOf d) ≡ true
-sig-some zero h = absurd (omega arith)
-sig-some (suc d) h = refl
-
-pub sig-none : (d : ℕ) → d ≤ 0 → isSome (signatureOf d) ≡ false
-sig-none zero h = refl
-sig-none (suc d) h = absurd (omega arith)
 
 -- one less, but for the signature's own `)`
 pub sig-less : (d : ℕ) → (d ≡ 1 → ⊥) → shallower (signatureOf d) ≡ signatureOf (d - 1)

@@ -20,10 +20,10 @@ use Rattle.push_token.specs.Act.{State}
 use Rattle.push_token.specs.Plain.{plain}
 use Rattle.push_token.specs.Layout.{bit, Ended, finished, stopped, lay, laidOut, unless, layout}
 use Rattle.push_token.proofs.Laid.{sane, lay-sane}
-use Rattle.format.specs.declared.formatter.Formatter.{Formatter}
-use Rattle.format.specs.declared.formatter.Options as Declared
-use Rattle.format.specs.Pen
-use Rattle.format.specs.Pen.{on}
+use Rattle.fields.specs.declared.Fields.{Fields}
+use Rattle.fields.specs.declared.Options as Declared
+use Rattle.fields.specs.Pen
+use Rattle.fields.specs.Pen.{on}
 use Rattle.walk.specs.declared.Walked.{Walked}
 use Rattle.walk.specs.declared.Walked.the-variants.{Finished, Deep, Full}
 use Rattle.walk.specs.Walk.{Walks, walkedOf, Laid}
@@ -102,7 +102,7 @@ stopped-is size (stopped k j) n i h g w =
 
 -- ---- the code's walk
 
-module _ (rows text out : List ℕ) {f : Formatter} {stack : List ℕ} {o : Declared.Options} (e : f .options ≡ o) {r : Walked} {m : List ℕ} (λ₀ : Laid rows text (on f stack out) r m) where
+module _ (rows text out : List ℕ) {f : Fields} {stack : List ℕ} {o : Declared.Options} (e : f .options ≡ o) {r : Walked} {m : List ℕ} (λ₀ : Laid rows text (on f stack out) r m) where
   held : {report : Report} {after : List ℕ} → Answers (lay (Pen.optionsOf (f .options)) (length out) (tokensOf rows text)) (plain (tokensOf rows text)) out report after → Answers (lay (Pen.optionsOf o) (length out) (tokensOf rows text)) (plain (tokensOf rows text)) out report after
   held {report} {after} α = subst (λ x. Answers (lay (Pen.optionsOf x) (length out) (tokensOf rows text)) (plain (tokensOf rows text)) out report after) e α
 

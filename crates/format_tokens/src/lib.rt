@@ -1,15 +1,15 @@
 // The layout of rl source text (document 01): token rows in, text out.
-use format::formatter::Before;
-use format::formatter::BraceStyle;
-use format::formatter::Formatter;
-use format::formatter::GroupDepth;
-use format::formatter::InlineDepth;
-use format::formatter::NewlineAt;
-use format::formatter::Options;
-use format::formatter::Prev;
-use format::formatter::RecordDepth;
-use format::formatter::SignatureDepth;
-use format::formatter::Suppressed;
+use fields::Before;
+use fields::BraceStyle;
+use fields::Fields;
+use fields::GroupDepth;
+use fields::InlineDepth;
+use fields::NewlineAt;
+use fields::Options;
+use fields::Prev;
+use fields::RecordDepth;
+use fields::SignatureDepth;
+use fields::Suppressed;
 use plain::plain_mark;
 use report::clear_bytes;
 use rows::Checked;
@@ -22,7 +22,7 @@ ghost use Prim.Native.Nat.{ℕ, _≤_};
 ghost use lib.ListN.{length};
 ghost use Rattle.rows.specs.Options;
 ghost use Rattle.push_token.specs.Layout.{layout};
-ghost use Rattle.format.specs.Pen.{optionsOf};
+ghost use Rattle.fields.specs.Pen.{optionsOf};
 ghost use Rattle.walk.specs.Walk.{Walks, Fresh};
 ghost use Rattle.format_tokens.specs.Answer.{reported, afterChecks};
 
@@ -104,11 +104,11 @@ fn options_of(style: u32, indent_width: u32, signature_width: u32, list_width: u
 }
 
 // `Formatter::new`
-fn formatter(options: Options) -> Formatter
+fn formatter(options: Options) -> Fields
     ensures fresh { λ r. ⌜ ((stack : List ℕ) → 64 ≤ length stack → Fresh r stack) ⌝ }
     ensures options { λ r. ⌜ r .options ≡ options ⌝ }
 {
-    Formatter {
+    Fields {
         len: 0,
         options,
         indent: 0,

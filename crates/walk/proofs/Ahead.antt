@@ -20,10 +20,10 @@ use Rattle.push_token.specs.Emit.{isSome}
 use Rattle.push_token.specs.Arms.{atRecordFields, inBrokenList}
 use Rattle.push_token.specs.Layout.{finished, layFrom}
 use Rattle.sink.proofs.Sink.{later}
-use Rattle.format.specs.declared.formatter.Formatter.{Formatter}
-use Rattle.format.specs.declared.formatter.Prev.{Prev}
-use Rattle.format.specs.declared.formatter.Prev.the-variants.{Nothing, Kind}
-use Rattle.format.specs.Pen.{Pen, on, stateOf, opts, formatterOf, prevOf, tooDeepOf, optionsOf}
+use Rattle.fields.specs.declared.Fields.{Fields}
+use Rattle.fields.specs.declared.Prev.{Prev}
+use Rattle.fields.specs.declared.Prev.the-variants.{Nothing, Kind}
+use Rattle.fields.specs.Pen.{Pen, on, stateOf, opts, formatterOf, prevOf, tooDeepOf, optionsOf}
 use Rattle.stretch.specs.declared.Stretch.{Stretch}
 use Rattle.stretch.specs.declared.braces.Braces.{Braces}
 use Rattle.stretch.specs.Stretch.{onlyTokens, Steady, Stretched}
@@ -67,9 +67,9 @@ known : (p : Prev) → isSome (prevOf p) ≡ true → prevOf p ≡ some (kindOf 
 known Nothing e = impossible′ e
 known (Kind k) e = refl
 
-module _ {rows text : List ℕ} {p₀ : Pen} {i at : ℕ} {f : Formatter} {k l : List ℕ} (ω : Walks rows text) (only : onlyTokens (rowsOf rows) ≡ true) (γ : Going rows text p₀ i at (on f k l)) where
+module _ {rows text : List ℕ} {p₀ : Pen} {i at : ℕ} {f : Fields} {k l : List ℕ} (ω : Walks rows text) (only : onlyTokens (rowsOf rows) ≡ true) (γ : Going rows text p₀ i at (on f k l)) where
   -- what was laid out ahead, up to the row at x
-  record Past (x : ℕ) (g : Formatter) (m : List ℕ) : Type 0 where
+  record Past (x : ℕ) (g : Fields) (m : List ℕ) : Type 0 where
     whole : x ≡ at + 16 * ((x - at) / 16)
     within : x ≤ length rows
     size : length m ≡ length l
@@ -89,7 +89,7 @@ module _ {rows text : List ℕ} {p₀ : Pen} {i at : ℕ} {f : Formatter} {k l :
     signature : g .«sig_break_depth» .0 ≡ f .«sig_break_depth» .0
     commas : g .commas ≡ f .commas
 
-  goes-past : {x : ℕ} {g : Formatter} {m : List ℕ} → Past x g m → Going rows text p₀ (i + (x - at) / 16) x (on g k m)
+  goes-past : {x : ℕ} {g : Fields} {m : List ℕ} → Past x g m → Going rows text p₀ (i + (x - at) / 16) x (on g k m)
   goes-past {x} {g} {m} π =
       let w = π .whole in
       let η = γ .head .whole in
@@ -119,7 +119,7 @@ module _ {rows text : List ℕ} {p₀ : Pen} {i at : ℕ} {f : Formatter} {k l :
 
   -- behind a stretch
 
-  module _ {g : Formatter} {m : List ℕ} {b : Bool} {r : Stretch} (ρ : Ready f b) (σ : Stretched rows text at (f .len) (kindOf (f .prev .kind)) (f .«prev_minus_is_unary») (keepsCommas f k) l m r) (β : Behind f at r g) where
+  module _ {g : Fields} {m : List ℕ} {b : Bool} {r : Stretch} (ρ : Ready f b) (σ : Stretched rows text at (f .len) (kindOf (f .prev .kind)) (f .«prev_minus_is_unary») (keepsCommas f k) l m r) (β : Behind f at r g) where
     steady : Steady (formatterOf f k) (kindOf (f .prev .kind)) (f .«prev_minus_is_unary») (keepsCommas f k)
     steady =
         record {
@@ -158,7 +158,7 @@ module _ {rows text : List ℕ} {p₀ : Pen} {i at : ℕ} {f : Formatter} {k l :
 
   -- behind braces
 
-  module _ {g : Formatter} {m : List ℕ} {b : Bool} {r : Braces} (ν : Nested f b) (σ : Braced rows (placeOf f at) l m r) (β : BehindBraces f at r g) where
+  module _ {g : Fields} {m : List ℕ} {b : Bool} {r : Braces} (ν : Nested f b) (σ : Braced rows (placeOf f at) l m r) (β : BehindBraces f at r g) where
     inline : Inline (formatterOf f k) (placeOf f at)
     inline =
         record {

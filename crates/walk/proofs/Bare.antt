@@ -10,7 +10,7 @@ use lib.ListN.{length, drop}
 use Rattle.rows.specs.Row.{firstRows}
 use Rattle.rows.specs.Token.{triviaOf}
 use Rattle.lookahead.specs.Measure.{isEmpty}
-use Rattle.format.specs.Trivia.{Part, triviaIn}
+use Rattle.fields.specs.Trivia.{Part, triviaIn}
 
 pub bare-is : (rows text : List ℕ) (from to : ℕ) → Part rows text from to → eqb from to ≡ isEmpty (triviaIn rows text from ((to - from) / 16))
 unfolding firstRows

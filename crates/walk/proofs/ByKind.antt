@@ -16,13 +16,14 @@ use Rattle.push_token.specs.Formatter
 use Rattle.push_token.specs.Act.{Act, nothing, run}
 use Rattle.push_token.specs.Arms.{newlineArm, rightBraceArm, leftBraceArm, breaksList, atSignature, rightParenArm, rightBracketArm, commaArm, elseArm, otherArm}
 use Rattle.push_token.specs.PushToken.{arm, overflows}
-use Rattle.format.specs.declared.formatter.Formatter.{Formatter}
-use Rattle.format.specs.declared.formatter.TokenAt.{TokenAt}
-use Rattle.format.specs.Pen.{Pen, formatterOf, topFirst, Stands, lone}
-use Rattle.format.specs.Parts.{opensSignature, openerArm}
-use Rattle.format.specs.Does.{Does}
-use Rattle.format.specs.Due.{Leads}
-use Rattle.format.proofs.Does.{yes, no, same-run}
+use Rattle.fields.specs.declared.Fields.{Fields}
+use Rattle.fields.specs.declared.TokenAt.{TokenAt}
+use Rattle.fields.specs.Pen.{Pen, formatterOf, topFirst, Stands, lone}
+use Rattle.lists.specs.Parts.{opensSignature}
+use Rattle.format.specs.Parts.{openerArm}
+use Rattle.fields.specs.Does.{Does}
+use Rattle.fields.specs.Due.{Leads}
+use Rattle.fields.proofs.Does.{yes, no, same-run}
 use Rattle.walk.proofs.Going.{top-length}
 
 -- a kind that opens a group
@@ -99,7 +100,7 @@ or-nothing : (b : Bool) → b ≡ b || false
 or-nothing true = refl
 or-nothing false = refl
 
-module _ (o : Options) (t : Token) (ts : List Token) (f : Formatter) (s : List ℕ) where
+module _ (o : Options) (t : Token) (ts : List Token) (f : Fields) (s : List ℕ) where
   pub not-full : f .«break_count» < 64 → false ≡ overflows o t ts (formatterOf f s)
   not-full h = rw (top-length (f .«break_count») s, lt-leb 64 (f .«break_count») h)
 

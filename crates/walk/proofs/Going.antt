@@ -17,12 +17,12 @@ use Rattle.push_token.specs.Act.{State, state, run}
 use Rattle.push_token.specs.Emit.{isSome}
 use Rattle.push_token.specs.PushToken.{turn, begun}
 use Rattle.push_token.specs.Layout.{Ended, finished, stopped, checked, layFrom}
-use Rattle.format.specs.declared.formatter.Formatter.{Formatter}
-use Rattle.format.specs.declared.formatter.Ends.{Ends}
-use Rattle.format.specs.declared.formatter.TokenAt.{TokenAt}
-use Rattle.format.specs.Pen.{Pen, on, stateOf, opts, formatterOf, signatureOf, tooDeepOf, topFirst, Roomy, Stands}
-use Rattle.format.specs.Does.{Does, Arrives}
-use Rattle.format.proofs.Does.{far}
+use Rattle.fields.specs.declared.Fields.{Fields}
+use Rattle.fields.specs.declared.Ends.{Ends}
+use Rattle.fields.specs.declared.TokenAt.{TokenAt}
+use Rattle.fields.specs.Pen.{Pen, on, stateOf, opts, formatterOf, signatureOf, tooDeepOf, topFirst, Roomy, Stands}
+use Rattle.fields.specs.Does.{Does, Arrives}
+use Rattle.fields.proofs.Does.{far}
 use Rattle.sink.proofs.Sink.{later}
 use Rattle.stretch.proofs.Lone.{lay-more}
 use Rattle.walk.specs.declared.Walked.{Walked}
@@ -58,7 +58,7 @@ top-length zero k = refl
 top-length (suc n) k = ap suc (top-length n k)
 
 -- each count is at most n
-pub record AtMost (n : ℕ) (f : Formatter) : Type 0 where
+pub record AtMost (n : ℕ) (f : Fields) : Type 0 where
   pub indent : f .indent ≤ n
   pub group : f .«group_depth» .0 ≤ n
   pub inline : f .«inline_depth» .0 ≤ n
@@ -66,7 +66,7 @@ pub record AtMost (n : ℕ) (f : Formatter) : Type 0 where
   pub signature : f .«sig_break_depth» .0 ≤ n
   pub commas : f .commas ≤ n
 
-pub at-most-roomy : {n : ℕ} {f : Formatter} → AtMost n f → n < 4294967295 → Roomy f
+pub at-most-roomy : {n : ℕ} {f : Fields} → AtMost n f → n < 4294967295 → Roomy f
 at-most-roomy a h =
     record {
       indent = let x = a .indent in omega arith;
@@ -93,10 +93,10 @@ pub record Going (rows text : List ℕ) (p₀ : Pen) (i at : ℕ) (p : Pen) : Ty
   pub counts : AtMost (20 * i) (p .form)
   pub entries : p .form .«break_count» ≤ 64
 
-fresh-state : {f : Formatter} {s : List ℕ} (l : List ℕ) → Fresh f s → stateOf (on f s l) ≡ begun
+fresh-state : {f : Fields} {s : List ℕ} (l : List ℕ) → Fresh f s → stateOf (on f s l) ≡ begun
 fresh-state l φ = rw (φ .new, φ .empty, φ .none)
 
-pub starts : {rows text : List ℕ} {f : Formatter} {s l : List ℕ} → Walks rows text → Fresh f s → Going rows text (on f s l) 0 0 (on f s l)
+pub starts : {rows text : List ℕ} {f : Fields} {s l : List ℕ} → Walks rows text → Fresh f s → Going rows text (on f s l) 0 0 (on f s l)
 starts {rows} {text} {f} {s} {l} ω φ =
     record {
       head = head-first ω;

@@ -15,10 +15,10 @@ use Rattle.rows.specs.Token.{Token, bytesOf, triviaOf, tokensFrom, tokensOf}
 use Rattle.rows.proofs.RowList.{rows-cons, part-cons, rows-drop, rows-length, row-drop, row-index}
 use Rattle.rows.proofs.Sound.{in-bounds, first-sound}
 use Rattle.lookahead.specs.Scan.{lacks, widthRows}
-use Rattle.format.specs.declared.formatter.Ends.{Ends}
-use Rattle.format.specs.declared.formatter.TokenAt.{TokenAt}
-use Rattle.format.specs.Pen.{Names, Ahead, Stands}
-use Rattle.format.specs.Trivia.{Part, triviaIn}
+use Rattle.fields.specs.declared.Ends.{Ends}
+use Rattle.fields.specs.declared.TokenAt.{TokenAt}
+use Rattle.fields.specs.Pen.{Names, Ahead, Stands}
+use Rattle.fields.specs.Trivia.{Part, triviaIn}
 use Rattle.stretch.specs.Stretch.{onlyTokens}
 use Rattle.walk.specs.Walk.{runRows, Ending, TokenAtRow, TokenRows, Trivial, Walks}
 use Rattle.walk.proofs.Runs.{Checked, only-none, checked-behind, trailing-run, tokens-behind, run-ends, run-most, no-trail, TokenFirst, token-first}

@@ -10,10 +10,10 @@ use Rattle.push_token.specs.Formatter.{setTooDeep}
 use Rattle.push_token.specs.Act.{update}
 use Rattle.push_token.specs.Emit.{trackFnState, leadingTrivia}
 use Rattle.push_token.specs.PushToken.{takeInlineClose, overflows, arm, pushToken}
-use Rattle.format.specs.Pen.{Pen, opts, formatterOf}
-use Rattle.format.specs.Does.{Does}
-use Rattle.format.specs.Due.{due, Leads}
-use Rattle.format.proofs.Does.{seq, yes, no}
+use Rattle.fields.specs.Pen.{Pen, opts, formatterOf}
+use Rattle.fields.specs.Does.{Does}
+use Rattle.fields.specs.Due.{due, Leads}
+use Rattle.fields.proofs.Does.{seq, yes, no}
 use Rattle.walk.specs.Walk.{trailToken, endToken}
 
 module _ (i : ℕ) (t : Token) (ts : List Token) {lead : List Trivia} {bare : Bool} {p q r : Pen} (leads : t .leading ≡ lead) (is-bare : bare ≡ isEmpty lead) (led : Does (λ o. leadingTrivia o lead) p q) (taken : Does (λ o. update (takeInlineClose bare)) q r) where

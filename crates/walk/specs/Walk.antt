@@ -17,13 +17,13 @@ use Rattle.push_token.specs.Formatter.{new}
 use Rattle.push_token.specs.Act.{State, Act, update, _⨾_, nothing, if}
 use Rattle.push_token.specs.Emit.{trackFnState, trailingTrivia}
 use Rattle.push_token.specs.Layout.{Ended, finished, stopped, lay}
-use Rattle.format.specs.declared.formatter.Formatter.{Formatter}
-use Rattle.format.specs.declared.formatter.Ends.{Ends}
-use Rattle.format.specs.declared.formatter.TokenAt.{TokenAt}
+use Rattle.fields.specs.declared.Fields.{Fields}
+use Rattle.fields.specs.declared.Ends.{Ends}
+use Rattle.fields.specs.declared.TokenAt.{TokenAt}
 use Rattle.walk.specs.declared.Walked.{Walked}
 use Rattle.walk.specs.declared.Walked.the-variants.{Finished, Deep, Full}
-use Rattle.format.specs.Pen.{Pen, opts, formatterOf, Names, Ahead}
-use Rattle.format.specs.Trivia.{Part, triviaIn}
+use Rattle.fields.specs.Pen.{Pen, opts, formatterOf, Names, Ahead}
+use Rattle.fields.specs.Trivia.{Part, triviaIn}
 
 -- how many rows of a what stand first
 unfoldable pub runRows : ℕ → List Row → ℕ
@@ -70,8 +70,8 @@ trailToken trailing = if (λ f. f .returned) nothing (trailingTrivia trailing)
 abbrev pub endToken : ℕ → List Trivia → Act
 endToken k trailing = trailToken trailing ⨾ update (trackFnState k)
 
--- `Formatter::new`, with an empty text and a stack of 64 numbers
-pub record Fresh (f : Formatter) (stack : List ℕ) : Type 0 where
+-- `Fields::new`, with an empty text and a stack of 64 numbers
+pub record Fresh (f : Fields) (stack : List ℕ) : Type 0 where
   pub new : formatterOf f stack ≡ new
   pub empty : f .len ≡ 0
   pub none : f .commas ≡ 0

@@ -7,9 +7,9 @@ use crate::steady::is_steady;
 use crate::steady::rows_between;
 use crate::steady::stretch_from;
 use crate::token::push_token;
-use format::formatter::Ends;
-use format::formatter::Formatter;
-use format::formatter::TokenAt;
+use fields::Ends;
+use fields::Fields;
+use fields::TokenAt;
 use lookahead::behind_last;
 use lookahead::total_width;
 use rows::ROW_BYTES;
@@ -23,8 +23,8 @@ ghost use lib.ListN.{length, drop};
 ghost use Rattle.rows.specs.Row.{rowsOf};
 ghost use Rattle.rows.specs.Token.{Token};
 ghost use Rattle.push_token.specs.PushToken.{turn};
-ghost use Rattle.format.specs.Pen.{Roomy, StackRoom, Stands, on};
-ghost use Rattle.format.specs.Does.{Does};
+ghost use Rattle.fields.specs.Pen.{Roomy, StackRoom, Stands, on};
+ghost use Rattle.fields.specs.Does.{Does};
 ghost use Rattle.stretch.specs.Stretch.{onlyTokens};
 ghost use Rattle.walk.specs.Walk.{Fresh, runRows, Ending, TokenAtRow, TokenRows, Trivial, Walks, Laid};
 
@@ -43,7 +43,7 @@ pub enum Walked {
 
 // `format`: lays out all tokens of checked rows. `bare` tells that no trivia is among them, if the caller knows it.
 pub fn walk(
-    new: Formatter,
+    new: Fields,
     out: &mut [u8],
     stack: &mut [u32],
     rows: &[u8],
@@ -118,14 +118,14 @@ fn ends_of(rows: &[u8], list_width: u32) -> Ends
 
 // One token of the walk: nothing for one that was taken along.
 fn turn(
-    mut f: Formatter,
+    mut f: Fields,
     out: &mut [u8],
     stack: &mut [u32],
     rows: &[u8],
     text: &[u8],
     token: TokenAt,
     next: usize,
-) -> Formatter
+) -> Fields
     requires { ⌜ Roomy f ⌝ }
     requires { ⌜ StackRoom f (now stack) ⌝ }
     requires { ⌜ TokenRows token (now rows) (now text) next ⌝ }

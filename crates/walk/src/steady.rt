@@ -1,8 +1,8 @@
 // Where the next tokens may only write their lexemes, or are braces of a one-line block, they are laid out without the state.
-use format::formatter::Before;
-use format::formatter::Formatter;
-use format::formatter::InlineDepth;
-use format::formatter::Prev;
+use fields::Before;
+use fields::Fields;
+use fields::InlineDepth;
+use fields::Prev;
 use rows::ROW_BYTES;
 use rows::kinds;
 use rows::row_at;
@@ -21,7 +21,7 @@ ghost use Rattle.stretch.specs.Braces.{Braced};
 ghost use Rattle.walk.specs.Ahead.{Settled, Ready, kindOf, keepsCommas, Behind, Nested, placeOf, BehindBraces};
 
 // Whether a stretch may begin: in a line, behind a token, with nothing pending, and there is no trivia.
-pub fn is_steady(f: Formatter, bare: bool) -> bool
+pub fn is_steady(f: Fields, bare: bool) -> bool
     ensures { λ r. ⌜ (r ≡ true → Ready f bare) ⌝ }
 {
     if !is_settled(f, bare) {
@@ -32,7 +32,7 @@ pub fn is_steady(f: Formatter, bare: bool) -> bool
 
 // The stretch from the row at `at` on; it may be empty.
 pub fn stretch_from(
-    f: Formatter,
+    f: Fields,
     out: &mut [u8],
     stack: &[u32],
     rows: &[u8],
@@ -51,7 +51,7 @@ pub fn stretch_from(
 }
 
 // The state behind a stretch that began at `at`.
-pub fn behind_stretch(mut f: Formatter, ahead: Stretch, at: usize) -> Formatter
+pub fn behind_stretch(mut f: Fields, ahead: Stretch, at: usize) -> Fields
     ensures { λ r. ⌜ Behind f at ahead r ⌝ }
 {
     let prev = Before {
@@ -68,7 +68,7 @@ pub fn behind_stretch(mut f: Formatter, ahead: Stretch, at: usize) -> Formatter
 
 // Whether braces of a one-line block may come next: outside records, in a line, behind a token, with nothing pending,
 // and there is no trivia.
-pub fn is_nested(f: Formatter, bare: bool, rows: &[u8], at: usize) -> bool
+pub fn is_nested(f: Fields, bare: bool, rows: &[u8], at: usize) -> bool
     requires { ⌜ at ≤ length (now rows) ⌝ }
     ensures { λ r. ⌜ (r ≡ true → Nested f bare) ⌝ }
 {
@@ -90,7 +90,7 @@ pub fn is_nested(f: Formatter, bare: bool, rows: &[u8], at: usize) -> bool
 }
 
 // The braces from the row at `at` on; there may be none.
-pub fn braces_from(f: Formatter, out: &mut [u8], rows: &[u8], at: usize) -> Braces
+pub fn braces_from(f: Fields, out: &mut [u8], rows: &[u8], at: usize) -> Braces
     requires { ⌜ (at ≤ length (now rows)) × (f .len ≤ length (now out)) ⌝ }
     requires { ⌜ onlyTokens (rowsOf (drop at (now rows))) ≡ true ⌝ }
     requires { ⌜ f .«inline_depth» .0 + length (now rows) < 18446744073709551616 ⌝ }
@@ -111,7 +111,7 @@ pub fn braces_from(f: Formatter, out: &mut [u8], rows: &[u8], at: usize) -> Brac
 }
 
 // The state behind braces that began at `at`.
-pub fn behind_braces(mut f: Formatter, ahead: Braces, at: usize) -> Formatter
+pub fn behind_braces(mut f: Fields, ahead: Braces, at: usize) -> Fields
     requires { ⌜ ahead .depth < 4294967296 ⌝ }
     ensures { λ r. ⌜ BehindBraces f at ahead r ⌝ }
 {
@@ -140,7 +140,7 @@ pub fn rows_between(from: usize, to: usize) -> u32
 }
 
 // In a line, behind a token, with nothing pending, and there is no trivia.
-fn is_settled(f: Formatter, bare: bool) -> bool
+fn is_settled(f: Fields, bare: bool) -> bool
     ensures { λ r. ⌜ (r ≡ true → Settled f bare) ⌝ }
 {
     if !bare {
@@ -167,7 +167,7 @@ fn is_settled(f: Formatter, bare: bool) -> bool
 }
 
 // A Comma does not break its line.
-fn keeps_commas(f: Formatter, stack: &[u32]) -> bool
+fn keeps_commas(f: Fields, stack: &[u32]) -> bool
     ensures { λ r. ⌜ r ≡ keepsCommas f (now (stack .entry)) ⌝ }
 {
     if f.at_record_fields() {
@@ -177,7 +177,7 @@ fn keeps_commas(f: Formatter, stack: &[u32]) -> bool
 }
 
 // The last token's kind; 0 where there is none.
-fn kind_before(f: Formatter) -> u32
+fn kind_before(f: Fields) -> u32
     ensures { λ r. ⌜ r ≡ kindOf (f .prev .kind) ⌝ }
 {
     let before = f.prev;

@@ -1,6 +1,9 @@
 // `push_token`: leading trivia, the arm, trailing trivia, the state of `fn`.
-use format::formatter::Formatter;
-use format::formatter::TokenAt;
+use fields::Fields;
+use fields::TokenAt;
+use format::Formatter;
+use lists::open::at_signature;
+use lists::open::breaks_list;
 use rows::ROW_BYTES;
 use rows::kinds;
 ghost use mathlib.Core.Bool.{false};
@@ -13,22 +16,22 @@ ghost use Rattle.rows.specs.Token.{Token};
 ghost use Rattle.push_token.specs.Formatter.{setTooDeep};
 ghost use Rattle.push_token.specs.Act.{update};
 ghost use Rattle.push_token.specs.PushToken.{takeInlineClose, arm, overflows, pushToken};
-ghost use Rattle.format.specs.Pen.{Held, Roomy, StackRoom, Names, Ahead, Stands, lone, optionsOf, formatterOf, on};
-ghost use Rattle.format.specs.Trivia.{Part, triviaIn};
-ghost use Rattle.format.specs.Does.{Does};
-ghost use Rattle.format.specs.Due.{Leads};
+ghost use Rattle.fields.specs.Pen.{Held, Roomy, StackRoom, Names, Ahead, Stands, lone, optionsOf, formatterOf, on};
+ghost use Rattle.fields.specs.Trivia.{Part, triviaIn};
+ghost use Rattle.fields.specs.Does.{Does};
+ghost use Rattle.fields.specs.Due.{Leads};
 ghost use Rattle.walk.specs.Walk.{TokenRows, Trivial, trailToken, rowCount};
 
 // The rows from `token.lead` on are its leading rows, its own, and trailing ones up to `next`.
 pub fn push_token(
-    mut f: Formatter,
+    mut f: Fields,
     out: &mut [u8],
     stack: &mut [u32],
     rows: &[u8],
     text: &[u8],
     token: TokenAt,
     next: usize,
-) -> Formatter
+) -> Fields
     requires { ⌜ Roomy f ⌝ }
     requires { ⌜ StackRoom f (now stack) ⌝ }
     requires { ⌜ TokenRows token (now rows) (now text) next ⌝ }
@@ -51,7 +54,7 @@ pub fn push_token(
 }
 
 // The mark of a one-line block's `}`; where trivia was seen it stays.
-fn take_inline_close(mut f: Formatter, bare: bool) -> Formatter
+fn take_inline_close(mut f: Fields, bare: bool) -> Fields
     ensures does { λ r. ⌜ ((s l : List ℕ) → Does (λ o. update (takeInlineClose bare)) (on f s l) (on r s l)) ⌝ }
     ensures held { λ r. ⌜ Held f r ⌝ }
 {
@@ -67,7 +70,7 @@ fn take_inline_close(mut f: Formatter, bare: bool) -> Formatter
 }
 
 // Refusal 4: the stack is full, and the token would open one more broken list.
-fn overflows(f: Formatter, rows: &[u8], token: TokenAt) -> bool
+fn overflows(f: Fields, rows: &[u8], token: TokenAt) -> bool
     requires { ⌜ Ahead token (now rows) ⌝ }
     ensures { λ r. ⌜ ((s text : List ℕ) (t : Token) (ts : List Token) → Stands token (now (rows .entry)) text t ts → r ≡ overflows (optionsOf (f .options)) t ts (formatterOf f s)) ⌝ }
 {
@@ -76,18 +79,18 @@ fn overflows(f: Formatter, rows: &[u8], token: TokenAt) -> bool
     }
     let kind = token.kind;
     if kind == kinds::LEFT_PAREN {
-        if f.at_signature() {
+        if at_signature(f) {
             return false;
         }
-        return f.breaks_list(rows, token);
+        return breaks_list(f, rows, token);
     }
     if kind == kinds::LEFT_BRACKET {
-        return f.breaks_list(rows, token);
+        return breaks_list(f, rows, token);
     }
     false
 }
 
-fn refuse(mut f: Formatter, token: TokenAt) -> Formatter
+fn refuse(mut f: Fields, token: TokenAt) -> Fields
     requires { ⌜ token .index < 4294967295 ⌝ }
     ensures { λ r. ⌜ ((s l : List ℕ) → Does (λ o. update (setTooDeep (some (token .index)))) (on f s l) (on r s l)) ⌝ }
 {
@@ -98,52 +101,53 @@ fn refuse(mut f: Formatter, token: TokenAt) -> Formatter
 
 // The arm of the token's kind; it may leave the lexeme due.
 fn arm(
-    mut f: Formatter,
+    mut f: Fields,
     out: &mut [u8],
     stack: &mut [u32],
     rows: &[u8],
     text: &[u8],
     token: TokenAt,
-) -> Formatter
+) -> Fields
     requires { ⌜ Roomy f ⌝ }
     requires { ⌜ StackRoom f (now stack) ⌝ }
     requires { ⌜ (Names token (now text)) × (Ahead token (now rows)) ⌝ }
     ensures { λ r. ⌜ ((t : Token) (ts : List Token) → Stands token (now (rows .entry)) (now (text .entry)) t ts → overflows (optionsOf (f .options)) t ts (formatterOf f (now (stack .entry))) ≡ false → Leads (λ o. arm o (token .index) t ts) (lone token (now (text .entry))) (on f (now (stack .entry)) (now (out .entry))) (on r (now (stack .exit)) (now (out .exit)))) ⌝ }
 {
     let kind = token.kind;
+    let formatter = Formatter { fields: f };
     match kind {
         kinds::EOF => {
             f.lexeme_due = false;
         }
         kinds::NEWLINE => {
-            f = f.newline_arm(out, rows, token);
+            f = formatter.newline_arm(out, rows, token).fields;
             f.lexeme_due = false;
         }
         kinds::RIGHT_BRACE => {
-            f = f.right_brace_arm(out);
+            f = formatter.right_brace_arm(out).fields;
             f.lexeme_due = false;
         }
         kinds::LEFT_BRACE => {
-            f = f.left_brace_arm(out, rows, text, token);
+            f = formatter.left_brace_arm(out, rows, text, token).fields;
             f.lexeme_due = false;
         }
         kinds::LEFT_PAREN | kinds::LEFT_BRACKET => {
-            f = f.opener_arm(out, stack, rows, text, token);
+            f = formatter.opener_arm(out, stack, rows, text, token).fields;
         }
         kinds::RIGHT_PAREN => {
-            f = f.right_paren_arm(out, stack);
+            f = formatter.right_paren_arm(out, stack).fields;
         }
         kinds::RIGHT_BRACKET => {
-            f = f.right_bracket_arm(out, stack);
+            f = formatter.right_bracket_arm(out, stack).fields;
         }
         kinds::COMMA => {
-            f = f.comma_arm(out, stack, token);
+            f = formatter.comma_arm(out, stack, token).fields;
         }
         kinds::ELSE => {
-            f = f.else_arm(out);
+            f = formatter.else_arm(out).fields;
         }
         _ => {
-            f = f.other_arm(kind);
+            f = formatter.other_arm(kind).fields;
         }
     }
     f
@@ -151,13 +155,13 @@ fn arm(
 
 // The trailing trivia, unless the arm returned early.
 fn trail(
-    mut f: Formatter,
+    mut f: Fields,
     out: &mut [u8],
     rows: &[u8],
     text: &[u8],
     token: TokenAt,
     next: usize,
-) -> Formatter
+) -> Fields
     requires { ⌜ Part (now rows) (now text) (token .behind) next ⌝ }
     ensures { λ r. ⌜ ((s : List ℕ) → Does (λ o. trailToken (triviaIn (now (rows .entry)) (now (text .entry)) (token .behind) (rowCount (token .behind) next))) (on f s (now (out .entry))) (on r s (now (out .exit)))) ⌝ }
 {

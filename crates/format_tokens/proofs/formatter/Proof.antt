@@ -1,6 +1,6 @@
 -- `format_tokens::formatter` meets its contract. Assumes nothing.
 use mathlib.Core.Path.{refl}
-use Rattle.format.specs.Pen.{topFirst}
+use Rattle.fields.specs.Pen.{topFirst}
 use Rattle.format_tokens.proofs.formatter.Statement.{statement}
 use Rattle.format_tokens.proofs.formatter.Tie as tie
 

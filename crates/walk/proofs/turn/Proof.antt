@@ -1,7 +1,7 @@
 -- `walk::turn` meets its contract. Assumes nothing.
 use mathlib.Core.Path.{refl}
 use borrow.Author.Needs.{needs}
-use Rattle.format.proofs.Does.{updated, yes, no}
+use Rattle.fields.proofs.Does.{updated, yes, no}
 use Rattle.sink.proofs.Sink.{nothing}
 use Rattle.walk.proofs.turn.Statement.{statement}
 use Rattle.walk.proofs.turn.Tie as tie

@@ -6,7 +6,7 @@ use borrow.Author.Needs.{needs}
 use lib.ListN.{length}
 use Rattle.report.specs.Report.{deep, full}
 use Rattle.rows.specs.Kinds.{Leading}
-use Rattle.format.specs.Pen.{on}
+use Rattle.fields.specs.Pen.{on}
 use Rattle.walk.proofs.Going.{Going, starts, few-tokens, going-roomy, placed, turned, goes-full, goes-deep, goes-on, nearer, onward, laid-stopped, laid-done}
 use Rattle.walk.proofs.Ahead.{only-at, head-bounds, stretches, nests}
 use Rattle.walk.proofs.Place.{row-inside, bare-run, bare-behind, more-rows, no-more-rows}

@@ -1,6 +1,6 @@
 -- `walk::steady::keeps_commas` meets its contract. Assumes nothing.
 use borrow.Author.Needs.{needs}
-use Rattle.format.proofs.Does.{told}
+use Rattle.fields.proofs.Does.{told}
 use Rattle.walk.proofs.steady.keeps_commas.Statement.{statement}
 use Rattle.walk.proofs.steady.keeps_commas.Tie as tie
 

@@ -1,9 +1,9 @@
 -- `walk::token::arm` meets its contract. Assumes nothing.
 use Rattle.walk.proofs.ByKind.{at-eof, at-newline, at-right-brace, at-left-brace, at-opener, at-right-paren, at-right-bracket, at-comma, at-else, at-other, leading-to, its-lexeme, its-opener, its-test, room}
 use Rattle.sink.proofs.Sink.{nothing}
-use Rattle.format.proofs.Due.{now}
-use Rattle.format.proofs.Does.{updated, stays}
-use Rattle.format.specs.Pen.{optionsOf, formatterOf}
+use Rattle.fields.proofs.Due.{now}
+use Rattle.fields.proofs.Does.{updated, stays}
+use Rattle.fields.specs.Pen.{optionsOf, formatterOf}
 use mathlib.Core.List.{[]}
 use mathlib.Core.Logic.{inl, inr}
 use mathlib.Core.Path.{refl, _∙_}
@@ -45,19 +45,19 @@ same-length : tie.Need-same-length
 same-length c = search needs
 
 returns-2 : tie.Need-returns-2
-returns-2 c = λ t ts σ v. now refl (at-newline (c .before .before .before .before .before .before .before .before .before .args .token .index) t ts (σ .kind ∙ c .before .before .before .before .match .keys2) (c .before .before .newline-arm .ensures _ _ t ts σ)) (updated refl refl refl nothing)
+returns-2 c = λ t ts σ v. now refl (at-newline (c .before .before .before .before .before .before .before .before .before .before .args .token .index) t ts (σ .kind ∙ c .before .before .before .before .before .match .keys2) (c .before .before .before .newline-arm .ensures _ _ t ts σ)) (updated refl refl refl nothing)
 
 same-length-2 : tie.Need-same-length-2
 same-length-2 c = search needs
 
 returns-3 : tie.Need-returns-3
-returns-3 c = λ t ts σ v. now refl (at-right-brace (c .before .before .before .before .before .before .before .before .before .args .token .index) t ts (σ .kind ∙ c .before .before .before .before .match .keys3) (c .before .before .right-brace-arm .ensures _)) (updated refl refl refl nothing)
+returns-3 c = λ t ts σ v. now refl (at-right-brace (c .before .before .before .before .before .before .before .before .before .before .args .token .index) t ts (σ .kind ∙ c .before .before .before .before .before .match .keys3) (c .before .before .before .right-brace-arm .ensures _)) (updated refl refl refl nothing)
 
 same-length-3 : tie.Need-same-length-3
 same-length-3 c = search needs
 
 returns-4 : tie.Need-returns-4
-returns-4 c = λ t ts σ v. now refl (at-left-brace (c .before .before .before .before .before .before .before .before .before .args .token .index) t ts (σ .kind ∙ c .before .before .before .before .match .keys4) (c .before .before .left-brace-arm .ensures _ t ts σ)) (updated refl refl refl nothing)
+returns-4 c = λ t ts σ v. now refl (at-left-brace (c .before .before .before .before .before .before .before .before .before .before .args .token .index) t ts (σ .kind ∙ c .before .before .before .before .before .match .keys4) (c .before .before .before .left-brace-arm .ensures _ t ts σ)) (updated refl refl refl nothing)
 
 same-length-4 : tie.Need-same-length-4
 same-length-4 c = search needs
@@ -66,7 +66,7 @@ same-length-5 : tie.Need-same-length-5
 same-length-5 c = search needs
 
 returns-5 : tie.Need-returns-5
-returns-5 c = λ t ts σ v. leading-to (λ z d. at-opener (c .before .before .before .before .before .before .before .before .before .before .before .before .args .token .index) t ts (its-opener σ (c .before .before .before .before .before .before .before .match .keys5)) d) (c .before .before .before .before .opener-arm .ensures t ts σ (λ a. room (optionsOf (c .before .before .before .before .before .before .before .before .before .before .before .before .args .f .options)) t ts (c .before .before .before .before .before .before .before .before .before .before .before .before .args .f) (c .before .before .before .before .before .before .before .before .before .before .before .before .args .stack .now) (its-opener σ (c .before .before .before .before .before .before .before .match .keys5)) v (its-test σ (formatterOf (c .before .before .before .before .before .before .before .before .before .before .before .before .args .f) []) a)))
+returns-5 c = λ t ts σ v. leading-to (λ z d. at-opener (c .before .before .before .before .before .before .before .before .before .before .before .before .before .args .token .index) t ts (its-opener σ (c .before .before .before .before .before .before .before .before .match .keys5)) d) (c .before .before .before .before .before .opener-arm .ensures t ts σ (λ a. room (optionsOf (c .before .before .before .before .before .before .before .before .before .before .before .before .before .args .f .options)) t ts (c .before .before .before .before .before .before .before .before .before .before .before .before .before .args .f) (c .before .before .before .before .before .before .before .before .before .before .before .before .before .args .stack .now) (its-opener σ (c .before .before .before .before .before .before .before .before .match .keys5)) v (its-test σ (formatterOf (c .before .before .before .before .before .before .before .before .before .before .before .before .before .args .f) []) a)))
 
 same-length-6 : tie.Need-same-length-6
 same-length-6 c = search needs
@@ -75,7 +75,7 @@ same-length-7 : tie.Need-same-length-7
 same-length-7 c = search needs
 
 returns-6 : tie.Need-returns-6
-returns-6 c = λ t ts σ v. leading-to (λ z d. at-right-paren (c .before .before .before .before .before .before .before .before .before .before .args .token .index) t ts (σ .kind ∙ c .before .before .before .before .before .match .keys6) d) (its-lexeme σ (c .before .before .right-paren-arm .ensures t))
+returns-6 c = λ t ts σ v. leading-to (λ z d. at-right-paren (c .before .before .before .before .before .before .before .before .before .before .before .args .token .index) t ts (σ .kind ∙ c .before .before .before .before .before .before .match .keys6) d) (its-lexeme σ (c .before .before .before .right-paren-arm .ensures t))
 
 same-length-8 : tie.Need-same-length-8
 same-length-8 c = search needs
@@ -84,7 +84,7 @@ same-length-9 : tie.Need-same-length-9
 same-length-9 c = search needs
 
 returns-7 : tie.Need-returns-7
-returns-7 c = λ t ts σ v. leading-to (λ z d. at-right-bracket (c .before .before .before .before .before .before .before .before .before .before .args .token .index) t ts (σ .kind ∙ c .before .before .before .before .before .match .keys7) d) (its-lexeme σ (c .before .before .right-bracket-arm .ensures t))
+returns-7 c = λ t ts σ v. leading-to (λ z d. at-right-bracket (c .before .before .before .before .before .before .before .before .before .before .before .args .token .index) t ts (σ .kind ∙ c .before .before .before .before .before .before .match .keys7) d) (its-lexeme σ (c .before .before .before .right-bracket-arm .ensures t))
 
 same-length-10 : tie.Need-same-length-10
 same-length-10 c = search needs
@@ -93,16 +93,16 @@ same-length-11 : tie.Need-same-length-11
 same-length-11 c = search needs
 
 returns-8 : tie.Need-returns-8
-returns-8 c = λ t ts σ v. leading-to (λ z d. at-comma (c .before .before .before .before .before .before .before .before .before .before .args .token .index) t ts (σ .kind ∙ c .before .before .before .before .before .match .keys8) d) (its-lexeme σ (c .before .before .comma-arm .ensures t))
+returns-8 c = λ t ts σ v. leading-to (λ z d. at-comma (c .before .before .before .before .before .before .before .before .before .before .before .args .token .index) t ts (σ .kind ∙ c .before .before .before .before .before .before .match .keys8) d) (its-lexeme σ (c .before .before .before .comma-arm .ensures t))
 
 same-length-12 : tie.Need-same-length-12
 same-length-12 c = search needs
 
 returns-9 : tie.Need-returns-9
-returns-9 c = λ t ts σ v. leading-to (λ z d. at-else (c .before .before .before .before .before .before .before .before .before .args .token .index) t ts (σ .kind ∙ c .before .before .before .before .match .keys9) d) (its-lexeme σ (c .before .before .else-arm .ensures _ t))
+returns-9 c = λ t ts σ v. leading-to (λ z d. at-else (c .before .before .before .before .before .before .before .before .before .before .args .token .index) t ts (σ .kind ∙ c .before .before .before .before .before .match .keys9) d) (its-lexeme σ (c .before .before .before .else-arm .ensures _ t))
 
 returns-10 : tie.Need-returns-10
-returns-10 c = λ t ts σ v. let r = c .before .match .rest in leading-to (λ z d. at-other (c .before .before .before .before .before .before .args .token .index) t ts (σ .kind) (r .0 .0 .0 .0 .0 .0 .0 .0 .1) (r .0 .0 .0 .0 .0 .0 .0 .1) (r .0 .0 .0 .0 .0 .0 .1) (r .0 .0 .0 .0 .0 .1) (λ e. r .0 .0 .0 .0 .1 (inl e)) (λ e. r .0 .0 .0 .0 .1 (inr e)) (r .0 .0 .0 .1) (r .0 .0 .1) (r .0 .1) (r .1) d) (its-lexeme σ (c .other-arm .ensures _ _ t (σ .kind)))
+returns-10 c = λ t ts σ v. let r = c .before .before .match .rest in leading-to (λ z d. at-other (c .before .before .before .before .before .before .before .args .token .index) t ts (σ .kind) (r .0 .0 .0 .0 .0 .0 .0 .0 .1) (r .0 .0 .0 .0 .0 .0 .0 .1) (r .0 .0 .0 .0 .0 .0 .1) (r .0 .0 .0 .0 .0 .1) (λ e. r .0 .0 .0 .0 .1 (inl e)) (λ e. r .0 .0 .0 .0 .1 (inr e)) (r .0 .0 .0 .1) (r .0 .0 .1) (r .0 .1) (r .1) d) (its-lexeme σ (c .before .other-arm .ensures _ _ t (σ .kind)))
 
 pub arm-spec : {M : Type 1} → statement M
 arm-spec =

@@ -1,8 +1,8 @@
 -- `walk::token::overflows` meets its contract. Assumes nothing.
 use mathlib.Core.Path.{_∙_}
 use borrow.Author.Needs.{needs}
-use Rattle.format.specs.Pen.{optionsOf}
-use Rattle.format.proofs.Does.{told}
+use Rattle.fields.specs.Pen.{optionsOf}
+use Rattle.fields.proofs.Does.{told}
 use Rattle.walk.proofs.ByKind.{not-full, full-signature, full-paren, full-bracket, full-other}
 use Rattle.walk.proofs.token.overflows.Statement.{statement}
 use Rattle.walk.proofs.token.overflows.Tie as tie

@@ -1,8 +1,8 @@
 -- `walk::token::push_token` meets its contract. Assumes nothing.
 use Rattle.walk.proofs.Pushed.{refused, pushed, ended-by}
 use Rattle.walk.proofs.Bare.{bare-is}
-use Rattle.format.proofs.Held.{held-then, held-roomy}
-use Rattle.format.proofs.Does.{told}
+use Rattle.fields.proofs.Held.{held-then, held-roomy}
+use Rattle.fields.proofs.Does.{told}
 use mathlib.Core.Path.{_∙_}
 use borrow.Author.Needs.{needs}
 use Rattle.walk.proofs.token.push_token.Statement.{statement}

@@ -1,6 +1,6 @@
 -- `walk::token::refuse` meets its contract. Assumes nothing.
 use Rattle.sink.proofs.Sink.{nothing}
-use Rattle.format.proofs.Does.{updated}
+use Rattle.fields.proofs.Does.{updated}
 use native.Mathlib.Numerals.{add-one}
 use mathlib.Core.Path.{refl}
 use borrow.Author.Needs.{needs}

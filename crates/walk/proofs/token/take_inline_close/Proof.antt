@@ -1,6 +1,6 @@
 -- `walk::token::take_inline_close` meets its contract. Assumes nothing.
 use mathlib.Core.Path.{refl}
-use Rattle.format.proofs.Does.{updated}
+use Rattle.fields.proofs.Does.{updated}
 use Rattle.sink.proofs.Sink.{nothing}
 use Rattle.walk.proofs.token.take_inline_close.Statement.{statement}
 use Rattle.walk.proofs.token.take_inline_close.Tie as tie

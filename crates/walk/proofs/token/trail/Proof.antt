@@ -1,5 +1,5 @@
 -- `walk::token::trail` meets its contract. Assumes nothing.
-use Rattle.format.proofs.Does.{yes, no, stays}
+use Rattle.fields.proofs.Does.{yes, no, stays}
 use borrow.Author.Needs.{needs}
 use Rattle.walk.proofs.token.trail.Statement.{statement}
 use Rattle.walk.proofs.token.trail.Tie as tie

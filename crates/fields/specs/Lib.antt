@@ -1,0 +1,5 @@
+pub mod Pen
+pub mod Gap
+pub mod Does
+pub mod Due
+pub mod Trivia
