@@ -219,6 +219,8 @@ fn usual_inputs() -> Vec<Input> {
         Input::new("wide broken lists", DEFAULTS, repeated(WIDE, MOST_ROWS)),
         Input::new("comments", DEFAULTS, repeated(COMMENTED, MOST_ROWS)),
         Input::new("strings of 19 bytes, commas", DEFAULTS, repeated(STRINGS, MOST_ROWS)),
+        Input::new("names of 100 bytes, commas", DEFAULTS, repeated(&format!("{} ,", "n".repeat(100)), MOST_ROWS)),
+        Input::new("strings of 200 bytes, commas", DEFAULTS, repeated(&format!("25:\"{}\" ,", "s".repeat(198)), MOST_ROWS)),
     ]
 }
 
