@@ -13,14 +13,22 @@ use fields::Suppressed;
 use plain::plain_mark;
 use report::clear_bytes;
 use rows::Checked;
-use rows::check;
+use rows::MOST_ROWS;
+use rows::ROW_BYTES;
+use rows::check_unless;
 use walk::Walked;
 use walk::walk;
+ghost use mathlib.Core.Bool.{true};
 ghost use mathlib.Core.List.{List};
+ghost use mathlib.Core.Option.{none};
 ghost use mathlib.Core.Path.{_≡_};
 ghost use Prim.Native.Nat.{ℕ, _≤_};
 ghost use lib.ListN.{length};
+ghost use Rattle.rows.specs.Row.{rowsOf};
 ghost use Rattle.rows.specs.Options;
+ghost use Rattle.rows.specs.Checks.{atStart, badFrom};
+ghost use Rattle.rows.specs.Token.{tokensOf};
+ghost use Rattle.push_token.specs.Plain.{plain};
 ghost use Rattle.push_token.specs.Layout.{layout};
 ghost use Rattle.fields.specs.Pen.{optionsOf};
 ghost use Rattle.walk.specs.Walk.{Walks, Fresh};
@@ -49,7 +57,16 @@ pub fn format_tokens_with(
     ensures answer { λ r. ⌜ reported r ≡ layout style «indent_width» «signature_width» «list_width» (now (rows .entry)) (now (text .entry)) (now (out .entry)) .report ⌝ }
     ensures output { λ r. ⌜ now (out .exit) ≡ layout style «indent_width» «signature_width» «list_width» (now (rows .entry)) (now (text .entry)) (now (out .entry)) .out ⌝ }
 {
-    match check(style, indent_width, signature_width, list_width, rows, text) {
+    let mark = is_plain(rows, text);
+    match check_unless(
+        style,
+        indent_width,
+        signature_width,
+        list_width,
+        rows,
+        text,
+        mark,
+    ) {
         Checked::BadOption(place) => Answer::BadOption(place),
         Checked::Ragged => Answer::RaggedRows,
         Checked::BadRow(place) => Answer::BadRow(place),
@@ -58,21 +75,33 @@ pub fn format_tokens_with(
             rows,
             text,
             out,
+            mark,
         ),
     }
 }
 
-// The plain mark and the walk over checked rows: where the mark is given there is no trivia to look for. After refusals
-// 4 and 5 every place of the output is 0.
-fn lay_out(options: Options, rows: &[u8], text: &[u8], out: &mut [u8]) -> Answer
+// The plain mark of good rows, no for bad ones; too many rows are not looked at.
+fn is_plain(rows: &[u8], text: &[u8]) -> bool
+    ensures good { λ r. ⌜ (r ≡ true → badFrom (length (now (text .entry))) atStart 0 (rowsOf (now (rows .entry))) ≡ none) ⌝ }
+    ensures mark { λ r. ⌜ (length (now (rows .entry)) ≤ 1048560 → badFrom (length (now (text .entry))) atStart 0 (rowsOf (now (rows .entry))) ≡ none → r ≡ plain (tokensOf (now (rows .entry)) (now (text .entry)))) ⌝ }
+{
+    if MOST_ROWS < rows.len() / ROW_BYTES {
+        return false;
+    }
+    plain_mark(rows, text)
+}
+
+// The walk over checked rows: where the plain mark is given there is no trivia to look for. After refusals 4 and 5 every
+// place of the output is 0.
+fn lay_out(options: Options, rows: &[u8], text: &[u8], out: &mut [u8], mark: bool) -> Answer
     requires { ⌜ Walks (now rows) (now text) ⌝ }
+    requires { ⌜ mark ≡ plain (tokensOf (now rows) (now text)) ⌝ }
     ensures answer { λ r. ⌜ reported r ≡ afterChecks (optionsOf options) (now (rows .entry)) (now (text .entry)) (now (out .entry)) .report ⌝ }
     ensures output { λ r. ⌜ now (out .exit) ≡ afterChecks (optionsOf options) (now (rows .entry)) (now (text .entry)) (now (out .entry)) .out ⌝ }
 {
     let mut stack = [0; 64];
-    let plain = plain_mark(rows, text);
-    match walk(formatter(options), out, &mut stack, rows, text, plain) {
-        Walked::Finished(len, commas) => Answer::Text(len, commas, plain),
+    match walk(formatter(options), out, &mut stack, rows, text, mark) {
+        Walked::Finished(len, commas) => Answer::Text(len, commas, mark),
         Walked::Deep(index) => {
             clear_bytes(out);
             Answer::Deep(index)

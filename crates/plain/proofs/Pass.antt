@@ -60,7 +60,7 @@ module _ {rows text : List ℕ} {q : Facts} {at : ℕ} (σ : Left rows text q at
 
       pub named-badly : m ≡ true → Told rows text false
       unfolding badFrom
-      named-badly z = (λ x. impossible′ x, λ g. some-none (sym (σ .left ∙ rw (next, bad ∙ z)) ∙ g))
+      named-badly z = (λ x. impossible′ x, λ g. some-none {i = σ .number} (sym (σ .left ∙ rw (next, bad ∙ z)) ∙ g))
 
       module _ (z : m ≡ false) where
         sounds : Sound (length text) (σ .before) r

@@ -38,28 +38,34 @@ cast-end : tie.Need-cast-end Inv-loop μ-loop
 cast-end c = search needs
 
 sub-lexeme : tie.Need-sub-lexeme Inv-loop μ-loop
-sub-lexeme c = inside (c .before .before .before .before .before .before .loop .inv) (search needs) (c .before .before .before .before .row-at .ensures) .ordered
+sub-lexeme c = inside (c .before .before .before .before .before .before .before .before .loop .inv) (search needs) (c .before .before .before .before .before .before .row-at .ensures) (c .before .before .before .before .if1 .left) (c .before .before .before .misnames .ensures) (c .before .before .if2 .left) .ordered
 
 part-lexeme-start : tie.Need-part-lexeme-start Inv-loop μ-loop
-part-lexeme-start c = inside (c .before .before .before .before .before .before .loop .inv) (search needs) (c .before .before .before .before .row-at .ensures) .ordered
+part-lexeme-start c = inside (c .before .before .before .before .before .before .before .before .loop .inv) (search needs) (c .before .before .before .before .before .before .row-at .ensures) (c .before .before .before .before .if1 .left) (c .before .before .before .misnames .ensures) (c .before .before .if2 .left) .ordered
 
 part-lexeme-end : tie.Need-part-lexeme-end Inv-loop μ-loop
-part-lexeme-end c = inside (c .before .before .before .before .before .before .loop .inv) (search needs) (c .before .before .before .before .row-at .ensures) .within
+part-lexeme-end c = inside (c .before .before .before .before .before .before .before .before .loop .inv) (search needs) (c .before .before .before .before .before .before .row-at .ensures) (c .before .before .before .before .if1 .left) (c .before .before .before .misnames .ensures) (c .before .before .if2 .left) .within
 
 is-name-requires : tie.Need-is-name-requires Inv-loop μ-loop
 is-name-requires c κs = search needs
 
 behind-name-requires : tie.Need-behind-name-requires Inv-loop μ-loop
-behind-name-requires c κs = sym (c .before .is-name .ensures) ∙ c .if2 .taken
+behind-name-requires c κs = sym (c .before .is-name .ensures) ∙ (c .if3 .taken)
 
 fits-requires : tie.Need-fits-requires Inv-loop μ-loop
 fits-requires c κs = search needs
 
+misnames-requires : tie.Need-misnames-requires Inv-loop μ-loop
+misnames-requires c κs = search needs
+
 returns-2 : tie.Need-returns-2 Inv-loop μ-loop
-returns-2 c = unfit (c .before .before .before .before .before .before .before .before .before .before .before .loop .inv) (search needs) (c .before .before .before .before .before .before .before .before .before .row-at .ensures) (c .before .before .before .before .before .before .before .if1 .left) (c .before .fits2 .ensures) (not-true _ (c .if3 .taken))
+returns-2 c = named-badly (c .before .before .before .before .before .before .loop .inv) (search needs) (c .before .before .before .before .row-at .ensures) (c .before .before .if1 .left) (c .before .misnames .ensures) (c .if2 .taken)
+
+returns-3 : tie.Need-returns-3 Inv-loop μ-loop
+returns-3 c = unfit (c .before .before .before .before .before .before .before .before .before .before .before .before .before .loop .inv) (search needs) (c .before .before .before .before .before .before .before .before .before .before .before .row-at .ensures) (c .before .before .before .before .before .before .before .before .before .if1 .left) (c .before .before .before .before .before .before .before .before .misnames .ensures) (c .before .before .before .before .before .before .before .if2 .left) (c .before .fits2 .ensures) (not-true _ (c .if4 .taken))
 
 behind-requires : tie.Need-behind-requires Inv-loop μ-loop
-behind-requires c κs = sym (c .before .fits2 .ensures) ∙ not-false _ (c .if3 .left)
+behind-requires c κs = sym (c .before .fits2 .ensures) ∙ not-false _ (c .if4 .left)
 
 add-at : tie.Need-add-at Inv-loop μ-loop
 add-at c = search needs
@@ -70,12 +76,12 @@ loop-less c = search needs
 loop-again : tie.Need-loop-again Inv-loop μ-loop
 loop-again c =
     ⊎-elim
-    (λ w. rw (w .2) (more-name (c .before .before .before .before .before .before .before .before .before .loop .inv) (search needs) (c .before .before .before .before .before .before .before .row-at .ensures) (c .before .before .before .before .before .if1 .left) (c .before .is-name .ensures) (w .0 .taken) (w .1 .ensures)))
-    (λ w. rw (w .4) (more (c .before .before .before .before .before .before .before .before .before .loop .inv) (search needs) (c .before .before .before .before .before .before .before .row-at .ensures) (c .before .before .before .before .before .if1 .left) (w .1 .ensures) (not-false _ (w .2 .left)) (w .3 .ensures)))
-    (c .if2 .came)
+    (λ w. rw (w .2) (more-name (c .before .before .before .before .before .before .before .before .before .before .before .loop .inv) (search needs) (c .before .before .before .before .before .before .before .before .before .row-at .ensures) (c .before .before .before .before .before .before .before .if1 .left) (c .before .before .before .before .before .before .misnames .ensures) (c .before .before .before .before .before .if2 .left) (c .before .is-name .ensures) (w .0 .taken) (w .1 .ensures)))
+    (λ w. rw (w .4) (more (c .before .before .before .before .before .before .before .before .before .before .before .loop .inv) (search needs) (c .before .before .before .before .before .before .before .before .before .row-at .ensures) (c .before .before .before .before .before .before .before .if1 .left) (c .before .before .before .before .before .before .misnames .ensures) (c .before .before .before .before .before .if2 .left) (w .1 .ensures) (not-false _ (w .2 .left)) (w .3 .ensures)))
+    (c .if3 .came)
 
-returns-3 : tie.Need-returns-3 Inv-loop μ-loop
-returns-3 c = finished (c .before .loop .inv) (search needs)
+returns-4 : tie.Need-returns-4 Inv-loop μ-loop
+returns-4 c = finished (c .before .loop .inv) (search needs)
 
 pub plain-mark-spec : {M : Type 1} → statement M
 plain-mark-spec =
@@ -88,6 +94,8 @@ plain-mark-spec =
     sub-loop
     row-at-requires
     returns
+    misnames-requires
+    returns-2
     cast-start
     cast-end
     sub-lexeme
@@ -96,9 +104,9 @@ plain-mark-spec =
     is-name-requires
     behind-name-requires
     fits-requires
-    returns-2
+    returns-3
     behind-requires
     add-at
     loop-less
     loop-again
-    returns-3)
+    returns-4)
