@@ -30,7 +30,15 @@ pub fn check(
 ) -> Checked
     ensures { λ r. ⌜ reported r ≡ checkReport style «indent_width» «signature_width» «list_width» (now (rows .entry)) (length (now (text .entry))) ⌝ }
 {
-    check_unless(style, indent_width, signature_width, list_width, rows, text, false)
+    check_unless(
+        style,
+        indent_width,
+        signature_width,
+        list_width,
+        rows,
+        text,
+        false,
+    )
 }
 
 // The same for a caller who may know that no row is bad: `good` tells so, and none is looked at.
