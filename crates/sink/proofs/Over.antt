@@ -6,7 +6,7 @@ use native.Mathlib.Omega.{arith}
 use lib.ListN.{length, take, drop, set, getD, replicate, length-append, length-set}
 use lib.Seq.{slice, length-slice, length-take-le, take-take, take-add, take-append-add, drop-drop, drop-at}
 use Rattle.sink.specs.Sink.{Writes}
-use Rattle.sink.proofs.Sink.{Copied, later, one, same-bytes, part-more, slice-one}
+use Rattle.sink.proofs.Sink.{Copied, later, one, same-bytes, part-more, part-done, slice-one}
 
 take-over : (l m xs : List ℕ) (n p q j : ℕ) → q ≡ n + j → q ≤ p → n ≤ length l → take p m ≡ take n l ++ xs → take q m ≡ take n l ++ take j xs
 take-over l m xs n p q j d b h e =
@@ -70,7 +70,11 @@ part-over {l} {t} {m} {k} {n} {s} {i} j w a b h p x =
       wrote = rw (← f) (same-bytes (rw (take-slice s j i t (omega arith) a) (slice-join s j w t (omega arith))) (overwrite j (omega arith) (omega arith) refl (p .wrote) x));
     }
 
--- ---- eight stores
+-- the first w bytes and the last w, which may go over them
+pub ends : {l m k : List ℕ} {n : ℕ} (t : List ℕ) (s w size : ℕ) → w ≤ size → size ≤ w + w → s + size ≤ length t → Writes l n (slice s (s + w) t) m (n + w) → Writes m (n + (size - w)) (slice (s + (size - w)) (s + (size - w) + w) t) k (n + (size - w) + w) → Writes l n (slice s (s + size) t) k (n + size)
+ends t s w size a b h x y = part-done (s + size) size (part-over (size - w) w (omega arith) (omega arith) (omega arith) (record { size = x .size; wrote = x }) y) (omega arith) (omega arith)
+
+-- ---- two, four and eight stores
 
 part-one : {l t : List ℕ} {n s : ℕ} → s < length t → n < length l → Copied l n t s (set l n (getD t s 0)) 1
 part-one {l} {t} {n} {s} g h = record { size = length-set l n (getD t s 0); wrote = same-bytes (sym (slice-one s (s + 1) t (omega arith) (omega arith))) (one h) }
@@ -78,20 +82,24 @@ part-one {l} {t} {n} {s} g h = record { size = length-set l n (getD t s 0); wrot
 part-next : {l t m : List ℕ} {n s i : ℕ} → s + i < length t → n + i < length l → Copied l n t s m i → Copied l n t s (set m (n + i) (getD t (s + i) 0)) (i + 1)
 part-next g h p = let z = p .size in part-more p g (omega arith)
 
-pub part-eight : (l t : List ℕ) (n s : ℕ) → s + 8 ≤ length t → n + 8 ≤ length l →
-    Writes l n (slice s (s + 8) t)
-    (set (set (set (set (set (set (set (set l n (getD t s 0)) (n + 1) (getD t (s + 1) 0)) (n + 2) (getD t (s + 2) 0)) (n + 3) (getD t (s + 3) 0)) (n + 4) (getD t (s + 4) 0)) (n + 5) (getD t (s + 5) 0)) (n + 6) (getD t (s + 6) 0)) (n + 7) (getD t (s + 7) 0))
-    (n + 8)
-part-eight l t n s g h =
-    let p1 : Copied l n t s _ 1 = part-one (omega arith) (omega arith) in
-    let p2 : Copied l n t s _ 2 = part-next (omega arith) (omega arith) p1 in
-    let p3 : Copied l n t s _ 3 = part-next (omega arith) (omega arith) p2 in
-    let p4 : Copied l n t s _ 4 = part-next (omega arith) (omega arith) p3 in
-    let p5 : Copied l n t s _ 5 = part-next (omega arith) (omega arith) p4 in
-    let p6 : Copied l n t s _ 6 = part-next (omega arith) (omega arith) p5 in
-    let p7 : Copied l n t s _ 7 = part-next (omega arith) (omega arith) p6 in
-    let p8 : Copied l n t s _ 8 = part-next (omega arith) (omega arith) p7 in
-    p8 .wrote
+module _ (l t : List ℕ) (n s : ℕ) where
+  pub part-two : s + 2 ≤ length t → n + 2 ≤ length l → Copied l n t s (set (set l n (getD t s 0)) (n + 1) (getD t (s + 1) 0)) 2
+  part-two g h = part-next (omega arith) (omega arith) (part-one (omega arith) (omega arith))
+
+  pub part-four : s + 4 ≤ length t → n + 4 ≤ length l → Copied l n t s (set (set (set (set l n (getD t s 0)) (n + 1) (getD t (s + 1) 0)) (n + 2) (getD t (s + 2) 0)) (n + 3) (getD t (s + 3) 0)) 4
+  part-four g h =
+      let p3 : Copied l n t s _ 3 = part-next (omega arith) (omega arith) (part-two (omega arith) (omega arith)) in
+      part-next (omega arith) (omega arith) p3
+
+  pub part-eight : s + 8 ≤ length t → n + 8 ≤ length l →
+      Copied l n t s
+      (set (set (set (set (set (set (set (set l n (getD t s 0)) (n + 1) (getD t (s + 1) 0)) (n + 2) (getD t (s + 2) 0)) (n + 3) (getD t (s + 3) 0)) (n + 4) (getD t (s + 4) 0)) (n + 5) (getD t (s + 5) 0)) (n + 6) (getD t (s + 6) 0)) (n + 7) (getD t (s + 7) 0))
+      8
+  part-eight g h =
+      let p5 : Copied l n t s _ 5 = part-next (omega arith) (omega arith) (part-four (omega arith) (omega arith)) in
+      let p6 : Copied l n t s _ 6 = part-next (omega arith) (omega arith) p5 in
+      let p7 : Copied l n t s _ 7 = part-next (omega arith) (omega arith) p6 in
+      part-next (omega arith) (omega arith) p7
 
 -- ---- a lexeme over a space
 

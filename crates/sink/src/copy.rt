@@ -5,16 +5,23 @@ ghost use lib.Seq.{slice};
 ghost use Rattle.sink.specs.Sink.{Writes};
 
 // How many bytes are copied at a time.
+const FOUR: usize = 4;
+
 const EIGHT: usize = 8;
 
-// Copies `size` bytes of `text` from `from` on to `out` from `to` on, eight at a time where there are eight.
+// Copies `size` bytes of `text`, two or more, from `from` on to `out` from `to` on, without a loop where they are few.
 pub fn copy(out: &mut [u8], to: usize, text: &[u8], from: usize, size: usize)
+    requires { ⌜ 2 ≤ size ⌝ }
     requires { ⌜ from + size ≤ length (now text) ⌝ }
     requires { ⌜ to + size ≤ length (now out) ⌝ }
     ensures { λ r. ⌜ Writes (now (out .entry)) to (slice from (from + size) (now (text .entry))) (now (out .exit)) (to + size) ⌝ }
 {
+    if size < FOUR {
+        copy_twos(out, to, text, from, size);
+        return;
+    }
     if size < EIGHT {
-        copy_bytes(out, to, text, from, size);
+        copy_fours(out, to, text, from, size);
         return;
     }
     copy_eights(out, to, text, from, size);
@@ -33,6 +40,30 @@ pub fn copy_bytes(out: &mut [u8], to: usize, text: &[u8], from: usize, size: usi
     }
 }
 
+// Two bytes, and the last two, which may go over them.
+fn copy_twos(out: &mut [u8], to: usize, text: &[u8], from: usize, size: usize)
+    requires { ⌜ (2 ≤ size) × (size ≤ 4) ⌝ }
+    requires { ⌜ from + size ≤ length (now text) ⌝ }
+    requires { ⌜ to + size ≤ length (now out) ⌝ }
+    ensures { λ r. ⌜ Writes (now (out .entry)) to (slice from (from + size) (now (text .entry))) (now (out .exit)) (to + size) ⌝ }
+{
+    let last = size - 2;
+    copy_two(out, to, text, from);
+    copy_two(out, to + last, text, from + last);
+}
+
+// Four bytes, and the last four, which may go over them.
+fn copy_fours(out: &mut [u8], to: usize, text: &[u8], from: usize, size: usize)
+    requires { ⌜ (4 ≤ size) × (size ≤ 8) ⌝ }
+    requires { ⌜ from + size ≤ length (now text) ⌝ }
+    requires { ⌜ to + size ≤ length (now out) ⌝ }
+    ensures { λ r. ⌜ Writes (now (out .entry)) to (slice from (from + size) (now (text .entry))) (now (out .exit)) (to + size) ⌝ }
+{
+    let last = size - FOUR;
+    copy_four(out, to, text, from);
+    copy_four(out, to + last, text, from + last);
+}
+
 // Eight bytes at a time. The last eight may go over bytes that are copied already.
 fn copy_eights(out: &mut [u8], to: usize, text: &[u8], from: usize, size: usize)
     requires { ⌜ 8 ≤ size ⌝ }
@@ -49,7 +80,33 @@ fn copy_eights(out: &mut [u8], to: usize, text: &[u8], from: usize, size: usize)
     copy_eight(out, to + last, text, from + last);
 }
 
-// All eight are loaded before one is stored: the compiler makes one load and one store of it.
+// All bytes are loaded before one is stored: the compiler makes one load and one store of it.
+fn copy_two(out: &mut [u8], to: usize, text: &[u8], from: usize)
+    requires { ⌜ from + 2 ≤ length (now text) ⌝ }
+    requires { ⌜ to + 2 ≤ length (now out) ⌝ }
+    ensures { λ r. ⌜ Writes (now (out .entry)) to (slice from (from + 2) (now (text .entry))) (now (out .exit)) (to + 2) ⌝ }
+{
+    let b0 = text[from];
+    let b1 = text[from + 1];
+    out[to] = b0;
+    out[to + 1] = b1;
+}
+
+fn copy_four(out: &mut [u8], to: usize, text: &[u8], from: usize)
+    requires { ⌜ from + 4 ≤ length (now text) ⌝ }
+    requires { ⌜ to + 4 ≤ length (now out) ⌝ }
+    ensures { λ r. ⌜ Writes (now (out .entry)) to (slice from (from + 4) (now (text .entry))) (now (out .exit)) (to + 4) ⌝ }
+{
+    let b0 = text[from];
+    let b1 = text[from + 1];
+    let b2 = text[from + 2];
+    let b3 = text[from + 3];
+    out[to] = b0;
+    out[to + 1] = b1;
+    out[to + 2] = b2;
+    out[to + 3] = b3;
+}
+
 fn copy_eight(out: &mut [u8], to: usize, text: &[u8], from: usize)
     requires { ⌜ from + 8 ≤ length (now text) ⌝ }
     requires { ⌜ to + 8 ≤ length (now out) ⌝ }

@@ -100,7 +100,7 @@ same-length : tie.Need-same-length
 same-length c = simp length-set
 
 returns : tie.Need-returns
-returns c = part-eight (c .before .before .before .before .before .before .before .before .args .out .now) (c .before .before .before .before .before .before .before .before .args .text .now) (c .before .before .before .before .before .before .before .before .args .to) (c .before .before .before .before .before .before .before .before .args .from) (c .before .before .before .before .before .before .before .before .pre .0) (c .before .before .before .before .before .before .before .before .pre .1)
+returns c = part-eight (c .before .before .before .before .before .before .before .before .args .out .now) (c .before .before .before .before .before .before .before .before .args .text .now) (c .before .before .before .before .before .before .before .before .args .to) (c .before .before .before .before .before .before .before .before .args .from) (c .before .before .before .before .before .before .before .before .pre .0) (c .before .before .before .before .before .before .before .before .pre .1) .wrote
 
 pub copy-eight-spec : {M : Type 1} → statement M
 copy-eight-spec =
