@@ -1,5 +1,6 @@
 pub mod Bytes
 pub mod Runs
+pub mod Quick
 pub mod Eight
 pub mod Fixed
 pub mod Tests

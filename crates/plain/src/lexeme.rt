@@ -2,11 +2,14 @@
 use crate::words::is_words;
 use pieces::Next;
 use pieces::next_piece;
+use pieces::runs;
 use rows::kinds;
-ghost use mathlib.Core.Bool.{_&&_};
+ghost use mathlib.Core.Bool.{true, _&&_};
 ghost use mathlib.Core.List.{[], _∷_};
 ghost use mathlib.Core.Path.{_≡_};
-ghost use Rattle.pieces.specs.Class.{digit};
+ghost use Prim.Native.Nat.{_<_};
+ghost use lib.ListN.{length, getD};
+ghost use Rattle.pieces.specs.Class.{class, digit, isQuote};
 ghost use Rattle.push_token.specs.Plain.{sameBytes, operatorByte, hasItsLexeme, readsWhole, beginsOperator};
 ghost use Rattle.plain.specs.Scan.{bracketOf, isName, runOf};
 
@@ -152,11 +155,11 @@ fn is_else(lexeme: &[u8]) -> bool
     lexeme[3] == b'e'
 }
 
-// A run of operator bytes is one piece: it is asked for first, as the most frequent here.
+// The usual pieces are asked for first: reading a piece takes longer.
 fn reads_whole(lexeme: &[u8]) -> bool
     ensures { λ r. ⌜ r ≡ readsWhole (now (lexeme .entry)) ⌝ }
 {
-    if is_operators(lexeme) {
+    if is_piece(lexeme) {
         return true;
     }
     let next = next_piece(lexeme, 0);
@@ -170,4 +173,48 @@ fn reads_whole(lexeme: &[u8]) -> bool
         Next::End => false,
         Next::Unreadable(_) => false,
     }
+}
+
+// Whether the lexeme is a run of operator bytes, a number, or a quote without a backslash.
+fn is_piece(lexeme: &[u8]) -> bool
+    ensures { λ r. ⌜ (r ≡ true → readsWhole (now (lexeme .entry)) ≡ true) ⌝ }
+{
+    if lexeme.len() == 0 {
+        return false;
+    }
+    let first = lexeme[0];
+    if is_operator(first) {
+        return is_operators(lexeme);
+    }
+    if is_digit(first) {
+        return runs::word_end(lexeme, 1, first) == lexeme.len();
+    }
+    is_quoted(lexeme, first)
+}
+
+// Whether the lexeme, which begins with `first`, is a quote that its last byte closes, without a backslash.
+fn is_quoted(lexeme: &[u8], first: u8) -> bool
+    requires { ⌜ (0 < length (now lexeme)) × (first ≡ getD (now lexeme) 0 0) ⌝ }
+    ensures { λ r. ⌜ (r ≡ true → readsWhole (now (lexeme .entry)) ≡ true) ⌝ }
+{
+    if !is_quote(first) {
+        return false;
+    }
+    let end = runs::ordinary_end(lexeme, 1, first);
+    if lexeme.len() <= end {
+        return false;
+    }
+    if lexeme[end] != first {
+        return false;
+    }
+    lexeme.len() - end == 1
+}
+
+fn is_quote(b: u8) -> bool
+    ensures { λ r. ⌜ r ≡ isQuote (class b) ⌝ }
+{
+    if b == b'"' {
+        return true;
+    }
+    b == b'\''
 }

@@ -2,15 +2,14 @@
 use mathlib.Core.Path.{sym, _∙_}
 use borrow.Author.Needs.{needs}
 use Rattle.plain.proofs.Bytes.{reads-later, reads-first, reads-none, reads-refused}
-use Rattle.plain.proofs.Runs.{operators-whole}
 use Rattle.plain.proofs.lexeme.reads_whole.Statement.{statement}
 use Rattle.plain.proofs.lexeme.reads_whole.Tie as tie
 
-is-operators-requires : tie.Need-is-operators-requires
-is-operators-requires c κs = search needs
+is-piece-requires : tie.Need-is-piece-requires
+is-piece-requires c κs = search needs
 
 returns : tie.Need-returns
-returns c = sym (operators-whole (c .before .before .before .args .lexeme .now) (sym (c .before .is-operators .ensures) ∙ c .if1 .taken))
+returns c = sym (c .before .is-piece .ensures (c .if1 .taken))
 
 next-piece-requires : tie.Need-next-piece-requires
 next-piece-requires c κs = search needs
@@ -40,7 +39,7 @@ pub reads-whole-spec : {M : Type 1} → statement M
 reads-whole-spec =
     tie.close
     (tie.spec
-    is-operators-requires
+    is-piece-requires
     returns
     next-piece-requires
     enum-known-next
