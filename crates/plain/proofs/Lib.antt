@@ -2,7 +2,9 @@ pub mod Bytes
 pub mod Runs
 pub mod Quick
 pub mod Eight
+pub mod Letters
 pub mod Fixed
 pub mod Tests
 pub mod Rows
+pub mod LookBack
 pub mod Pass

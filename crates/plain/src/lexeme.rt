@@ -1,5 +1,4 @@
 // A lexeme by itself: clauses 2 and 3, and its bytes.
-use crate::words::is_words;
 use pieces::Next;
 use pieces::next_piece;
 use pieces::runs;
@@ -7,23 +6,13 @@ use rows::kinds;
 ghost use mathlib.Core.Bool.{true, _&&_};
 ghost use mathlib.Core.List.{[], _∷_};
 ghost use mathlib.Core.Path.{_≡_};
-ghost use Prim.Native.Nat.{_<_};
+ghost use Prim.Native.Nat.{_≤_, _<_};
 ghost use lib.ListN.{length, getD};
 ghost use Rattle.pieces.specs.Class.{class, digit, isQuote};
 ghost use Rattle.push_token.specs.Plain.{sameBytes, operatorByte, hasItsLexeme, readsWhole, beginsOperator};
-ghost use Rattle.plain.specs.Scan.{bracketOf, isName, runOf};
+ghost use Rattle.plain.specs.Scan.{bracketOf, runOf};
 
-// Whether the kind has no fixed lexeme and the lexeme is a run of word bytes, which reads as one piece.
-pub fn is_name(kind: u32, lexeme: &[u8]) -> bool
-    ensures { λ r. ⌜ r ≡ isName kind (now (lexeme .entry)) ⌝ }
-{
-    if kind <= kinds::ELSE {
-        return false;
-    }
-    is_words(lexeme)
-}
-
-// The byte of a kind whose lexeme is one byte, and no operator byte; or 0.
+// The byte of a kind from LeftBrace to Comma; or 0.
 pub fn bracket_of(kind: u32) -> u8
     ensures { λ r. ⌜ r ≡ bracketOf kind ⌝ }
 {
@@ -35,20 +24,19 @@ pub fn bracket_of(kind: u32) -> u8
         kinds::LEFT_BRACKET => b'[',
         kinds::RIGHT_BRACKET => b']',
         kinds::COMMA => b',',
-        kinds::SEMICOLON => b';',
-        kinds::QUESTION => b'?',
         _ => 0,
     }
 }
 
-// Whether the lexeme is its kind's, where that has a fixed one, and reads as one piece that is the whole of it.
-// Brackets are asked for before.
+// Whether the lexeme is that of a kind from Colon to Else; it reads as one piece that is the whole of it.
 pub fn is_itself(kind: u32, lexeme: &[u8]) -> bool
-    requires { ⌜ bracketOf kind ≡ 0 ⌝ }
+    requires { ⌜ (8 < kind) × (kind ≤ 19) ⌝ }
     ensures { λ r. ⌜ r ≡ hasItsLexeme kind (now (lexeme .entry)) && readsWhole (now (lexeme .entry)) ⌝ }
 {
     match kind {
         kinds::COLON => is_single(lexeme, b':'),
+        kinds::SEMICOLON => is_single(lexeme, b';'),
+        kinds::QUESTION => is_single(lexeme, b'?'),
         kinds::DOT => is_single(lexeme, b'.'),
         kinds::DOT_DOT => is_pair(lexeme, b'.'),
         kinds::COLON_COLON => is_pair(lexeme, b':'),
@@ -56,8 +44,7 @@ pub fn is_itself(kind: u32, lexeme: &[u8]) -> bool
         kinds::BANG => is_single(lexeme, b'!'),
         kinds::BANG_HASH => is_operators(lexeme),
         kinds::MINUS => is_single(lexeme, b'-'),
-        kinds::ELSE => is_else(lexeme),
-        _ => reads_whole(lexeme),
+        _ => is_else(lexeme),
     }
 }
 
@@ -155,13 +142,10 @@ fn is_else(lexeme: &[u8]) -> bool
     lexeme[3] == b'e'
 }
 
-// The usual pieces are asked for first: reading a piece takes longer.
-fn reads_whole(lexeme: &[u8]) -> bool
+// Whether the lexeme reads as one piece that is the whole of it.
+pub fn reads_whole(lexeme: &[u8]) -> bool
     ensures { λ r. ⌜ r ≡ readsWhole (now (lexeme .entry)) ⌝ }
 {
-    if is_piece(lexeme) {
-        return true;
-    }
     let next = next_piece(lexeme, 0);
     match next {
         Next::Piece(start, end) => {
@@ -176,7 +160,7 @@ fn reads_whole(lexeme: &[u8]) -> bool
 }
 
 // Whether the lexeme is a run of operator bytes, a number, or a quote without a backslash.
-fn is_piece(lexeme: &[u8]) -> bool
+pub fn is_piece(lexeme: &[u8]) -> bool
     ensures { λ r. ⌜ (r ≡ true → readsWhole (now (lexeme .entry)) ≡ true) ⌝ }
 {
     if lexeme.len() == 0 {

@@ -1,7 +1,7 @@
--- `plain::seen::tight_before` meets its contract. Assumes nothing.
+-- `plain::before::tight_before` meets its contract. Assumes nothing.
 use Rattle.plain.proofs.Tests.{tight-low, tight-high}
-use Rattle.plain.proofs.seen.tight_before.Statement.{statement}
-use Rattle.plain.proofs.seen.tight_before.Tie as tie
+use Rattle.plain.proofs.before.tight_before.Statement.{statement}
+use Rattle.plain.proofs.before.tight_before.Tie as tie
 
 returns : tie.Need-returns
 returns c = tight-low _ (c .if1 .taken)

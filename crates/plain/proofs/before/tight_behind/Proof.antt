@@ -1,7 +1,7 @@
--- `plain::seen::tight_behind` meets its contract. Assumes nothing.
+-- `plain::before::tight_behind` meets its contract. Assumes nothing.
 use borrow.Author.Tests.{ne-eqb}
-use Rattle.plain.proofs.seen.tight_behind.Statement.{statement}
-use Rattle.plain.proofs.seen.tight_behind.Tie as tie
+use Rattle.plain.proofs.before.tight_behind.Statement.{statement}
+use Rattle.plain.proofs.before.tight_behind.Tie as tie
 
 returns : tie.Need-returns
 returns c = rw (c .match .keys1)
