@@ -123,6 +123,10 @@ operators-whole [] e = impossible′ e
 operators-whole (b ∷ w) e =
     whole operator operatorByte (λ b p h. rw h) (λ s i r. refl) b w (rw (operator-of (class b) (first operatorByte b w e))) (others operatorByte b w e)
 
+pub operators-begin : (w : List ℕ) → runOf operatorByte w ≡ true → beginsOperator w ≡ true
+operators-begin [] e = impossible′ e
+operators-begin (b ∷ w) e = first operatorByte b w e
+
 -- ---- no word byte is an operator byte
 
 apart : (c : Class) → isWord c ≡ true → isOperator c ≡ false

@@ -3,6 +3,7 @@
 -- Assumes nothing.
 use mathlib.Core.Bool.{Bool, true, false, cond, not, _&&_, _||_}
 use mathlib.Core.List.{List, [], _∷_}
+use mathlib.Core.Path.{_≡_}
 use Prim.Native.Nat.{ℕ}
 use lib.Dec.{eqb}
 use Rattle.rows.specs.Kinds.{TokenRow, Eof, Newline, LeftBrace, RightBrace, LeftParen, RightParen, LeftBracket, RightBracket, Comma, Dot, Record, oneOf}
@@ -86,6 +87,10 @@ isWordByte b = isWord (class b)
 abbrev pub runOf : (ℕ → Bool) → List ℕ → Bool
 runOf f [] = false
 runOf f (b ∷ w) = f b && all f w
+
+-- w reads as one piece that is the whole of it, and begins with no operator byte
+abbrev pub IsValue : List ℕ → Type 0
+IsValue w = (readsWhole w ≡ true) × (beginsOperator w ≡ false)
 
 -- ---- lexemes of one byte
 

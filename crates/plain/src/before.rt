@@ -4,8 +4,9 @@ use crate::lexeme::bracket_of;
 use crate::lexeme::is_digit;
 use crate::lexeme::is_itself;
 use crate::lexeme::is_operator;
-use crate::lexeme::is_piece;
+use crate::lexeme::is_operators;
 use crate::lexeme::is_single;
+use crate::lexeme::is_value;
 use crate::lexeme::reads_whole;
 use crate::words::is_words;
 use crate::words::smaller;
@@ -56,13 +57,10 @@ pub fn fits_free(rows: &[u8], text: &[u8], at: usize, kind: u32, lexeme: &[u8]) 
     if is_words(lexeme) {
         return true;
     }
-    if !is_piece(lexeme) {
-        return false;
+    if is_operators(lexeme) {
+        return !meets(rows, text, at, kind);
     }
-    if !begins_operator(lexeme) {
-        return true;
-    }
-    !meets(rows, text, at, kind)
+    is_value(lexeme)
 }
 
 // The same, by reading it.

@@ -10,7 +10,7 @@ ghost use Prim.Native.Nat.{_≤_, _<_};
 ghost use lib.ListN.{length, getD};
 ghost use Rattle.pieces.specs.Class.{class, digit, isQuote};
 ghost use Rattle.push_token.specs.Plain.{sameBytes, operatorByte, hasItsLexeme, readsWhole, beginsOperator};
-ghost use Rattle.plain.specs.Scan.{bracketOf, runOf};
+ghost use Rattle.plain.specs.Scan.{bracketOf, runOf, IsValue};
 
 // The byte of a kind from LeftBrace to Comma; or 0.
 pub fn bracket_of(kind: u32) -> u8
@@ -95,7 +95,7 @@ pub fn is_operator(b: u8) -> bool
 }
 
 // Whether there are bytes, and all are operator bytes.
-fn is_operators(lexeme: &[u8]) -> bool
+pub fn is_operators(lexeme: &[u8]) -> bool
     ensures { λ r. ⌜ r ≡ runOf operatorByte (now (lexeme .entry)) ⌝ }
 {
     if lexeme.len() == 0 {
@@ -159,17 +159,14 @@ pub fn reads_whole(lexeme: &[u8]) -> bool
     }
 }
 
-// Whether the lexeme is a run of operator bytes, a number, or a quote without a backslash.
-pub fn is_piece(lexeme: &[u8]) -> bool
-    ensures { λ r. ⌜ (r ≡ true → readsWhole (now (lexeme .entry)) ≡ true) ⌝ }
+// Whether the lexeme is a number, or a quote without a backslash.
+pub fn is_value(lexeme: &[u8]) -> bool
+    ensures { λ r. ⌜ (r ≡ true → IsValue (now (lexeme .entry))) ⌝ }
 {
     if lexeme.len() == 0 {
         return false;
     }
     let first = lexeme[0];
-    if is_operator(first) {
-        return is_operators(lexeme);
-    }
     if is_digit(first) {
         return runs::word_end(lexeme, 1, first) == lexeme.len();
     }
@@ -179,7 +176,7 @@ pub fn is_piece(lexeme: &[u8]) -> bool
 // Whether the lexeme, which begins with `first`, is a quote that its last byte closes, without a backslash.
 fn is_quoted(lexeme: &[u8], first: u8) -> bool
     requires { ⌜ (0 < length (now lexeme)) × (first ≡ getD (now lexeme) 0 0) ⌝ }
-    ensures { λ r. ⌜ (r ≡ true → readsWhole (now (lexeme .entry)) ≡ true) ⌝ }
+    ensures { λ r. ⌜ (r ≡ true → IsValue (now (lexeme .entry))) ⌝ }
 {
     if !is_quote(first) {
         return false;

@@ -1,9 +1,9 @@
 -- `plain::lexeme::is_quoted` meets its contract. Assumes nothing.
-use Rattle.plain.proofs.Quick.{quote-whole}
-use Rattle.report.proofs.Logic.{impossible′}
-use borrow.Author.Tests.{not-false}
 use mathlib.Core.Path.{sym, _∙_}
 use borrow.Author.Needs.{needs}
+use borrow.Author.Tests.{not-false}
+use Rattle.report.proofs.Logic.{impossible′}
+use Rattle.plain.proofs.Quick.{quote-value}
 use Rattle.plain.proofs.lexeme.is_quoted.Statement.{statement}
 use Rattle.plain.proofs.lexeme.is_quoted.Tie as tie
 
@@ -29,7 +29,7 @@ sub-result : tie.Need-sub-result
 sub-result c = search needs
 
 returns-4 : tie.Need-returns-4
-returns-4 c = λ e. quote-whole (c .before .before .before .before .before .before .before .args .lexeme .now) (c .before .before .before .before .before .before .before .pre .0) (c .before .before .before .before .before .before .before .pre .1) (sym (c .before .before .before .before .before .is-quote .ensures) ∙ not-false _ (c .before .before .before .before .if1 .left)) (c .before .before .before .ordinary-end .ensures) (search needs) (c .if3 .left) e
+returns-4 c = λ e. quote-value (c .before .before .before .before .before .before .before .args .lexeme .now) (c .before .before .before .before .before .before .before .pre .0) (c .before .before .before .before .before .before .before .pre .1) (sym (c .before .before .before .before .before .is-quote .ensures) ∙ not-false _ (c .before .before .before .before .if1 .left)) (c .before .before .before .ordinary-end .ensures) (search needs) (c .if3 .left) e
 
 pub is-quoted-spec : {M : Type 1} → statement M
 is-quoted-spec =
