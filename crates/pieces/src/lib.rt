@@ -11,7 +11,7 @@ ghost use Rattle.pieces.specs.Answer.{reported, readAnswer, readSlots, f
 
 mod bytes;
 pub mod eights;
-mod runs;
+pub mod runs;
 
 // What reading a text answers: the number of pieces, or a refusal with its place.
 pub enum Answer {

@@ -55,7 +55,7 @@ pub fn quote_end(text: &[u8], from: usize, quote: u8) -> QuoteEnd
 }
 
 // Behind the ordinary bytes that start at `from`: neither the quote nor a backslash.
-fn ordinary_end(text: &[u8], from: usize, quote: u8) -> usize
+pub fn ordinary_end(text: &[u8], from: usize, quote: u8) -> usize
     ensures { λ r. ⌜ r ≡ from + runLength (ordinary quote) (drop from (now (text .entry))) ⌝ }
 {
     let mut i = ordinary_eights(text, from, quote);

@@ -25,7 +25,7 @@ unfolding class
 one-word = agree-below 256 (λ b. eqb (wordBits 1 b) 128) isWordByte refl
 
 module _ {w : List ℕ} where
-  within-each : {f : ℕ → ℕ} {x : ℕ} → Each w f x → ((b : ℕ) → f b ≤ 127) → (first last : ℕ) → Each w (λ b. bytesWithin 1 (f b) first last) (bytesWithin eightOnes x first last)
+  pub within-each : {f : ℕ → ℕ} {x : ℕ} → Each w f x → ((b : ℕ) → f b ≤ 127) → (first last : ℕ) → Each w (λ b. bytesWithin 1 (f b) first last) (bytesWithin eightOnes x first last)
   within-each φ low first last = xor-each (add-each φ low (128 - first) (omega arith)) (add-each φ low (127 - last) (omega arith))
 
   words-each : {x : ℕ} → Each w (λ b. b) x → Each w (wordBits 1) (wordBits eightOnes x)

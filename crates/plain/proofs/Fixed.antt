@@ -1,12 +1,13 @@
 -- Clauses 2 and 3 at one token, by the tests that the code makes. Assumes nothing.
 use mathlib.Core.Bool.{Bool, true, false, cond, _&&_, _||_}
 use mathlib.Core.List.{List, [], _∷_}
-use mathlib.Core.Path.{_≡_, refl}
-use Prim.Native.Nat.{ℕ, _<_}
+use mathlib.Core.Path.{_≡_, refl, _∙_}
+use Prim.Native.Nat.{ℕ, suc, _≤_, _<_}
 use native.Mathlib.Omega.{arith}
-use lib.Dec.{eqb}
-use borrow.Author.Tests.{eqb-true, ne-eqb}
-use Rattle.report.proofs.Logic.{split}
+use lib.Dec.{eqb, leb}
+use borrow.Author.Tests.{eqb-true, eqb-false, ne-eqb, lt-leb}
+use Rattle.report.proofs.Logic.{split, and-left}
+use Rattle.report.proofs.Below.{agree-below}
 use Rattle.rows.specs.Kinds.{LeftBrace, RightBrace, LeftParen, RightParen, LeftBracket, RightBracket, Comma, Colon, Semicolon, Question, Dot, DotDot, ColonColon, Hash, Bang, BangHash, Minus, Else}
 use Rattle.pieces.specs.Class.{class}
 use Rattle.pieces.specs.Reading.{read}
@@ -17,26 +18,12 @@ use Rattle.plain.proofs.Bytes.{same-eq}
 use Rattle.plain.proofs.Runs.{operators-whole}
 
 -- clauses 2 and 3 of a written token
-abbrev itself : ℕ → List ℕ → Bool
+abbrev pub itself : ℕ → List ℕ → Bool
 itself k w = hasItsLexeme k w && readsWhole w
-
--- the lexemes of the kinds that are no brackets
-abbrev other : ℕ → List ℕ → Bool
-other k w =
-    cond (eqb k Colon) (sameBytes w (58 ∷ []))
-    (cond (eqb k Dot) (sameBytes w (46 ∷ []))
-    (cond (eqb k DotDot) (sameBytes w (46 ∷ 46 ∷ []))
-    (cond (eqb k ColonColon) (sameBytes w (58 ∷ 58 ∷ []))
-    (cond (eqb k Hash) (sameBytes w (35 ∷ []))
-    (cond (eqb k Bang) (sameBytes w (33 ∷ []))
-    (cond (eqb k Minus) (sameBytes w (45 ∷ []))
-    (cond (eqb k Else) (sameBytes w (101 ∷ 108 ∷ 115 ∷ 101 ∷ []))
-    (cond (eqb k BangHash) (onlyOperators w)
-    true))))))))
 
 -- a kind's lexeme by its bracket b, which reads as one piece and is no operator byte
 record ByByte (k b : ℕ) (w : List ℕ) : Type 0 where
-  has : hasItsLexeme k w ≡ cond (eqb b 0) (other k w) (sameBytes w (b ∷ []))
+  has : hasItsLexeme k w ≡ cond (eqb b 0) (hasItsLexeme k w) (sameBytes w (b ∷ []))
   reads : eqb b 0 || readsWhole (b ∷ []) ≡ true
   begins : beginsOperator (b ∷ []) ≡ false
 
@@ -50,16 +37,20 @@ by-byte k w =
     (λ e₄. split (eqb k LeftBracket) (λ e. at (eqb-true k LeftBracket e) (record { has = refl; reads = refl; begins = refl }))
     (λ e₅. split (eqb k RightBracket) (λ e. at (eqb-true k RightBracket e) (record { has = refl; reads = refl; begins = refl }))
     (λ e₆. split (eqb k Comma) (λ e. at (eqb-true k Comma e) (record { has = refl; reads = refl; begins = refl }))
-    (λ e₇. split (eqb k Semicolon) (λ e. at (eqb-true k Semicolon e) (record { has = refl; reads = refl; begins = refl }))
-    (λ e₈. split (eqb k Question) (λ e. at (eqb-true k Question e) (record { has = refl; reads = refl; begins = refl }))
-    (λ e₉. record {
-      has = rw (e₁, e₂, e₃, e₄, e₅, e₆, e₇, e₈, e₉);
-      reads = rw (e₁, e₂, e₃, e₄, e₅, e₆, e₇, e₈, e₉);
-      begins = rw (e₁, e₂, e₃, e₄, e₅, e₆, e₇, e₈, e₉);
-    })))))))))
+    (λ e₇. record {
+      has = rw (e₁, e₂, e₃, e₄, e₅, e₆, e₇);
+      reads = rw (e₁, e₂, e₃, e₄, e₅, e₆, e₇);
+      begins = rw (e₁, e₂, e₃, e₄, e₅, e₆, e₇);
+    })))))))
   where
     at : {j : ℕ} → k ≡ j → ByByte j (bracketOf j) w → ByByte k (bracketOf k) w
     at e β = rw e β
+
+-- the kinds from LeftBrace to Comma have one
+pub bracket-some : (k : ℕ) → 1 < k → k ≤ Comma → bracketOf k ≡ 0 → ⊥
+unfolding bracketOf
+bracket-some k l h =
+    eqb-false (bracketOf k) 0 (agree-below 9 (λ k. eqb (bracketOf k) 0) (λ k. leb k 1) refl k (omega arith) ∙ lt-leb k 1 l)
 
 -- a lexeme that is fixed reads as one piece where what it is to be does
 fixed : (w v : List ℕ) → readsWhole v ≡ true → sameBytes w v ≡ sameBytes w v && readsWhole w
@@ -78,6 +69,13 @@ module _ (k : ℕ) (w : List ℕ) {b : ℕ} (e : b ≡ bracketOf k) where
 pub itself-fixed : {k : ℕ} (j : ℕ) (w v : List ℕ) → k ≡ j → hasItsLexeme j w ≡ sameBytes w v → readsWhole v ≡ true → sameBytes w v ≡ itself k w
 itself-fixed j w v e h r = rw (e, h) (fixed w v r)
 
+-- a Dot is an operator byte
+pub dot-begins : (k : ℕ) (w : List ℕ) → k ≡ Dot → itself k w ≡ true → beginsOperator w ≡ true
+unfolding hasItsLexeme class
+dot-begins k w e i =
+    let s : itself Dot w ≡ true = rw e at i in
+    rw (same-eq w (46 ∷ []) (and-left (sameBytes w (46 ∷ [])) (readsWhole w) s))
+
 -- a BangHash is a run of operator bytes, which is one piece
 only : (w : List ℕ) → onlyOperators w ≡ all operatorByte w
 only [] = refl
@@ -88,9 +86,16 @@ unfolding hasItsLexeme readsWhole read
 itself-operators [] e = rw e
 itself-operators (b ∷ w) e = rw (e, only w) (split (runOf operatorByte (b ∷ w)) (λ r. rw (r, operators-whole (b ∷ w) r)) (λ r. rw r))
 
-pub itself-other : (k : ℕ) (w : List ℕ) → bracketOf k ≡ 0 → (k ≡ Colon → ⊥) → (k ≡ Dot → ⊥) → (k ≡ DotDot → ⊥) → (k ≡ ColonColon → ⊥) → (k ≡ Hash → ⊥) → (k ≡ Bang → ⊥) → (k ≡ BangHash → ⊥) → (k ≡ Minus → ⊥) → (k ≡ Else → ⊥) → readsWhole w ≡ itself k w
-itself-other k w z n₁ n₂ n₃ n₄ n₅ n₆ n₇ n₈ n₉ =
-    rw (by-byte k w .has, z, ne-eqb k Colon n₁, ne-eqb k Dot n₂, ne-eqb k DotDot n₃, ne-eqb k ColonColon n₄, ne-eqb k Hash n₅, ne-eqb k Bang n₆, ne-eqb k BangHash n₇, ne-eqb k Minus n₈, ne-eqb k Else n₉)
+-- behind Comma, and none of the others with a fixed lexeme
+past : (k : ℕ) {j : ℕ} → j < k → (k ≡ suc j → ⊥) → suc j < k
+past k l n = omega arith
+
+pub only-else : (k : ℕ) → Comma < k → k ≤ Else → (k ≡ Colon → ⊥) → (k ≡ Semicolon → ⊥) → (k ≡ Question → ⊥) → (k ≡ Dot → ⊥) → (k ≡ DotDot → ⊥) → (k ≡ ColonColon → ⊥) → (k ≡ Hash → ⊥) → (k ≡ Bang → ⊥) → (k ≡ BangHash → ⊥) → (k ≡ Minus → ⊥) → k ≡ Else
+only-else k l h n₁ n₂ n₃ n₄ n₅ n₆ n₇ n₈ n₉ n₁₀ =
+    last (past k (past k (past k (past k (past k (past k (past k (past k (past k (past k l n₁) n₂) n₃) n₄) n₅) n₆) n₇) n₈) n₉) n₁₀) h
+  where
+    last : Minus < k → k ≤ Else → k ≡ Else
+    last l h = omega arith
 
 -- the kinds above Else have no fixed lexeme
 pub above-free : (k : ℕ) (w : List ℕ) → Else < k → hasItsLexeme k w ≡ true

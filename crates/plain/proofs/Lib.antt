@@ -1,7 +1,10 @@
 pub mod Bytes
 pub mod Runs
+pub mod Quick
 pub mod Eight
+pub mod Letters
 pub mod Fixed
 pub mod Tests
 pub mod Rows
+pub mod LookBack
 pub mod Pass

@@ -6,7 +6,7 @@ use Prim.Native.Nat.{ℕ, zero, suc, _+_, _-_, _≤_, _<_, min}
 use native.Mathlib.Nat.{add-zero, add-suc, suc-add, min-eq-left, min-eq-right}
 use native.Mathlib.Numerals.{add-one}
 use native.Mathlib.Omega.{arith}
-use lib.Dec.{eqb, leb}
+use lib.Dec.{leb}
 use lib.ListN.{length, getD, take, drop, drop-of-length-le}
 use lib.Seq.{drop-cons, drop-drop}
 use borrow.Author.Tests.{eq-eqb, leb-true, leb-false}
@@ -19,7 +19,7 @@ use Rattle.pieces.specs.Reading.{done, piece, Kind, word, number, operator, ins
 use Rattle.pieces.proofs.Sets.{word-of, operator-of}
 use Rattle.pieces.proofs.Whole.{Solid}
 use Rattle.pieces.specs.Sets.{all}
-use Rattle.push_token.specs.Plain.{operatorByte, readsWhole, beginsOperator, endsOperator}
+use Rattle.push_token.specs.Plain.{operatorByte, readsWhole, beginsOperator}
 use Rattle.plain.specs.Scan.{isWordByte, runOf}
 
 -- ---- the loops
@@ -47,42 +47,45 @@ module _ (f : ℕ → Bool) (w : List ℕ) (i : ℕ) (e : runOf f w ≡ all f (d
   pub run-out : length w ≤ i → true ≡ runOf f w
   run-out h = sym (e ∙ rw (drop-of-length-le w h))
 
-pub run-some : (f : ℕ → Bool) (w : List ℕ) → runOf f w ≡ true → length w ≡ 0 → ⊥
-run-some f [] e h = impossible′ e
-run-some f (b ∷ w) e h = omega arith
+quote-no-word : isWordByte 34 ≡ false
+unfolding class
+quote-no-word = refl
 
--- ---- eight at a time, the last eight at the end
+pub quote-first : (w : List ℕ) → getD w 0 0 ≡ 34 → 0 < length w → false ≡ runOf isWordByte w
+quote-first w e h = run-stop isWordByte w 0 (run-start isWordByte w (λ z. omega arith)) h (rw e quote-no-word)
 
-all-parts : (f : ℕ → Bool) (n : ℕ) (w : List ℕ) → all f w ≡ all f (take n w) && all f (drop n w)
+-- ---- m at a time, the last m at the end
+
+pub all-parts : (f : ℕ → Bool) (n : ℕ) (w : List ℕ) → all f w ≡ all f (take n w) && all f (drop n w)
 all-parts f zero w = refl
 all-parts f (suc n) [] = refl
 all-parts f (suc n) (b ∷ w) = rw (all-parts f n w) (sym (and-assoc (f b) (all f (take n w)) (all f (drop n w))))
 
-module _ (f : ℕ → Bool) (w : List ℕ) (h : 8 ≤ length w) where
+module _ (m : ℕ) (f : ℕ → Bool) (w : List ℕ) (h : m ≤ length w) (some : 0 < m) where
   abbrev last : ℕ
-  last = length w - 8
+  last = length w - m
 
-  pub eights-stop : (at : ℕ) → all f (take 8 (drop at w)) ≡ false → false ≡ runOf f w
+  pub eights-stop : (at : ℕ) → all f (take m (drop at w)) ≡ false → false ≡ runOf f w
   eights-stop at t =
-      sym (run-start f w (λ z. omega arith) ∙ all-parts f at w ∙ rw (all-parts f 8 (drop at w), t) (and-false (all f (take at w))))
+      sym (run-start f w (λ z. omega arith) ∙ all-parts f at w ∙ rw (all-parts f m (drop at w), t) (and-false (all f (take at w))))
 
-  module _ (i : ℕ) {at : ℕ} (here : at ≡ min i last) (t : all f (take 8 (drop at w)) ≡ true) where
-    eights-on : i ≤ last → all f (drop i w) ≡ all f (drop (i + 8) w)
+  module _ (i : ℕ) {at : ℕ} (here : at ≡ min i last) (t : all f (take m (drop at w)) ≡ true) where
+    eights-on : i ≤ last → all f (drop i w) ≡ all f (drop (i + m) w)
     eights-on g =
-        let t′ : all f (take 8 (drop i w)) ≡ true = rw (here, min-eq-left g) at t in
-        all-parts f 8 (drop i w) ∙ rw (t′, drop-drop)
+        let t′ : all f (take m (drop i w)) ≡ true = rw (here, min-eq-left g) at t in
+        all-parts f m (drop i w) ∙ rw (t′, drop-drop)
 
-    eights-over : last ≤ i → all f (drop i w) ≡ all f (drop (i + 8) w)
+    eights-over : last ≤ i → all f (drop i w) ≡ all f (drop (i + m) w)
     eights-over g =
-        let t′ : all f (take 8 (drop last w)) ≡ true = rw (here, min-eq-right g) at t in
-        let past : length w ≤ last + 8 = omega arith in
-        let whole : all f (drop last w) ≡ true = all-parts f 8 (drop last w) ∙ rw (t′, drop-drop, drop-of-length-le w past) in
+        let t′ : all f (take m (drop last w)) ≡ true = rw (here, min-eq-right g) at t in
+        let past : length w ≤ last + m = omega arith in
+        let whole : all f (drop last w) ≡ true = all-parts f m (drop last w) ∙ rw (t′, drop-drop, drop-of-length-le w past) in
         let e : last + (i - last) ≡ i = omega arith in
-        let out : length w ≤ i + 8 = omega arith in
+        let out : length w ≤ i + m = omega arith in
         let tail = and-right (all f (take (i - last) (drop last w))) (all f (drop (i - last) (drop last w))) (sym (all-parts f (i - last) (drop last w)) ∙ whole) in
         rw (drop-of-length-le w out) (rw (drop-drop, e) at tail)
 
-    pub eights-more : runOf f w ≡ all f (drop i w) → runOf f w ≡ all f (drop (i + 8) w)
+    pub eights-more : runOf f w ≡ all f (drop i w) → runOf f w ≡ all f (drop (i + m) w)
     eights-more e = e ∙ split (leb i last) (λ q. eights-on (leb-true i last q)) (λ q. eights-over (omega (arith, leb-false i last q)))
 
 -- ---- read
@@ -120,6 +123,10 @@ operators-whole [] e = impossible′ e
 operators-whole (b ∷ w) e =
     whole operator operatorByte (λ b p h. rw h) (λ s i r. refl) b w (rw (operator-of (class b) (first operatorByte b w e))) (others operatorByte b w e)
 
+pub operators-begin : (w : List ℕ) → runOf operatorByte w ≡ true → beginsOperator w ≡ true
+operators-begin [] e = impossible′ e
+operators-begin (b ∷ w) e = first operatorByte b w e
+
 -- ---- no word byte is an operator byte
 
 apart : (c : Class) → isWord c ≡ true → isOperator c ≡ false
@@ -133,11 +140,6 @@ apart Unclassed e = refl
 pub words-begin : (w : List ℕ) → runOf isWordByte w ≡ true → beginsOperator w ≡ false
 words-begin [] e = refl
 words-begin (b ∷ w) e = apart (class b) (first isWordByte b w e)
-
-pub words-end : (w : List ℕ) → runOf isWordByte w ≡ true → endsOperator w ≡ false
-words-end [] e = refl
-words-end (b ∷ []) e = apart (class b) (first isWordByte b [] e)
-words-end (b ∷ c ∷ w) e = words-end (c ∷ w) (others isWordByte b (c ∷ w) e)
 
 -- ---- small letters are word bytes
 

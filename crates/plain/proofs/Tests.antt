@@ -1,23 +1,18 @@
 -- The tests that the code makes of kinds and of what it has seen. Assumes nothing.
-use mathlib.Core.Bool.{Bool, true, false, not, _&&_, and-false}
+use mathlib.Core.Bool.{Bool, true, false, cond, not, _&&_, _||_, and-false, and-true}
 use mathlib.Core.List.{List, [], _∷_}
-use mathlib.Core.Path.{_≡_, refl, sym}
-use Prim.Native.Nat.{ℕ, _-_, _≤_, _<_}
+use mathlib.Core.Path.{_≡_, refl, sym, _∙_}
+use Prim.Native.Nat.{ℕ, _≤_, _<_}
 use native.Mathlib.Omega.{arith}
-use lib.Dec.{eqb, ltb, leb}
-use lib.ListN.{length, getD}
-use borrow.Author.Tests.{eqb-false, ne-eqb, ltb-true, leb-true, leb-false, le-leb}
-use Rattle.report.proofs.Logic.{split, impossible′, and-left, and-right}
+use lib.Dec.{eqb, leb}
+use borrow.Author.Tests.{eqb-true, eqb-false, ne-eqb, leb-true, leb-false, le-leb}
+use Rattle.report.proofs.Logic.{split, impossible}
 use Rattle.report.proofs.Below.{agree-below}
-use Rattle.rows.specs.Kinds.{Eof, Newline, LeftBrace, RightBrace, Dot, DotDot, ColonColon, Hash, Bang, BangHash, Minus, Else}
-use Rattle.pieces.specs.Class.{class}
-use Rattle.pieces.specs.Reading.{read}
-use Rattle.push_token.specs.Plain.{sameBytes, operatorByte, hasItsLexeme, readsWhole, tightBefore}
-use Rattle.plain.specs.declared.seen.Seen.{Seen}
-use Rattle.plain.specs.Scan.{Facts, mute, forbids, collides, fits, armedBehind, behind, factsOf, isWordByte, runOf, isName, bracketOf}
-use Rattle.plain.proofs.Bytes.{digit-first, operator-last}
-use Rattle.plain.proofs.Runs.{run-some, words-whole, words-begin, words-end}
-use Rattle.plain.proofs.Fixed.{itself-bracket, bracket-begins, above-free}
+use Rattle.rows.specs.Kinds.{Eof, Newline, LeftBrace, RightBrace, Comma, Dot, DotDot, ColonColon, Hash, Bang, BangHash, Minus, Else}
+use Rattle.push_token.specs.Plain.{sameBytes, readsWhole, beginsOperator, tightBefore, tightBehind}
+use Rattle.plain.specs.Scan.{Facts, mute, forbids, meets, fits, isWordByte, runOf, bracketOf}
+use Rattle.plain.proofs.Runs.{words-whole, words-begin}
+use Rattle.plain.proofs.Fixed.{itself, itself-bracket, bracket-begins, dot-begins, above-free}
 
 pub is-mute : (k : ℕ) → k ≤ 1 → mute k ≡ true
 is-mute k h = split (eqb k Eof) (λ e. rw e) (λ e. let n = eqb-false k Eof e in let q : k ≡ Newline = omega arith in rw q)
@@ -41,60 +36,47 @@ tight-high k h =
     (λ e. rw (le-leb Dot k h) at (agree-below 19 (λ j. leb Dot j && leb j Minus) tightBefore refl k (omega (arith, leb-true k Minus e))))
     (λ e. rw e (sym (tight-none k (λ j l m q. omega (arith, leb-false k Minus e)))))
 
--- ---- what a token that fits is
+-- ---- whether a written token fits
 
--- a written token that fits has bytes
-pub fits-some : (q : Facts) (k : ℕ) (w : List ℕ) → 1 < k → fits q k w ≡ true → length w ≡ 0 → ⊥
-unfolding readsWhole read
-fits-some q k [] h e z =
-    let f : not (forbids q k) && (hasItsLexeme k [] && readsWhole [] && not (collides q k [])) ≡ true = rw (not-mute k h) at e in
-    let g = and-right (not (forbids q k)) (hasItsLexeme k [] && readsWhole [] && not (collides q k [])) f in
-    impossible′ (and-right (hasItsLexeme k []) (readsWhole []) (and-left (hasItsLexeme k [] && readsWhole []) (not (collides q k [])) g))
-fits-some q k (b ∷ w) h e z = omega arith
+module _ (q : Facts) (k : ℕ) (w : List ℕ) where
+  pub fits-not : 1 < k → itself k w ≡ false → false ≡ fits q k w
+  fits-not h e = sym (rw (not-mute k h, e, and-false (not (forbids q k))))
 
--- a bracket of the byte b fits where it is that byte, since it meets no operator byte
-pub fits-bracket : (q : Facts) (k : ℕ) (w : List ℕ) → 1 < k → forbids q k ≡ false → {b : ℕ} → b ≡ bracketOf k → (b ≡ 0 → ⊥) → sameBytes w (b ∷ []) ≡ fits q k w
-fits-bracket q k w h f {b} e n =
-    rw (not-mute k h, f, ← itself-bracket k w e n)
-    (split (sameBytes w (b ∷ [])) (λ s. rw (s, bracket-begins k w e s, and-false (q .operator))) (λ s. rw s))
+  -- a bracket of the byte b meets no operator byte
+  module _ (h : 1 < k) {b : ℕ} (e : b ≡ bracketOf k) (n : b ≡ 0 → ⊥) where
+    pub bracket-not : sameBytes w (b ∷ []) ≡ false → false ≡ fits q k w
+    bracket-not s = fits-not h (sym (itself-bracket k w e n) ∙ s)
 
--- a name
-module _ (k : ℕ) (w : List ℕ) (e : isName k w ≡ true) where
-  abbrev isWords : Bool
-  isWords = runOf isWordByte w
+    pub bracket-fits : sameBytes w (b ∷ []) ≡ true → {x : Bool} → x ≡ forbids q k → not x ≡ fits q k w
+    bracket-fits s f =
+        rw (f, not-mute k h, sym (itself-bracket k w e n) ∙ s, bracket-begins k w e s, and-false (q .operator))
+        (sym (and-true (not (forbids q k))))
 
-  above : Else < k
-  above = ltb-true Else k (and-left (ltb Else k) isWords e)
+  module _ (h : Comma < k) (i : itself k w ≡ true) where
+    not-brace : (j : ℕ) → j ≤ Comma → eqb k j ≡ false
+    not-brace j l = ne-eqb k j (λ z. omega arith)
 
-  not-kind : (j : ℕ) → j ≤ Else → eqb k j ≡ false
-  not-kind j h = ne-eqb k j (λ z. omega (arith, above))
+    -- a Dot begins with an operator byte
+    not-dot : beginsOperator w ≡ false → eqb k Dot ≡ false
+    not-dot b = split (eqb k Dot) (λ e. impossible (sym (dot-begins k w (eqb-true k Dot e) i) ∙ b)) (λ e. e)
 
-  run : isWords ≡ true
-  run = and-right (ltb Else k) isWords e
+    pub fits-apart : beginsOperator w ≡ false → true ≡ fits q k w
+    fits-apart b = sym (rw (not-mute k (omega arith), not-dot b, not-brace LeftBrace (omega arith), not-brace RightBrace (omega arith), i, b, and-false (q .operator)))
 
-  pub name-some : length w ≡ 0 → ⊥
-  name-some = run-some isWordByte w run
+    pub fits-operator : beginsOperator w ≡ true → {x : Bool} → x ≡ meets q k → not x ≡ fits q k w
+    fits-operator b m =
+        rw (m, not-mute k (omega arith), not-brace LeftBrace (omega arith), not-brace RightBrace (omega arith), i, b)
+        (both (eqb k Dot) (q .digit) (q .operator) (q .tight || tightBehind k))
+      where
+        both : (d g o x : Bool) → not (d && g || o && x) ≡ not (cond d g false) && not (o && x)
+        both true true o x = refl
+        both true false o x = refl
+        both false g o x = refl
 
-  pub name-fits : (q : Facts) → true ≡ fits q k w
-  name-fits q = sym (rw (not-kind Eof (omega arith), not-kind Newline (omega arith), not-kind Dot (omega arith), not-kind LeftBrace (omega arith), not-kind RightBrace (omega arith), above-free k w above, words-whole w run, words-begin w run, and-false (q .operator)))
+-- a kind above those with fixed lexemes
+module _ (q : Facts) (k : ℕ) (w : List ℕ) (h : Else < k) where
+  pub free-itself : readsWhole w ≡ itself k w
+  free-itself = sym (rw (above-free k w h))
 
--- ---- what is seen behind it
-
-letter : operatorByte 65 ≡ false
-unfolding class
-letter = refl
-
-module _ (s : Seen) (k : ℕ) (w : List ℕ) where
-  pub behind-written : 1 < k → (length w ≡ 0 → ⊥) → {a : Bool} → a ≡ armedBehind (s .armed) k
-      → factsOf (record { near = k; last = k; head = getD w 0 0; tail = getD w (length w - 1) 0; armed = a; first = s .armed }) ≡ behind (factsOf s) k w
-  behind-written h n e = rw (not-mute k h, operator-last w n, digit-first w n, ne-eqb k Eof (λ z. omega arith), e)
-
-  pub behind-newline : k ≡ Newline → factsOf (record { near = s .near; last = k; head = s .head; tail = s .tail; armed = s .armed; first = false }) ≡ behind (factsOf s) k w
-  behind-newline e = rw e
-
-  pub behind-eof : k ≡ Eof → factsOf (record { near = s .near; last = s .last; head = s .head; tail = s .tail; armed = s .armed; first = false }) ≡ behind (factsOf s) k w
-  behind-eof e = rw (e, and-false (eqb (s .last) LeftBrace))
-
-  pub behind-name : isName k w ≡ true → {a : Bool} → a ≡ armedBehind (s .armed) k
-      → factsOf (record { near = k; last = k; head = getD w 0 0; tail = 65; armed = a; first = s .first }) ≡ behind (factsOf s) k w
-  behind-name n e = rw (e, letter, not-kind k w n Eof (omega arith), not-kind k w n Newline (omega arith), not-kind k w n LeftBrace (omega arith), words-end w (run k w n), digit-first w (name-some k w n))
+  pub words-fit : runOf isWordByte w ≡ true → fits q k w ≡ true
+  words-fit e = sym (fits-apart q k w (omega arith) (sym free-itself ∙ words-whole w e) (words-begin w e))

@@ -1,17 +1,17 @@
--- The plain mark over rows, in one pass: the facts that its clauses ask for, and the state from which the code derives them.
+-- The plain mark over rows, in one pass: the facts that its clauses ask for.
 -- proofs/Rows.antt shows that the pass is document 01's mark.
 -- Assumes nothing.
 use mathlib.Core.Bool.{Bool, true, false, cond, not, _&&_, _||_}
 use mathlib.Core.List.{List, [], _∷_}
+use mathlib.Core.Path.{_≡_}
 use Prim.Native.Nat.{ℕ}
-use lib.Dec.{eqb, ltb}
-use Rattle.rows.specs.Kinds.{TokenRow, Eof, Newline, LeftBrace, RightBrace, LeftParen, RightParen, LeftBracket, RightBracket, Comma, Semicolon, Question, Dot, Else, Record, oneOf}
+use lib.Dec.{eqb}
+use Rattle.rows.specs.Kinds.{TokenRow, Eof, Newline, LeftBrace, RightBrace, LeftParen, RightParen, LeftBracket, RightBracket, Comma, Dot, Record, oneOf}
 use Rattle.rows.specs.Row.{Row}
 use Rattle.rows.specs.Token.{bytesOf}
-use Rattle.pieces.specs.Class.{class, digit, isWord}
+use Rattle.pieces.specs.Class.{class, isWord}
 use Rattle.pieces.specs.Sets.{all}
 use Rattle.push_token.specs.Plain.{operatorByte, hasItsLexeme, readsWhole, beginsOperator, endsOperator, beginsDigit, tightBefore, tightBehind}
-use Rattle.plain.specs.declared.seen.Seen.{Seen}
 
 -- ---- what the clauses ask of the tokens before a token
 
@@ -46,6 +46,14 @@ collides q k w = q .operator && (beginsOperator w && (q .tight || tightBehind k)
 abbrev pub fits : Facts → ℕ → List ℕ → Bool
 fits q k w = mute k || (not (forbids q k) && ((hasItsLexeme k w && readsWhole w) && not (collides q k w)))
 
+-- what the code asks of the two for a w that begins with an operator byte: clauses 4 and 5
+abbrev pub meets : Facts → ℕ → Bool
+meets q k = (eqb k Dot && q .digit) || (q .operator && (q .tight || tightBehind k))
+
+-- the same, where the last token but Newline and Eof is of the kind j and the lexeme v
+abbrev pub meetsBehind : ℕ → List ℕ → ℕ → Bool
+meetsBehind j v k = (eqb k Dot && beginsDigit v) || (endsOperator v && (tightBefore j || tightBehind k))
+
 -- ---- what is seen behind it
 
 abbrev pub armedBehind : Bool → ℕ → Bool
@@ -70,18 +78,6 @@ unfoldable pub plainRows : List ℕ → Facts → List Row → Bool
 plainRows text q [] = true
 plainRows text q (r ∷ rs) = eqb (r .what) TokenRow && (fits q (r .kind) (bytesOf text r) && plainRows text (behind q (r .kind) (bytesOf text r)) rs)
 
--- ---- the facts, from the code's state
-
-abbrev pub factsOf : Seen → Facts
-factsOf s = record {
-  operator = operatorByte (s .tail);
-  tight = tightBefore (s .near);
-  digit = digit (s .head);
-  comma = eqb (s .last) Comma;
-  armed = s .armed;
-  opened = eqb (s .last) LeftBrace && s .first;
-}
-
 -- ---- runs of bytes
 
 abbrev pub isWordByte : ℕ → Bool
@@ -92,13 +88,13 @@ abbrev pub runOf : (ℕ → Bool) → List ℕ → Bool
 runOf f [] = false
 runOf f (b ∷ w) = f b && all f w
 
--- a kind above those with fixed lexemes, and a run of word bytes
-abbrev pub isName : ℕ → List ℕ → Bool
-isName k w = ltb Else k && runOf isWordByte w
+-- w reads as one piece that is the whole of it, and begins with no operator byte
+abbrev pub IsValue : List ℕ → Type 0
+IsValue w = (readsWhole w ≡ true) × (beginsOperator w ≡ false)
 
 -- ---- lexemes of one byte
 
--- the byte of a kind whose lexeme is one byte, and no operator byte; or 0
+-- the byte of a kind from LeftBrace to Comma; or 0
 unfoldable pub bracketOf : ℕ → ℕ
 bracketOf k =
     cond (eqb k LeftBrace) 123
@@ -108,6 +104,4 @@ bracketOf k =
     (cond (eqb k LeftBracket) 91
     (cond (eqb k RightBracket) 93
     (cond (eqb k Comma) 44
-    (cond (eqb k Semicolon) 59
-    (cond (eqb k Question) 63
-    0))))))))
+    0))))))

@@ -1,26 +1,18 @@
 // A lexeme by itself: clauses 2 and 3, and its bytes.
-use crate::words::is_words;
 use pieces::Next;
 use pieces::next_piece;
+use pieces::runs;
 use rows::kinds;
-ghost use mathlib.Core.Bool.{_&&_};
+ghost use mathlib.Core.Bool.{true, _&&_};
 ghost use mathlib.Core.List.{[], _∷_};
 ghost use mathlib.Core.Path.{_≡_};
-ghost use Rattle.pieces.specs.Class.{digit};
+ghost use Prim.Native.Nat.{_≤_, _<_};
+ghost use lib.ListN.{length, getD};
+ghost use Rattle.pieces.specs.Class.{class, digit, isQuote};
 ghost use Rattle.push_token.specs.Plain.{sameBytes, operatorByte, hasItsLexeme, readsWhole, beginsOperator};
-ghost use Rattle.plain.specs.Scan.{bracketOf, isName, runOf};
+ghost use Rattle.plain.specs.Scan.{bracketOf, runOf, IsValue};
 
-// Whether the kind has no fixed lexeme and the lexeme is a run of word bytes, which reads as one piece.
-pub fn is_name(kind: u32, lexeme: &[u8]) -> bool
-    ensures { λ r. ⌜ r ≡ isName kind (now (lexeme .entry)) ⌝ }
-{
-    if kind <= kinds::ELSE {
-        return false;
-    }
-    is_words(lexeme)
-}
-
-// The byte of a kind whose lexeme is one byte, and no operator byte; or 0.
+// The byte of a kind from LeftBrace to Comma; or 0.
 pub fn bracket_of(kind: u32) -> u8
     ensures { λ r. ⌜ r ≡ bracketOf kind ⌝ }
 {
@@ -32,20 +24,19 @@ pub fn bracket_of(kind: u32) -> u8
         kinds::LEFT_BRACKET => b'[',
         kinds::RIGHT_BRACKET => b']',
         kinds::COMMA => b',',
-        kinds::SEMICOLON => b';',
-        kinds::QUESTION => b'?',
         _ => 0,
     }
 }
 
-// Whether the lexeme is its kind's, where that has a fixed one, and reads as one piece that is the whole of it.
-// Brackets are asked for before.
+// Whether the lexeme is that of a kind from Colon to Else; it reads as one piece that is the whole of it.
 pub fn is_itself(kind: u32, lexeme: &[u8]) -> bool
-    requires { ⌜ bracketOf kind ≡ 0 ⌝ }
+    requires { ⌜ (8 < kind) × (kind ≤ 19) ⌝ }
     ensures { λ r. ⌜ r ≡ hasItsLexeme kind (now (lexeme .entry)) && readsWhole (now (lexeme .entry)) ⌝ }
 {
     match kind {
         kinds::COLON => is_single(lexeme, b':'),
+        kinds::SEMICOLON => is_single(lexeme, b';'),
+        kinds::QUESTION => is_single(lexeme, b'?'),
         kinds::DOT => is_single(lexeme, b'.'),
         kinds::DOT_DOT => is_pair(lexeme, b'.'),
         kinds::COLON_COLON => is_pair(lexeme, b':'),
@@ -53,8 +44,7 @@ pub fn is_itself(kind: u32, lexeme: &[u8]) -> bool
         kinds::BANG => is_single(lexeme, b'!'),
         kinds::BANG_HASH => is_operators(lexeme),
         kinds::MINUS => is_single(lexeme, b'-'),
-        kinds::ELSE => is_else(lexeme),
-        _ => reads_whole(lexeme),
+        _ => is_else(lexeme),
     }
 }
 
@@ -105,7 +95,7 @@ pub fn is_operator(b: u8) -> bool
 }
 
 // Whether there are bytes, and all are operator bytes.
-fn is_operators(lexeme: &[u8]) -> bool
+pub fn is_operators(lexeme: &[u8]) -> bool
     ensures { λ r. ⌜ r ≡ runOf operatorByte (now (lexeme .entry)) ⌝ }
 {
     if lexeme.len() == 0 {
@@ -152,13 +142,10 @@ fn is_else(lexeme: &[u8]) -> bool
     lexeme[3] == b'e'
 }
 
-// A run of operator bytes is one piece: it is asked for first, as the most frequent here.
-fn reads_whole(lexeme: &[u8]) -> bool
+// Whether the lexeme reads as one piece that is the whole of it.
+pub fn reads_whole(lexeme: &[u8]) -> bool
     ensures { λ r. ⌜ r ≡ readsWhole (now (lexeme .entry)) ⌝ }
 {
-    if is_operators(lexeme) {
-        return true;
-    }
     let next = next_piece(lexeme, 0);
     match next {
         Next::Piece(start, end) => {
@@ -170,4 +157,45 @@ fn reads_whole(lexeme: &[u8]) -> bool
         Next::End => false,
         Next::Unreadable(_) => false,
     }
+}
+
+// Whether the lexeme is a number, or a quote without a backslash.
+pub fn is_value(lexeme: &[u8]) -> bool
+    ensures { λ r. ⌜ (r ≡ true → IsValue (now (lexeme .entry))) ⌝ }
+{
+    if lexeme.len() == 0 {
+        return false;
+    }
+    let first = lexeme[0];
+    if is_digit(first) {
+        return runs::word_end(lexeme, 1, first) == lexeme.len();
+    }
+    is_quoted(lexeme, first)
+}
+
+// Whether the lexeme, which begins with `first`, is a quote that its last byte closes, without a backslash.
+fn is_quoted(lexeme: &[u8], first: u8) -> bool
+    requires { ⌜ (0 < length (now lexeme)) × (first ≡ getD (now lexeme) 0 0) ⌝ }
+    ensures { λ r. ⌜ (r ≡ true → IsValue (now (lexeme .entry))) ⌝ }
+{
+    if !is_quote(first) {
+        return false;
+    }
+    let end = runs::ordinary_end(lexeme, 1, first);
+    if lexeme.len() <= end {
+        return false;
+    }
+    if lexeme[end] != first {
+        return false;
+    }
+    lexeme.len() - end == 1
+}
+
+fn is_quote(b: u8) -> bool
+    ensures { λ r. ⌜ r ≡ isQuote (class b) ⌝ }
+{
+    if b == b'"' {
+        return true;
+    }
+    b == b'\''
 }

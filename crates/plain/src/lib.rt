@@ -1,21 +1,25 @@
-// The plain mark (document 01), in one pass over the rows, which looks for bad rows too.
-use crate::lexeme::is_name;
-use crate::seen::Seen;
+// The plain mark (document 01), in one pass over the rows, which looks for bad rows too. Nothing is kept of the rows that
+// were passed: a clause that asks for them looks back, over as many rows as lie between.
+use crate::before::fits_fixed;
+use crate::before::fits_free;
+use crate::before::fits_read;
 use rows::ROW_BYTES;
 use rows::kinds;
 use rows::misnames;
 use rows::row_at;
-ghost use mathlib.Core.Bool.{true};
+ghost use mathlib.Core.Bool.{true, _&&_};
 ghost use mathlib.Core.Option.{none};
 ghost use mathlib.Core.Path.{_≡_};
+ghost use Prim.Native.Nat.{_+_, _≤_};
 ghost use lib.ListN.{length};
-ghost use Rattle.rows.specs.Row.{rowsOf};
+ghost use Rattle.rows.specs.Row.{rowAt, rowsOf};
 ghost use Rattle.rows.specs.Token.{tokensOf};
 ghost use Rattle.rows.specs.Checks.{atStart, badFrom};
 ghost use Rattle.push_token.specs.Plain.{plain};
+ghost use Rattle.plain.specs.LookBack.{fitsRow, isNamed, Ahead, Unfit, FitsTo};
 
+mod before;
 mod lexeme;
-mod seen;
 mod words;
 
 // Whether the tokens that the rows name in the text are plain: the mark where no row is bad, and no where one is.
@@ -23,29 +27,68 @@ pub fn plain_mark(rows: &[u8], text: &[u8]) -> bool
     ensures good { λ r. ⌜ (r ≡ true → badFrom (length (now (text .entry))) atStart 0 (rowsOf (now (rows .entry))) ≡ none) ⌝ }
     ensures mark { λ r. ⌜ (badFrom (length (now (text .entry))) atStart 0 (rowsOf (now (rows .entry))) ≡ none → r ≡ plain (tokensOf (now (rows .entry)) (now (text .entry)))) ⌝ }
 {
-    let mut seen = Seen::new();
-    let mut at = 0;
+    let mut at = fit_end(rows, text, 0);
     while ROW_BYTES <= rows.len() - at {
-        let row = row_at(rows, at);
-        if row.what != kinds::TOKEN {
+        if !row_fits(rows, text, at) {
             return false;
         }
+        at = fit_end(rows, text, at + ROW_BYTES);
+    }
+    true
+}
+
+// Behind the rows from `from` on that fit by quick tests; a good row of a kind with a fixed lexeme on which it stops doesn't fit.
+fn fit_end(rows: &[u8], text: &[u8], from: usize) -> usize
+    requires { ⌜ Ahead (now rows) (now text) from ⌝ }
+    ensures { λ r. ⌜ FitsTo (now (rows .entry)) (now (text .entry)) from r ⌝ }
+{
+    if rows.len() < ROW_BYTES {
+        return from;
+    }
+    let last = rows.len() - ROW_BYTES;
+    let mut at = from;
+    while at <= last {
+        let row = row_at(rows, at);
+        if row.what != kinds::TOKEN {
+            return at;
+        }
         if misnames(row, kinds::OTHER, text.len()) {
-            return false;
+            return at;
         }
         let start = row.start as usize;
         let end = row.end as usize;
         let lexeme = &text[start..end];
         let kind = row.kind;
-        if is_name(kind, lexeme) {
-            seen = seen.behind_name(kind, lexeme); // it fits always
-        } else {
-            if !seen.fits(kind, lexeme) {
-                return false;
+        if kinds::ELSE < kind {
+            if !fits_free(rows, text, at, kind, lexeme) {
+                return at;
             }
-            seen = seen.behind(kind, lexeme);
+        } else {
+            if !fits_fixed(rows, text, at, kind, lexeme) {
+                return at;
+            }
         }
         at += ROW_BYTES;
     }
-    true
+    at
+}
+
+// Whether the row on which the quick tests stopped is good and fits.
+fn row_fits(rows: &[u8], text: &[u8], at: usize) -> bool
+    requires { ⌜ (at + 16 ≤ length (now rows)) × Unfit (now rows) (now text) at ⌝ }
+    ensures { λ r. ⌜ r ≡ isNamed (now (text .entry)) (rowAt (now (rows .entry)) at) && fitsRow (now (rows .entry)) (now (text .entry)) at (rowAt (now (rows .entry)) at) ⌝ }
+{
+    let row = row_at(rows, at);
+    if row.what != kinds::TOKEN {
+        return false;
+    }
+    if misnames(row, kinds::OTHER, text.len()) {
+        return false;
+    }
+    if row.kind <= kinds::ELSE {
+        return false;
+    }
+    let start = row.start as usize;
+    let end = row.end as usize;
+    fits_read(rows, text, at, row.kind, &text[start..end])
 }

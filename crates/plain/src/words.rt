@@ -1,5 +1,7 @@
 // Runs of word bytes.
 use pieces::eights;
+use rows::number_at;
+ghost use mathlib.Core.Bool.{true};
 ghost use mathlib.Core.Path.{_≡_};
 ghost use Prim.Native.Nat.{_+_, _≤_, min};
 ghost use lib.ListN.{length, take, drop};
@@ -9,14 +11,32 @@ ghost use Rattle.pieces.specs.Eight.{eightOnes};
 ghost use Rattle.plain.specs.Scan.{isWordByte, runOf};
 ghost use Rattle.plain.specs.Eight.{bytesWithin};
 
-// Whether there are bytes, and all are word bytes. Eight are tested at a time: the last eight of all, where fewer are left.
+// Whether there are bytes, and all are word bytes.
 pub fn is_words(lexeme: &[u8]) -> bool
     ensures { λ r. ⌜ r ≡ runOf isWordByte (now (lexeme .entry)) ⌝ }
 {
     let size = lexeme.len();
-    if size < 8 {
+    if size < 4 {
         return is_short_words(lexeme);
     }
+    if 8 < size {
+        return is_long_words(lexeme);
+    }
+    if is_letters(lexeme) {
+        return true;
+    }
+    is_short_words(lexeme)
+}
+
+// The same from eight on. Eight are tested at a time: the last eight of all, where fewer are left. A string begins with a quote.
+fn is_long_words(lexeme: &[u8]) -> bool
+    requires { ⌜ 8 ≤ length (now lexeme) ⌝ }
+    ensures { λ r. ⌜ r ≡ runOf isWordByte (now (lexeme .entry)) ⌝ }
+{
+    if lexeme[0] == b'"' {
+        return false;
+    }
+    let size = lexeme.len();
     let last = size - 8;
     let mut i = 0;
     while i < size {
@@ -28,7 +48,7 @@ pub fn is_words(lexeme: &[u8]) -> bool
     true
 }
 
-// The same, byte by byte: quicker below eight.
+// The same, byte by byte.
 fn is_short_words(lexeme: &[u8]) -> bool
     ensures { λ r. ⌜ r ≡ runOf isWordByte (now (lexeme .entry)) ⌝ }
 {
@@ -45,7 +65,7 @@ fn is_short_words(lexeme: &[u8]) -> bool
     true
 }
 
-fn smaller(a: usize, b: usize) -> usize
+pub fn smaller(a: usize, b: usize) -> usize
     ensures { λ r. ⌜ r ≡ min a b ⌝ }
 {
     if a < b {
@@ -78,6 +98,27 @@ fn bytes_within(low: u64, first: u8, last: u8) -> u64
 {
     (low + (128 - first as u64) * eights::ONES) ^ (low + (127 - last as u64) * eights::ONES)
 }
+
+// Whether the first four and the last four bytes are letters: most names of four to eight bytes.
+fn is_letters(s: &[u8]) -> bool
+    requires { ⌜ (4 ≤ length (now s)) × (length (now s) ≤ 8) ⌝ }
+    ensures { λ r. ⌜ (r ≡ true → runOf isWordByte (now (s .entry)) ≡ true) ⌝ }
+{
+    let low = wide(number_at(s, 0));
+    let high = wide(number_at(s, s.len() - 4));
+    let x = low + high * 0x1_0000_0000;
+    let small = (x | SMALL) & eights::LOW;
+    bytes_within(small, b'a', b'z') & (x ^ eights::HIGH) & eights::HIGH == eights::HIGH
+}
+
+fn wide(n: u32) -> u64
+    ensures { λ r. ⌜ (r ≡ n) × (r ≤ 0xffff_ffff) ⌝ }
+{
+    n as u64
+}
+
+// In each byte, the bit that makes a letter small.
+const SMALL: u64 = 0x2020_2020_2020_2020;
 
 // ---- one byte
 

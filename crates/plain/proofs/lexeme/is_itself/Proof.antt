@@ -2,11 +2,11 @@
 use mathlib.Core.List.{[], _∷_}
 use mathlib.Core.Path.{refl, _∙_}
 use borrow.Author.Needs.{needs}
-use Rattle.rows.specs.Kinds.{Colon, Dot, DotDot, ColonColon, Hash, Bang, Minus, Else}
+use Rattle.rows.specs.Kinds.{Colon, Semicolon, Question, Dot, DotDot, ColonColon, Hash, Bang, Minus, Else}
 use Rattle.pieces.specs.Class.{class}
 use Rattle.pieces.specs.Reading.{read}
 use Rattle.push_token.specs.Plain.{hasItsLexeme, readsWhole}
-use Rattle.plain.proofs.Fixed.{itself-fixed, itself-operators, itself-other}
+use Rattle.plain.proofs.Fixed.{itself-fixed, itself-operators, only-else}
 use Rattle.plain.proofs.lexeme.is_itself.Statement.{statement}
 use Rattle.plain.proofs.lexeme.is_itself.Tie as tie
 
@@ -16,29 +16,32 @@ is-single-requires c κs = search needs
 is-single-requires-2 : tie.Need-is-single-requires-2
 is-single-requires-2 c κs = search needs
 
-is-pair-requires : tie.Need-is-pair-requires
-is-pair-requires c κs = search needs
-
-is-pair-requires-2 : tie.Need-is-pair-requires-2
-is-pair-requires-2 c κs = search needs
-
 is-single-requires-3 : tie.Need-is-single-requires-3
 is-single-requires-3 c κs = search needs
 
 is-single-requires-4 : tie.Need-is-single-requires-4
 is-single-requires-4 c κs = search needs
 
-is-operators-requires : tie.Need-is-operators-requires
-is-operators-requires c κs = search needs
+is-pair-requires : tie.Need-is-pair-requires
+is-pair-requires c κs = search needs
+
+is-pair-requires-2 : tie.Need-is-pair-requires-2
+is-pair-requires-2 c κs = search needs
 
 is-single-requires-5 : tie.Need-is-single-requires-5
 is-single-requires-5 c κs = search needs
 
+is-single-requires-6 : tie.Need-is-single-requires-6
+is-single-requires-6 c κs = search needs
+
+is-operators-requires : tie.Need-is-operators-requires
+is-operators-requires c κs = search needs
+
+is-single-requires-7 : tie.Need-is-single-requires-7
+is-single-requires-7 c κs = search needs
+
 is-else-requires : tie.Need-is-else-requires
 is-else-requires c κs = search needs
-
-reads-whole-requires : tie.Need-reads-whole-requires
-reads-whole-requires c κs = search needs
 
 returns : tie.Need-returns
 unfolding hasItsLexeme readsWhole read class
@@ -46,37 +49,42 @@ returns c = c .is-single .ensures ∙ itself-fixed Colon (c .before .before .bef
 
 returns-2 : tie.Need-returns-2
 unfolding hasItsLexeme readsWhole read class
-returns-2 c = c .is-single2 .ensures ∙ itself-fixed Dot (c .before .before .before .args .lexeme .now) (46 ∷ []) (c .before .match .keys2) refl refl
+returns-2 c = c .is-single2 .ensures ∙ itself-fixed Semicolon (c .before .before .before .args .lexeme .now) (59 ∷ []) (c .before .match .keys2) refl refl
 
 returns-3 : tie.Need-returns-3
 unfolding hasItsLexeme readsWhole read class
-returns-3 c = c .is-pair .ensures ∙ itself-fixed DotDot (c .before .before .before .args .lexeme .now) (46 ∷ 46 ∷ []) (c .before .match .keys3) refl refl
+returns-3 c = c .is-single3 .ensures ∙ itself-fixed Question (c .before .before .before .args .lexeme .now) (63 ∷ []) (c .before .match .keys3) refl refl
 
 returns-4 : tie.Need-returns-4
 unfolding hasItsLexeme readsWhole read class
-returns-4 c = c .is-pair2 .ensures ∙ itself-fixed ColonColon (c .before .before .before .args .lexeme .now) (58 ∷ 58 ∷ []) (c .before .match .keys4) refl refl
+returns-4 c = c .is-single4 .ensures ∙ itself-fixed Dot (c .before .before .before .args .lexeme .now) (46 ∷ []) (c .before .match .keys4) refl refl
 
 returns-5 : tie.Need-returns-5
 unfolding hasItsLexeme readsWhole read class
-returns-5 c = c .is-single3 .ensures ∙ itself-fixed Hash (c .before .before .before .args .lexeme .now) (35 ∷ []) (c .before .match .keys5) refl refl
+returns-5 c = c .is-pair .ensures ∙ itself-fixed DotDot (c .before .before .before .args .lexeme .now) (46 ∷ 46 ∷ []) (c .before .match .keys5) refl refl
 
 returns-6 : tie.Need-returns-6
 unfolding hasItsLexeme readsWhole read class
-returns-6 c = c .is-single4 .ensures ∙ itself-fixed Bang (c .before .before .before .args .lexeme .now) (33 ∷ []) (c .before .match .keys6) refl refl
+returns-6 c = c .is-pair2 .ensures ∙ itself-fixed ColonColon (c .before .before .before .args .lexeme .now) (58 ∷ 58 ∷ []) (c .before .match .keys6) refl refl
 
 returns-7 : tie.Need-returns-7
-returns-7 c = c .is-operators .ensures ∙ itself-operators (c .before .before .before .args .lexeme .now) (c .before .match .keys7)
+unfolding hasItsLexeme readsWhole read class
+returns-7 c = c .is-single5 .ensures ∙ itself-fixed Hash (c .before .before .before .args .lexeme .now) (35 ∷ []) (c .before .match .keys7) refl refl
 
 returns-8 : tie.Need-returns-8
 unfolding hasItsLexeme readsWhole read class
-returns-8 c = c .is-single5 .ensures ∙ itself-fixed Minus (c .before .before .before .args .lexeme .now) (45 ∷ []) (c .before .match .keys8) refl refl
+returns-8 c = c .is-single6 .ensures ∙ itself-fixed Bang (c .before .before .before .args .lexeme .now) (33 ∷ []) (c .before .match .keys8) refl refl
 
 returns-9 : tie.Need-returns-9
-unfolding hasItsLexeme readsWhole read class
-returns-9 c = c .is-else .ensures ∙ itself-fixed Else (c .before .before .before .args .lexeme .now) (101 ∷ 108 ∷ 115 ∷ 101 ∷ []) (c .before .match .keys9) refl refl
+returns-9 c = c .is-operators .ensures ∙ itself-operators (c .before .before .before .args .lexeme .now) (c .before .match .keys9)
 
 returns-10 : tie.Need-returns-10
-returns-10 c = c .reads-whole .ensures ∙ itself-other (c .before .before .before .args .kind) (c .before .before .before .args .lexeme .now) (c .before .before .before .pre) (c .before .match .rest .0 .0 .0 .0 .0 .0 .0 .0 .1) (c .before .match .rest .0 .0 .0 .0 .0 .0 .0 .1) (c .before .match .rest .0 .0 .0 .0 .0 .0 .1) (c .before .match .rest .0 .0 .0 .0 .0 .1) (c .before .match .rest .0 .0 .0 .0 .1) (c .before .match .rest .0 .0 .0 .1) (c .before .match .rest .0 .0 .1) (c .before .match .rest .0 .1) (c .before .match .rest .1)
+unfolding hasItsLexeme readsWhole read class
+returns-10 c = c .is-single7 .ensures ∙ itself-fixed Minus (c .before .before .before .args .lexeme .now) (45 ∷ []) (c .before .match .keys10) refl refl
+
+returns-11 : tie.Need-returns-11
+unfolding hasItsLexeme readsWhole read class
+returns-11 c = c .is-else .ensures ∙ itself-fixed Else (c .before .before .before .args .lexeme .now) (101 ∷ 108 ∷ 115 ∷ 101 ∷ []) (only-else (c .before .before .before .args .kind) (c .before .before .before .pre .0) (c .before .before .before .pre .1) (c .before .match .rest .0 .0 .0 .0 .0 .0 .0 .0 .0 .1) (c .before .match .rest .0 .0 .0 .0 .0 .0 .0 .0 .1) (c .before .match .rest .0 .0 .0 .0 .0 .0 .0 .1) (c .before .match .rest .0 .0 .0 .0 .0 .0 .1) (c .before .match .rest .0 .0 .0 .0 .0 .1) (c .before .match .rest .0 .0 .0 .0 .1) (c .before .match .rest .0 .0 .0 .1) (c .before .match .rest .0 .0 .1) (c .before .match .rest .0 .1) (c .before .match .rest .1)) refl refl
 
 pub is-itself-spec : {M : Type 1} → statement M
 is-itself-spec =
@@ -84,14 +92,15 @@ is-itself-spec =
     (tie.spec
     is-single-requires
     is-single-requires-2
-    is-pair-requires
-    is-pair-requires-2
     is-single-requires-3
     is-single-requires-4
-    is-operators-requires
+    is-pair-requires
+    is-pair-requires-2
     is-single-requires-5
+    is-single-requires-6
+    is-operators-requires
+    is-single-requires-7
     is-else-requires
-    reads-whole-requires
     returns
     returns-2
     returns-3
@@ -101,4 +110,5 @@ is-itself-spec =
     returns-7
     returns-8
     returns-9
-    returns-10)
+    returns-10
+    returns-11)

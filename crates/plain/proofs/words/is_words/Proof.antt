@@ -1,66 +1,42 @@
 -- `plain::words::is_words` meets its contract. Assumes nothing.
-use mathlib.Core.Path.{_≡_, sym, _∙_}
-use Prim.Native.Nat.{_-_}
-use native.Mathlib.Nat.{min-le-right}
-use native.Mathlib.Omega.{arith}
-use lib.ListN.{length, drop}
+use mathlib.Core.Path.{sym}
 use borrow.Author.Needs.{needs}
-use borrow.Author.Tests.{not-true, not-false}
-use Rattle.pieces.specs.Sets.{all}
-use Rattle.plain.specs.Scan.{isWordByte, runOf}
-use Rattle.plain.proofs.Runs.{run-start, run-out, eights-more, eights-stop}
 use Rattle.plain.proofs.words.is_words.Statement.{statement}
 use Rattle.plain.proofs.words.is_words.Tie as tie
 
-abbrev Inv-loop : tie.InvT-loop
-Inv-loop lexeme size last i₀ i = runOf isWordByte lexeme ≡ all isWordByte (drop i lexeme)
-
-abbrev μ-loop : tie.MeasureT-loop
-μ-loop lexeme size last i₀ i = length lexeme - i
-
-is-short-words-requires : tie.Need-is-short-words-requires Inv-loop μ-loop
+is-short-words-requires : tie.Need-is-short-words-requires
 is-short-words-requires c κs = search needs
 
-returns : tie.Need-returns Inv-loop μ-loop
+returns : tie.Need-returns
 returns c = search needs
 
-loop-holds : tie.Need-loop-holds Inv-loop μ-loop
-loop-holds c = run-start isWordByte (c .before .before .args .lexeme .now) (λ z. omega arith)
+is-long-words-requires : tie.Need-is-long-words-requires
+is-long-words-requires c κs = search needs
 
-smaller-requires : tie.Need-smaller-requires Inv-loop μ-loop
-smaller-requires c κs = search needs
+returns-2 : tie.Need-returns-2
+returns-2 c = search needs
 
-eight-words-requires : tie.Need-eight-words-requires Inv-loop μ-loop
-eight-words-requires c κs = omega (arith, min-le-right (c .before .before .loop .i) (length (c .before .before .before .before .before .args .lexeme .now) - 8))
+is-letters-requires : tie.Need-is-letters-requires
+is-letters-requires c κs = search needs
 
-returns-2 : tie.Need-returns-2 Inv-loop μ-loop
-returns-2 c = eights-stop isWordByte (c .before .before .before .before .before .before .before .args .lexeme .now) (search needs) (c .before .before .smaller .result) (sym (c .before .eight-words .ensures) ∙ not-true _ (c .if2 .taken))
+returns-3 : tie.Need-returns-3
+returns-3 c = sym (c .before .is-letters .ensures (c .if3 .taken))
 
-add-i : tie.Need-add-i Inv-loop μ-loop
-add-i c = search needs
+is-short-words-requires-2 : tie.Need-is-short-words-requires-2
+is-short-words-requires-2 c κs = search needs
 
-loop-less : tie.Need-loop-less Inv-loop μ-loop
-loop-less c = search needs
-
-loop-again : tie.Need-loop-again Inv-loop μ-loop
-loop-again c = eights-more isWordByte (c .before .before .before .before .before .before .before .args .lexeme .now) (search needs) (c .before .before .before .before .loop .i) (c .before .before .smaller .ensures) (sym (c .before .eight-words .ensures) ∙ not-false _ (c .if2 .left)) (c .before .before .before .before .loop .inv)
-
-returns-3 : tie.Need-returns-3 Inv-loop μ-loop
-returns-3 c = run-out isWordByte (c .before .before .before .before .args .lexeme .now) (c .before .loop .i) (c .before .loop .inv) (search needs)
+returns-4 : tie.Need-returns-4
+returns-4 c = search needs
 
 pub is-words-spec : {M : Type 1} → statement M
 is-words-spec =
     tie.close
     (tie.spec
-    Inv-loop
-    μ-loop
     is-short-words-requires
     returns
-    loop-holds
-    smaller-requires
-    eight-words-requires
+    is-long-words-requires
     returns-2
-    add-i
-    loop-less
-    loop-again
-    returns-3)
+    is-letters-requires
+    returns-3
+    is-short-words-requires-2
+    returns-4)

@@ -1,0 +1,45 @@
+-- `plain::lexeme::is_quoted` meets its contract. Assumes nothing.
+use mathlib.Core.Path.{sym, _∙_}
+use borrow.Author.Needs.{needs}
+use borrow.Author.Tests.{not-false}
+use Rattle.report.proofs.Logic.{impossible′}
+use Rattle.plain.proofs.Quick.{quote-value}
+use Rattle.plain.proofs.lexeme.is_quoted.Statement.{statement}
+use Rattle.plain.proofs.lexeme.is_quoted.Tie as tie
+
+is-quote-requires : tie.Need-is-quote-requires
+is-quote-requires c κs = search needs
+
+returns : tie.Need-returns
+returns c = λ e. impossible′ e
+
+ordinary-end-requires : tie.Need-ordinary-end-requires
+ordinary-end-requires c κs = search needs
+
+returns-2 : tie.Need-returns-2
+returns-2 c = λ e. impossible′ e
+
+shared-slice-read-if3 : tie.Need-shared-slice-read-if3
+shared-slice-read-if3 c = search needs
+
+returns-3 : tie.Need-returns-3
+returns-3 c = λ e. impossible′ e
+
+sub-result : tie.Need-sub-result
+sub-result c = search needs
+
+returns-4 : tie.Need-returns-4
+returns-4 c = λ e. quote-value (c .before .before .before .before .before .before .before .args .lexeme .now) (c .before .before .before .before .before .before .before .pre .0) (c .before .before .before .before .before .before .before .pre .1) (sym (c .before .before .before .before .before .is-quote .ensures) ∙ not-false _ (c .before .before .before .before .if1 .left)) (c .before .before .before .ordinary-end .ensures) (search needs) (c .if3 .left) e
+
+pub is-quoted-spec : {M : Type 1} → statement M
+is-quoted-spec =
+    tie.close
+    (tie.spec
+    is-quote-requires
+    returns
+    ordinary-end-requires
+    returns-2
+    shared-slice-read-if3
+    returns-3
+    sub-result
+    returns-4)

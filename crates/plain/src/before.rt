@@ -1,0 +1,227 @@
+// Whether a row fits behind the rows before it: the clauses of the plain mark.
+use crate::lexeme::begins_operator;
+use crate::lexeme::bracket_of;
+use crate::lexeme::is_digit;
+use crate::lexeme::is_itself;
+use crate::lexeme::is_operator;
+use crate::lexeme::is_operators;
+use crate::lexeme::is_single;
+use crate::lexeme::is_value;
+use crate::lexeme::reads_whole;
+use crate::words::is_words;
+use crate::words::smaller;
+use rows::ROW_BYTES;
+use rows::kinds;
+use rows::number_at;
+use rows::row_at;
+ghost use mathlib.Core.Bool.{true, _&&_};
+ghost use mathlib.Core.List.{List};
+ghost use mathlib.Core.Path.{_≡_};
+ghost use Prim.Native.Nat.{ℕ, _+_, _≤_, _<_};
+ghost use lib.Dec.{eqb};
+ghost use lib.ListN.{length};
+ghost use Rattle.rows.specs.Kinds.{Dot};
+ghost use Rattle.pieces.specs.Class.{digit};
+ghost use Rattle.push_token.specs.Plain.{tightBefore, tightBehind};
+ghost use Rattle.plain.specs.Scan.{fits, forbids, meets, meetsBehind};
+ghost use Rattle.plain.specs.LookBack.{factsAt, Near};
+
+// A token of a kind with a fixed lexeme, or Newline or Eof.
+pub fn fits_fixed(rows: &[u8], text: &[u8], at: usize, kind: u32, lexeme: &[u8]) -> bool
+    requires { ⌜ (at ≤ length (now rows)) × (kind ≤ 19) ⌝ }
+    ensures { λ r. ⌜ r ≡ fits (factsAt (now (rows .entry)) (now (text .entry)) at) kind (now (lexeme .entry)) ⌝ }
+{
+    if kind <= kinds::NEWLINE {
+        return true;
+    }
+    if kind <= kinds::COMMA {
+        if !is_single(lexeme, bracket_of(kind)) {
+            return false;
+        }
+        return !forbids(rows, at, kind);
+    }
+    if !is_itself(kind, lexeme) {
+        return false;
+    }
+    if !begins_operator(lexeme) {
+        return true;
+    }
+    !meets(rows, text, at, kind)
+}
+
+// A token of another kind, by tests that are quicker than reading its lexeme: most pass them.
+pub fn fits_free(rows: &[u8], text: &[u8], at: usize, kind: u32, lexeme: &[u8]) -> bool
+    requires { ⌜ (at ≤ length (now rows)) × (19 < kind) ⌝ }
+    ensures { λ r. ⌜ (r ≡ true → fits (factsAt (now (rows .entry)) (now (text .entry)) at) kind (now (lexeme .entry)) ≡ true) ⌝ }
+{
+    if is_words(lexeme) {
+        return true;
+    }
+    if is_operators(lexeme) {
+        return !meets(rows, text, at, kind);
+    }
+    is_value(lexeme)
+}
+
+// The same, by reading it.
+pub fn fits_read(rows: &[u8], text: &[u8], at: usize, kind: u32, lexeme: &[u8]) -> bool
+    requires { ⌜ (at ≤ length (now rows)) × (19 < kind) ⌝ }
+    ensures { λ r. ⌜ r ≡ fits (factsAt (now (rows .entry)) (now (text .entry)) at) kind (now (lexeme .entry)) ⌝ }
+{
+    if !reads_whole(lexeme) {
+        return false;
+    }
+    if !begins_operator(lexeme) {
+        return true;
+    }
+    !meets(rows, text, at, kind)
+}
+
+// ---- clauses 6 and 7, at a bracket
+
+// A `{` behind a comma, a `}` that leaves a record empty.
+fn forbids(rows: &[u8], at: usize, kind: u32) -> bool
+    requires { ⌜ (at ≤ length (now rows)) × (kind ≤ 8) ⌝ }
+    ensures { λ r. ⌜ ((text : List ℕ) → r ≡ forbids (factsAt (now (rows .entry)) text at) kind) ⌝ }
+{
+    match kind {
+        kinds::LEFT_BRACE => follows_comma(rows, at),
+        kinds::RIGHT_BRACE => empties_record(rows, at),
+        _ => false,
+    }
+}
+
+// The last token but Eof is a Comma.
+fn follows_comma(rows: &[u8], at: usize) -> bool
+    requires { ⌜ at ≤ length (now rows) ⌝ }
+    ensures { λ r. ⌜ ((text : List ℕ) → r ≡ factsAt (now (rows .entry)) text at .comma) ⌝ }
+{
+    let mut i = at;
+    while ROW_BYTES <= i {
+        i -= ROW_BYTES;
+        let kind = number_at(rows, i + 4);
+        if kind != kinds::EOF {
+            return kind == kinds::COMMA;
+        }
+    }
+    false
+}
+
+// The last token is the first `{` after a Record.
+fn empties_record(rows: &[u8], at: usize) -> bool
+    requires { ⌜ at ≤ length (now rows) ⌝ }
+    ensures { λ r. ⌜ ((text : List ℕ) → r ≡ factsAt (now (rows .entry)) text at .opened) ⌝ }
+{
+    if at < ROW_BYTES {
+        return false;
+    }
+    let last = at - ROW_BYTES;
+    if number_at(rows, last + 4) != kinds::LEFT_BRACE {
+        return false;
+    }
+    is_armed(rows, last)
+}
+
+// There is a Record, and no `{` since. Only a `}` directly behind a `{` asks: no row is looked at twice.
+fn is_armed(rows: &[u8], at: usize) -> bool
+    requires { ⌜ at ≤ length (now rows) ⌝ }
+    ensures { λ r. ⌜ ((text : List ℕ) → r ≡ factsAt (now (rows .entry)) text at .armed) ⌝ }
+{
+    let mut i = at;
+    while ROW_BYTES <= i {
+        i -= ROW_BYTES;
+        let kind = number_at(rows, i + 4);
+        if kind == kinds::RECORD {
+            return true;
+        }
+        if kind == kinds::LEFT_BRACE {
+            return false;
+        }
+    }
+    false
+}
+
+// ---- clauses 4 and 5, at a lexeme that begins with an operator byte
+
+// Two operator bytes would meet, or a Dot is behind a digit.
+fn meets(rows: &[u8], text: &[u8], at: usize, kind: u32) -> bool
+    requires { ⌜ at ≤ length (now rows) ⌝ }
+    ensures { λ r. ⌜ r ≡ meets (factsAt (now (rows .entry)) (now (text .entry)) at) kind ⌝ }
+{
+    let near = near_end(rows, at);
+    if near < ROW_BYTES {
+        return false;
+    }
+    let row = row_at(rows, near - ROW_BYTES);
+    let start = row.start as usize;
+    let end = smaller(row.end as usize, text.len());
+    if end <= start {
+        return false;
+    }
+    meets_behind(row.kind, &text[start..end], kind)
+}
+
+// Behind the row of the last token but Newline and Eof, or less than a row.
+fn near_end(rows: &[u8], at: usize) -> usize
+    requires { ⌜ at ≤ length (now rows) ⌝ }
+    ensures { λ r. ⌜ Near (now (rows .entry)) at r ⌝ }
+{
+    let mut i = at;
+    while ROW_BYTES <= i {
+        let row = i - ROW_BYTES;
+        if kinds::NEWLINE < number_at(rows, row + 4) {
+            return i;
+        }
+        i = row;
+    }
+    i
+}
+
+// The same, directly behind a token of the kind `near` and the bytes `before`.
+fn meets_behind(near: u32, before: &[u8], kind: u32) -> bool
+    requires { ⌜ 0 < length (now before) ⌝ }
+    ensures { λ r. ⌜ r ≡ meetsBehind near (now (before .entry)) kind ⌝ }
+{
+    if dots_digit(kind, before[0]) {
+        return true;
+    }
+    if !is_operator(before[before.len() - 1]) {
+        return false;
+    }
+    if tight_before(near) {
+        return true;
+    }
+    tight_behind(kind)
+}
+
+fn dots_digit(kind: u32, first: u8) -> bool
+    ensures { λ r. ⌜ r ≡ eqb kind Dot && digit first ⌝ }
+{
+    if kind != kinds::DOT {
+        return false;
+    }
+    is_digit(first)
+}
+
+// Dot, DotDot, ColonColon, Hash, Bang, BangHash, Minus: the kinds from Dot to Minus.
+fn tight_before(kind: u32) -> bool
+    ensures { λ r. ⌜ r ≡ tightBefore kind ⌝ }
+{
+    if kind < kinds::DOT {
+        return false;
+    }
+    kind <= kinds::MINUS
+}
+
+// Dot, DotDot, ColonColon, Colon: the kinds from Dot to ColonColon, and Colon.
+fn tight_behind(kind: u32) -> bool
+    ensures { λ r. ⌜ r ≡ tightBehind kind ⌝ }
+{
+    match kind {
+        kinds::COLON => true,
+        kinds::DOT => true,
+        kinds::DOT_DOT => true,
+        kinds::COLON_COLON => true,
+        _ => false,
+    }
+}
