@@ -8,7 +8,7 @@ use native.Mathlib.Omega.{arith}
 use borrow.Author.Tests.{not-true}
 use lib.Dec.{eqb}
 use lib.ListN.{length, drop}
-use Rattle.report.proofs.Logic.{and-right, impossible, impossible′}
+use Rattle.report.proofs.Logic.{and-right, impossible′}
 use Rattle.rows.specs.Kinds.{TokenRow, Trailing}
 use Rattle.rows.specs.Row.{Row, rowsOf}
 use Rattle.rows.specs.Bounds.{InBounds}

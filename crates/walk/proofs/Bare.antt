@@ -1,14 +1,11 @@
 -- A token without leading rows has no leading trivia. Assumes nothing.
-use mathlib.Core.Bool.{true, false}
-use mathlib.Core.List.{List, [], _∷_, map}
-use mathlib.Core.Path.{_≡_, refl}
+use mathlib.Core.List.{List}
+use mathlib.Core.Path.{_≡_}
 use Prim.Native.Nat.{ℕ, zero, suc, _+_, _-_, _*_, _/_}
 use native.Mathlib.Omega.{arith}
 use borrow.Author.Tests.{ne-eqb, eq-eqb}
 use lib.Dec.{eqb}
-use lib.ListN.{length, drop}
 use Rattle.rows.specs.Row.{firstRows}
-use Rattle.rows.specs.Token.{triviaOf}
 use Rattle.lookahead.specs.Measure.{isEmpty}
 use Rattle.fields.specs.Trivia.{Part, triviaIn}
 

@@ -2,12 +2,10 @@
 use mathlib.Core.Bool.{Bool, true, false, _||_}
 use mathlib.Core.List.{List, []}
 use mathlib.Core.Logic.{_⊎_, inl, inr}
-use mathlib.Core.Path.{_≡_, refl, sym, ap, _∙_}
-use Prim.Native.Nat.{ℕ, zero, suc, _<_, _≤_}
-use native.Mathlib.Omega.{arith}
+use mathlib.Core.Path.{_≡_, refl, sym, _∙_}
+use Prim.Native.Nat.{ℕ, _<_, _≤_}
 use borrow.Author.Tests.{lt-leb, le-leb, leb-true, leb-false, eqb-true, ne-eqb}
 use lib.Dec.{eqb, leb}
-use lib.ListN.{length}
 use Rattle.report.proofs.Logic.{split, impossible}
 use Rattle.rows.specs.Kinds.{Eof, Newline, LeftBrace, RightBrace, LeftParen, RightParen, LeftBracket, RightBracket, Comma, Else}
 use Rattle.rows.specs.Options.{Options}
@@ -18,7 +16,7 @@ use Rattle.push_token.specs.Arms.{newlineArm, rightBraceArm, leftBraceArm, brea
 use Rattle.push_token.specs.PushToken.{arm, overflows}
 use Rattle.fields.specs.declared.Fields.{Fields}
 use Rattle.fields.specs.declared.TokenAt.{TokenAt}
-use Rattle.fields.specs.Pen.{Pen, formatterOf, topFirst, Stands, lone}
+use Rattle.fields.specs.Pen.{Pen, formatterOf, Stands, lone}
 use Rattle.lists.specs.Parts.{opensSignature}
 use Rattle.format.specs.Parts.{openerArm}
 use Rattle.fields.specs.Does.{Does}

@@ -1,11 +1,11 @@
 -- The walk's loop: what holds at each turn, and what a turn does with it. Assumes nothing.
-use mathlib.Core.Bool.{Bool, true, false, cond}
-use mathlib.Core.List.{List, [], _∷_, _++_}
+use mathlib.Core.Bool.{true, false, cond}
+use mathlib.Core.List.{List, [], _∷_}
 use mathlib.Core.Option.{Option}
 use mathlib.Core.Path.{_≡_, refl, sym, ap, subst, _∙_}
-use Prim.Native.Nat.{ℕ, zero, suc, _+_, _-_, _*_, _/_, _≤_, _<_}
+use Prim.Native.Nat.{ℕ, zero, suc, _+_, _-_, _*_, _≤_, _<_}
 use native.Mathlib.Omega.{arith}
-use borrow.Author.Tests.{leb-true, leb-false, ltb-true, ltb-false, lt-ltb, le-ltb}
+use borrow.Author.Tests.{leb-true, leb-false, ltb-false, le-ltb}
 use lib.Dec.{leb, ltb}
 use lib.ListN.{length, take, drop, take-append-drop}
 use lib.Seq.{length-take-le}
@@ -16,17 +16,17 @@ use Rattle.rows.specs.Token.{Token, tokensOf}
 use Rattle.push_token.specs.Act.{State, state, run}
 use Rattle.push_token.specs.Emit.{isSome}
 use Rattle.push_token.specs.PushToken.{turn, begun}
-use Rattle.push_token.specs.Layout.{Ended, finished, stopped, checked, layFrom}
+use Rattle.push_token.specs.Layout.{finished, stopped, checked, layFrom}
 use Rattle.fields.specs.declared.Fields.{Fields}
 use Rattle.fields.specs.declared.Ends.{Ends}
 use Rattle.fields.specs.declared.TokenAt.{TokenAt}
-use Rattle.fields.specs.Pen.{Pen, on, stateOf, opts, formatterOf, signatureOf, tooDeepOf, topFirst, Roomy, Stands}
+use Rattle.fields.specs.Pen.{Pen, on, stateOf, opts, signatureOf, tooDeepOf, topFirst, Roomy, Stands}
 use Rattle.fields.specs.Does.{Does, Arrives}
 use Rattle.fields.proofs.Does.{far}
 use Rattle.sink.proofs.Sink.{later}
 use Rattle.stretch.proofs.Lone.{lay-more}
 use Rattle.walk.specs.declared.Walked.{Walked}
-use Rattle.walk.specs.declared.Walked.the-variants.{Finished, Deep, Full}
+use Rattle.walk.specs.declared.Walked.the-variants.{Finished}
 use Rattle.walk.specs.Walk.{Fresh, Ending, TokenAtRow, TokenRows, Trivial, Walks, walkOf, walkedOf, Laid}
 use Rattle.push_token.proofs.Growth.{depth, Grown, turn-grown}
 use Rattle.walk.proofs.Place.{Head, head-first, rowOf, nextOf, tokenHere, tokensNext, tokens-here, tokens-next, head-next, next-within, stands, trivial, token-rows}

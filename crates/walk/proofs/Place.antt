@@ -1,6 +1,6 @@
 -- A token's rows in the lent slice: what the walk knows where a token's rows begin. Assumes nothing.
 use mathlib.Core.Bool.{true, false}
-use mathlib.Core.List.{List, [], _∷_, map}
+use mathlib.Core.List.{List, [], _∷_}
 use mathlib.Core.Path.{_≡_, refl, sym, ap, subst, _∙_}
 use Prim.Native.Nat.{ℕ, zero, suc, _+_, _-_, _*_, _/_, _≤_, _<_}
 use native.Mathlib.Omega.{arith}
@@ -10,15 +10,15 @@ use lib.Seq.{drop-drop}
 use Rattle.rows.specs.Kinds.{Leading, TokenRow, Trailing, Comma, RightBrace}
 use Rattle.rows.specs.Row.{Row, rowAt, firstRows, rowsOf}
 use Rattle.rows.specs.Bounds.{Inside, InBounds}
-use Rattle.rows.specs.Checks.{atStart, badFrom}
-use Rattle.rows.specs.Token.{Token, bytesOf, triviaOf, tokensFrom, tokensOf}
+use Rattle.rows.specs.Checks.{atStart}
+use Rattle.rows.specs.Token.{Token, bytesOf, tokensOf}
 use Rattle.rows.proofs.RowList.{rows-cons, part-cons, rows-drop, rows-length, row-drop, row-index}
-use Rattle.rows.proofs.Sound.{in-bounds, first-sound}
+use Rattle.rows.proofs.Sound.{in-bounds}
 use Rattle.lookahead.specs.Scan.{lacks, widthRows}
 use Rattle.fields.specs.declared.Ends.{Ends}
 use Rattle.fields.specs.declared.TokenAt.{TokenAt}
-use Rattle.fields.specs.Pen.{Names, Ahead, Stands}
-use Rattle.fields.specs.Trivia.{Part, triviaIn}
+use Rattle.fields.specs.Pen.{Stands}
+use Rattle.fields.specs.Trivia.{triviaIn}
 use Rattle.stretch.specs.Stretch.{onlyTokens}
 use Rattle.walk.specs.Walk.{runRows, Ending, TokenAtRow, TokenRows, Trivial, Walks}
 use Rattle.walk.proofs.Runs.{Checked, only-none, checked-behind, trailing-run, tokens-behind, run-ends, run-most, no-trail, TokenFirst, token-first}

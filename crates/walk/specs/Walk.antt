@@ -8,7 +8,7 @@ use Prim.Native.Nat.{ℕ, zero, suc, _+_, _-_, _*_, _/_, _%_, _≤_, _<_}
 use lib.Dec.{eqb}
 use lib.ListN.{length, drop}
 use Rattle.report.specs.Report.{deep}
-use Rattle.rows.specs.Kinds.{TokenRow, Comma, RightBrace}
+use Rattle.rows.specs.Kinds.{Comma, RightBrace}
 use Rattle.rows.specs.Row.{Row, rowAt, rowsOf}
 use Rattle.rows.specs.Checks.{atStart, badFrom}
 use Rattle.rows.specs.Token.{Token, Trivia, tokensOf}

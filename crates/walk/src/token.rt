@@ -11,7 +11,6 @@ ghost use mathlib.Core.List.{List};
 ghost use mathlib.Core.Option.{some};
 ghost use mathlib.Core.Path.{_≡_};
 ghost use Prim.Native.Nat.{ℕ, _+_, _-_, _<_};
-ghost use lib.ListN.{length};
 ghost use Rattle.rows.specs.Token.{Token};
 ghost use Rattle.push_token.specs.Formatter.{setTooDeep};
 ghost use Rattle.push_token.specs.Act.{update};

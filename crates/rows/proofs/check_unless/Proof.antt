@@ -1,6 +1,5 @@
 -- `rows::check_unless` meets its contract. Assumes nothing.
 use borrow.Author.Tests.{lt-ltb, le-ltb}
-use borrow.Author.Needs.{needs}
 use Rattle.rows.specs.Options.{badOption}
 use Rattle.rows.specs.Answer.{checkReport}
 use Rattle.rows.proofs.check_unless.Statement.{statement}

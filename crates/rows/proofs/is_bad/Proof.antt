@@ -1,12 +1,12 @@
 -- `rows::is_bad` meets its contract. Assumes nothing.
 use mathlib.Core.Bool.{Bool, true, false, not, _&&_, _||_}
-use mathlib.Core.Path.{_≡_, refl, sym, _∙_}
+use mathlib.Core.Path.{_≡_, sym, _∙_}
 use Prim.Native.Nat.{ℕ, _≤_}
 use native.Mathlib.Omega.{arith}
 use lib.Dec.{eqb, ltb}
 use borrow.Author.Tests.{ne-eqb, lt-ltb, le-ltb}
 use borrow.Author.Needs.{needs}
-use Rattle.rows.specs.Kinds.{Leading, TokenRow, Trailing, BlankLine, Other}
+use Rattle.rows.specs.Kinds.{Leading, TokenRow, Trailing, BlankLine}
 use Rattle.rows.specs.Row.{Row}
 use Rattle.rows.specs.Checks.{topKind, mayTrail, after}
 use Rattle.rows.specs.Answer.{rowOf}
