@@ -2,6 +2,7 @@ pub mod Bytes
 pub mod Runs
 pub mod Quick
 pub mod Eight
+pub mod Block
 pub mod Letters
 pub mod Fixed
 pub mod Tests

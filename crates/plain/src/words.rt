@@ -1,7 +1,8 @@
 // Runs of word bytes.
+use crate::lexeme::is_digit;
 use pieces::eights;
 use rows::number_at;
-ghost use mathlib.Core.Bool.{true};
+ghost use mathlib.Core.Bool.{true, cond};
 ghost use mathlib.Core.Path.{_≡_};
 ghost use Prim.Native.Nat.{_+_, _≤_, min};
 ghost use lib.ListN.{length, take, drop};
@@ -37,6 +38,9 @@ fn is_long_words(lexeme: &[u8]) -> bool
         return false;
     }
     let size = lexeme.len();
+    if 32 <= size {
+        return is_block_words(lexeme);
+    }
     let last = size - 8;
     let mut i = 0;
     while i < size {
@@ -44,6 +48,23 @@ fn is_long_words(lexeme: &[u8]) -> bool
             return false;
         }
         i += 8;
+    }
+    true
+}
+
+// The same from thirty-two on, and thirty-two at a time.
+fn is_block_words(lexeme: &[u8]) -> bool
+    requires { ⌜ 32 ≤ length (now lexeme) ⌝ }
+    ensures { λ r. ⌜ r ≡ runOf isWordByte (now (lexeme .entry)) ⌝ }
+{
+    let size = lexeme.len();
+    let last = size - 32;
+    let mut i = 0;
+    while i < size {
+        if !block_words(lexeme, smaller(i, last)) {
+            return false;
+        }
+        i += 32;
     }
     true
 }
@@ -72,6 +93,41 @@ pub fn smaller(a: usize, b: usize) -> usize
         return a;
     }
     b
+}
+
+// ---- a block of thirty-two
+
+// Whether the thirty-two bytes from `at` on are word bytes. No byte ends the loop, so that it compiles to vector code.
+fn block_words(s: &[u8], at: usize) -> bool
+    requires { ⌜ at + 32 ≤ length (now s) ⌝ }
+    ensures { λ r. ⌜ r ≡ all isWordByte (take 32 (drop at (now (s .entry)))) ⌝ }
+{
+    let mut others: u8 = 0;
+    let mut i = 0;
+    while i < 32 {
+        others += other_word(s[at + i]);
+        i += 1;
+    }
+    others == 0
+}
+
+// 0 for a word byte, 1 for another, by comparisons alone.
+fn other_word(b: u8) -> u8
+    ensures { λ r. ⌜ r ≡ cond (isWordByte b) 0 1 ⌝ }
+{
+    if 128 <= b {
+        return 0;
+    }
+    if b == b'_' {
+        return 0;
+    }
+    if is_digit(b) {
+        return 0;
+    }
+    if is_small(b | 32) {
+        return 0;
+    }
+    1
 }
 
 // ---- eight bytes in one number
