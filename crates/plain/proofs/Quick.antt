@@ -5,7 +5,7 @@ use mathlib.Core.Path.{_≡_, refl, sym, _∙_}
 use Prim.Native.Nat.{ℕ, _+_, _-_, _<_}
 use native.Mathlib.Omega.{arith}
 use lib.Dec.{eqb}
-use lib.ListN.{length, getD, drop}
+use lib.ListN.{length, getD, take, drop}
 use borrow.Author.Tests.{eqb-true, eq-eqb}
 use Rattle.report.proofs.Logic.{and-right}
 use Rattle.report.proofs.Below.{agree-below}
@@ -14,11 +14,12 @@ use Rattle.pieces.specs.Reading.{Kind, word, number, quoted, between, opens, be
 use Rattle.pieces.specs.Sets.{runLength}
 use Rattle.pieces.specs.Ends.{EndsAt, ordinary}
 use Rattle.pieces.proofs.Sets.{quote-of, word-of}
-use Rattle.pieces.proofs.Scan.{begins, at-end, reaches-start}
+use Rattle.pieces.proofs.Scan.{begins, at-end, reaches-start, run-stop, run-all}
 use Rattle.pieces.proofs.Quote.{stops, quote-closed}
 use Rattle.push_token.specs.Plain.{readsWhole}
-use Rattle.plain.specs.Scan.{IsValue}
+use Rattle.plain.specs.Scan.{runOf, IsValue}
 use Rattle.plain.proofs.Bytes.{operator-first}
+use Rattle.plain.proofs.Runs.{run-all-of}
 
 pub quotes-are : (b : ℕ) → b < 256 → eqb b 34 || eqb b 39 ≡ isQuote (class b)
 unfolding class
@@ -50,3 +51,11 @@ module _ (w : List ℕ) (some : 0 < length w) where
       let n = eqb-true (length w - e) 1 z in
       let o : begin (class first) first ≡ opens (quoted q) = rw (← b, quote-of (class q) c) in
       value (rw (← b, quote-of (class q) c)) (ends-whole o (quote-closed (stops reaches-start h) l f) (eq-eqb (e + 1) (length w) (omega arith)))
+
+  -- where the bytes between the first and the last are tested at once
+  pub long-value : {q : ℕ} → q ≡ first → isQuote (class q) ≡ true → 1 < length w → getD w (length w - 1) 0 ≡ q → runOf (ordinary q) (take (length w - 1 - 1) (drop 1 w)) ≡ true → IsValue w
+  long-value {q} b c h f e =
+      let z : 1 + (length w - 1 - 1) ≡ length w - 1 = omega arith in
+      let stop = run-stop (ordinary q) w (length w - 1) (omega arith) (rw (f, eq-eqb q q refl)) in
+      let more = run-all (ordinary q) (length w - 1 - 1) w 1 (omega arith) (run-all-of (ordinary q) (take (length w - 1 - 1) (drop 1 w)) e) in
+      quote-value b c (stop ∙ (rw z at more)) (omega arith) f (eq-eqb (length w - (length w - 1)) 1 (omega arith))

@@ -32,6 +32,10 @@ pub run-start : (f : ℕ → Bool) (w : List ℕ) → (length w ≡ 0 → ⊥) �
 run-start f [] n = absurd (n refl)
 run-start f (b ∷ w) n = refl
 
+pub run-all-of : (f : ℕ → Bool) (w : List ℕ) → runOf f w ≡ true → all f w ≡ true
+run-all-of f [] e = refl
+run-all-of f (b ∷ w) e = e
+
 -- at the loop's head
 module _ (f : ℕ → Bool) (w : List ℕ) (i : ℕ) (e : runOf f w ≡ all f (drop i w)) where
   module _ (h : i < length w) where

@@ -1,4 +1,6 @@
 // A lexeme by itself: clauses 2 and 3, and its bytes.
+use crate::words::one;
+use crate::words::smaller;
 use pieces::Next;
 use pieces::next_piece;
 use pieces::runs;
@@ -6,9 +8,12 @@ use rows::kinds;
 ghost use mathlib.Core.Bool.{true, _&&_};
 ghost use mathlib.Core.List.{[], _∷_};
 ghost use mathlib.Core.Path.{_≡_};
-ghost use Prim.Native.Nat.{_≤_, _<_};
-ghost use lib.ListN.{length, getD};
+ghost use Prim.Native.Nat.{_+_, _≤_, _<_};
+ghost use lib.Dec.{eqb};
+ghost use lib.ListN.{length, getD, take, drop};
 ghost use Rattle.pieces.specs.Class.{class, digit, isQuote};
+ghost use Rattle.pieces.specs.Sets.{all};
+ghost use Rattle.pieces.specs.Ends.{ordinary};
 ghost use Rattle.push_token.specs.Plain.{sameBytes, operatorByte, hasItsLexeme, readsWhole, beginsOperator};
 ghost use Rattle.plain.specs.Scan.{bracketOf, runOf, IsValue};
 
@@ -181,6 +186,9 @@ fn is_quoted(lexeme: &[u8], first: u8) -> bool
     if !is_quote(first) {
         return false;
     }
+    if 66 <= lexeme.len() {
+        return is_long_quoted(lexeme, first);
+    }
     let end = runs::ordinary_end(lexeme, 1, first);
     if lexeme.len() <= end {
         return false;
@@ -198,4 +206,54 @@ fn is_quote(b: u8) -> bool
         return true;
     }
     b == b'\''
+}
+
+// The same from sixty-six bytes on.
+fn is_long_quoted(lexeme: &[u8], quote: u8) -> bool
+    requires { ⌜ (66 ≤ length (now lexeme)) × (quote ≡ getD (now lexeme) 0 0) × (isQuote (class quote) ≡ true) ⌝ }
+    ensures { λ r. ⌜ (r ≡ true → IsValue (now (lexeme .entry))) ⌝ }
+{
+    let last = lexeme.len() - 1;
+    if lexeme[last] != quote {
+        return false;
+    }
+    is_ordinary(&lexeme[1..last], quote)
+}
+
+// Whether all bytes are ordinary: neither the quote nor a backslash. Sixty-four are tested at a time: the last of all, where fewer are left.
+fn is_ordinary(s: &[u8], quote: u8) -> bool
+    requires { ⌜ 64 ≤ length (now s) ⌝ }
+    ensures { λ r. ⌜ r ≡ runOf (ordinary quote) (now (s .entry)) ⌝ }
+{
+    let size = s.len();
+    let last = size - 64;
+    let mut i = 0;
+    while i < size {
+        if !block_ordinary(s, smaller(i, last), quote) {
+            return false;
+        }
+        i += 64;
+    }
+    true
+}
+
+// Whether the sixty-four bytes from `at` on are ordinary. No byte ends the loop, so that it compiles to vector code; one of thirty-two is unrolled instead.
+fn block_ordinary(s: &[u8], at: usize, quote: u8) -> bool
+    requires { ⌜ at + 64 ≤ length (now s) ⌝ }
+    ensures { λ r. ⌜ r ≡ all (ordinary quote) (take 64 (drop at (now (s .entry)))) ⌝ }
+{
+    let mut others: u8 = 0;
+    let mut i = 0;
+    while i < 64 {
+        others += count_other(s[at + i], quote);
+        i += 1;
+    }
+    others == 0
+}
+
+// 0 for an ordinary byte alone.
+fn count_other(b: u8, quote: u8) -> u8
+    ensures { λ r. ⌜ (eqb r 0 ≡ ordinary quote b) × (r ≤ 2) ⌝ }
+{
+    one(b == quote) + one(b == b'\\')
 }

@@ -102,32 +102,30 @@ fn block_words(s: &[u8], at: usize) -> bool
     requires { ⌜ at + 32 ≤ length (now s) ⌝ }
     ensures { λ r. ⌜ r ≡ all isWordByte (take 32 (drop at (now (s .entry)))) ⌝ }
 {
-    let mut others: u8 = 0;
+    let mut words: u8 = 0;
     let mut i = 0;
     while i < 32 {
-        others += other_word(s[at + i]);
+        words += count_word(s[at + i]);
         i += 1;
     }
-    others == 0
+    words == 32
 }
 
-// 0 for a word byte, 1 for another, by comparisons alone.
-fn other_word(b: u8) -> u8
-    ensures { λ r. ⌜ r ≡ cond (isWordByte b) 0 1 ⌝ }
+// 1 for a word byte, 0 for another: of the tests one at most holds.
+fn count_word(b: u8) -> u8
+    ensures { λ r. ⌜ (r ≡ cond (isWordByte b) 1 0) × (r ≤ 1) ⌝ }
 {
-    if 128 <= b {
-        return 0;
+    one(128 <= b) + one(b == b'_') + one(is_digit(b)) + one(is_small(b | 32))
+}
+
+// 1 for yes, 0 for no.
+pub fn one(x: bool) -> u8
+    ensures { λ r. ⌜ (r ≡ cond x 1 0) × (r ≤ 1) ⌝ }
+{
+    if x {
+        return 1;
     }
-    if b == b'_' {
-        return 0;
-    }
-    if is_digit(b) {
-        return 0;
-    }
-    if is_small(b | 32) {
-        return 0;
-    }
-    1
+    0
 }
 
 // ---- eight bytes in one number

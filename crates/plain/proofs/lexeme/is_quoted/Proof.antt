@@ -13,23 +13,29 @@ is-quote-requires c κs = search needs
 returns : tie.Need-returns
 returns c = λ e. impossible′ e
 
-ordinary-end-requires : tie.Need-ordinary-end-requires
-ordinary-end-requires c κs = search needs
+is-long-quoted-requires : tie.Need-is-long-quoted-requires
+is-long-quoted-requires c κs = (search needs, c .before .before .before .before .pre .1, sym (c .before .before .is-quote .ensures) ∙ not-false _ (c .before .if1 .left))
 
 returns-2 : tie.Need-returns-2
-returns-2 c = λ e. impossible′ e
+returns-2 c = search needs
 
-shared-slice-read-if3 : tie.Need-shared-slice-read-if3
-shared-slice-read-if3 c = search needs
+ordinary-end-requires : tie.Need-ordinary-end-requires
+ordinary-end-requires c κs = search needs
 
 returns-3 : tie.Need-returns-3
 returns-3 c = λ e. impossible′ e
 
+shared-slice-read-if4 : tie.Need-shared-slice-read-if4
+shared-slice-read-if4 c = search needs
+
+returns-4 : tie.Need-returns-4
+returns-4 c = λ e. impossible′ e
+
 sub-result : tie.Need-sub-result
 sub-result c = search needs
 
-returns-4 : tie.Need-returns-4
-returns-4 c = λ e. quote-value (c .before .before .before .before .before .before .before .args .lexeme .now) (c .before .before .before .before .before .before .before .pre .0) (c .before .before .before .before .before .before .before .pre .1) (sym (c .before .before .before .before .before .is-quote .ensures) ∙ not-false _ (c .before .before .before .before .if1 .left)) (c .before .before .before .ordinary-end .ensures) (search needs) (c .if3 .left) e
+returns-5 : tie.Need-returns-5
+returns-5 c = λ e. quote-value (c .before .before .before .before .before .before .before .before .args .lexeme .now) (c .before .before .before .before .before .before .before .before .pre .0) (c .before .before .before .before .before .before .before .before .pre .1) (sym (c .before .before .before .before .before .before .is-quote .ensures) ∙ not-false _ (c .before .before .before .before .before .if1 .left)) (c .before .before .before .ordinary-end .ensures) (search needs) (c .if4 .left) e
 
 pub is-quoted-spec : {M : Type 1} → statement M
 is-quoted-spec =
@@ -37,9 +43,11 @@ is-quoted-spec =
     (tie.spec
     is-quote-requires
     returns
-    ordinary-end-requires
+    is-long-quoted-requires
     returns-2
-    shared-slice-read-if3
+    ordinary-end-requires
     returns-3
+    shared-slice-read-if4
+    returns-4
     sub-result
-    returns-4)
+    returns-5)
