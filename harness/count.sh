@@ -15,7 +15,7 @@ count() { # SIDE INPUT TIMES
 
 echo "| input | Rust | ours | ours / Rust |"
 echo "|---|---|---|---|"
-for input in 1 2 3 4 5 6 7 8; do
+for input in 1 2 3 4 5 6 7 8 9 10; do
     read -r tokens name < <("$program" calls ours "$input" 1)
     rust=$(($(count rust "$input" 2) - $(count rust "$input" 1)))
     ours=$(($(count ours "$input" 2) - $(count ours "$input" 1)))
