@@ -25,11 +25,10 @@ pub fn run(repeats: usize, hostile: bool) {
     for input in hostile_inputs().iter().filter(|_| hostile) {
         input.measure(1);
     }
-    println!("\n## Where our layout's time goes\n\nNanoseconds a token: the checks of options and rows with the search for the last \
-        comma and brace (a call without room for the first byte, on a list that begins with a trivia row, so that the plain \
-        mark is told at once), the plain mark (such a call on the list itself, less the checks), and the walk (the rest).\n");
-    println!("| input | checks | plain mark | walk |");
-    println!("|---|---|---|---|");
+    println!("\n## Where our layout's time goes\n\nNanoseconds a token: checks and plain mark (a call without room for the first byte; the \
+        search for the last comma and brace is in it), and the walk (the rest).\n");
+    println!("| input | checks and plain mark | walk |");
+    println!("|---|---|---|");
     for input in usual_inputs() {
         input.measure_parts(repeats);
     }
@@ -74,7 +73,7 @@ pub fn call(input: usize, times: usize, by_rust: bool) {
     let Packed { rows, text } = pack(&input.rows);
     let read = model::tokens(&rows, &text).unwrap();
     let tokens = rust_side::tokens(&read);
-    let mut out = vec![0; 64 * input.rows.len()];
+    let mut out = vec![0; 256 * input.rows.len()];
     for _ in 0..times {
         if by_rust {
             input.run_rust(&tokens);
@@ -138,17 +137,13 @@ impl Input {
     }
 
     fn measure_parts(&self, repeats: usize) {
-        let mut led = list("l3:;a");
-        led.truncate(1);
-        led.extend_from_slice(&self.rows[..self.rows.len().min(MOST_ROWS - 1)]);
-        let (packed, packed_led) = (pack(&self.rows), pack(&led));
-        let mut out = vec![0; 64 * self.rows.len()];
+        let packed = pack(&self.rows);
+        let mut out = vec![0; 256 * self.rows.len()];
         let mut whole = || self.run_ours(&packed.rows, &packed.text, &mut out);
         let mut marked = || self.run_ours(&packed.rows, &packed.text, &mut []);
-        let mut checks = || self.run_ours(&packed_led.rows, &packed_led.text, &mut []);
-        let times = best_of_each(repeats, [&mut whole, &mut marked, &mut checks]);
-        let [whole, marked, checks] = times.map(|ns| ns / (self.calls * self.rows.len()) as f64);
-        println!("| {} | {checks:.1} | {:.1} | {:.1} |", self.name, marked - checks, whole - marked);
+        let times = best_of_each(repeats, [&mut whole, &mut marked]);
+        let [whole, marked] = times.map(|ns| ns / (self.calls * self.rows.len()) as f64);
+        println!("| {} | {marked:.1} | {:.1} |", self.name, whole - marked);
     }
 
     fn run_rust(&self, tokens: &rust_side::Tokens) {
