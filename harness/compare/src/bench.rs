@@ -9,12 +9,15 @@ const NO_INDENT: Options = [1, 0, 40, 40];
 const WIDEST: Options = [1, 0, 65_535, 65_535];
 const SAME_LINE: Options = [0, 4, 40, 40];
 
+/// Nanoseconds.
+const SECOND: u64 = 1_000_000_000;
+
 /// Rows of a list of two kinds.
 const PAIR_ROWS: usize = 1024;
 
 /// All tables, or those of usual inputs alone; `repeats` samples for each number, of which the best counts.
 pub fn run(repeats: usize, hostile: bool) {
-    println!("## Layout\n\nNanoseconds of processor time a token, best of {repeats} samples; a hostile list once.\n");
+    println!("## Layout\n\nNanoseconds of processor time a token, best of {repeats} samples, or of as many as a second has, one at least.\n");
     println!(
         "| input | options | rows | tokens | text bytes | Rust | ours | ours, output cleared first | ours / Rust |"
     );
@@ -23,7 +26,7 @@ pub fn run(repeats: usize, hostile: bool) {
         input.measure(repeats);
     }
     for input in hostile_inputs().iter().filter(|_| hostile) {
-        input.measure(1);
+        input.measure(repeats);
     }
     println!("\n## Where our layout's time goes\n\nNanoseconds a token: checks and plain mark (a call without room for the first byte; the \
         search for the last comma and brace is in it), and the walk (the rest).\n");
@@ -166,14 +169,19 @@ impl Input {
     }
 }
 
-/// The nanoseconds of the fastest sample of each. They take turns, so that what else the machine does touches all alike.
+/// The nanoseconds of the fastest sample of each, of so many samples or as many as a second has. They take turns, so that what
+/// else the machine does touches all alike.
 fn best_of_each<const N: usize>(repeats: usize, mut samples: [&mut dyn FnMut(); N]) -> [f64; N] {
+    let begun = clock::nanoseconds();
     let mut best = [f64::INFINITY; N];
     for _ in 0..repeats {
         for (sample, best) in samples.iter_mut().zip(&mut best) {
             let start = clock::nanoseconds();
             sample();
             *best = best.min((clock::nanoseconds() - start) as f64);
+        }
+        if clock::nanoseconds() - begun > SECOND {
+            break;
         }
     }
     best
