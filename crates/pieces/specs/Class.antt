@@ -4,6 +4,7 @@ use mathlib.Core.Bool.{Bool, true, false, cond, _||_, _&&_}
 use mathlib.Core.List.{List, [], _∷_}
 use Prim.Native.Nat.{ℕ}
 use lib.Dec.{leb, eqb}
+use Rattle.report.specs.Bytes.{byte, bytes}
 use Rattle.pieces.specs.declared.bytes.Class.{Class}
 use Rattle.pieces.specs.declared.bytes.Class.the-variants.{Gap, Single, Quote, Word, Operator, Unclassed}
 
@@ -16,22 +17,22 @@ within low high b = leb low b && leb b high
 
 -- 0–9
 abbrev pub digit : ℕ → Bool
-digit b = within 48 57 b
+digit b = within (byte "0") (byte "9") b
 
 -- A–Z a–z 0–9 _ and 128–255
 abbrev pub wordByte : ℕ → Bool
-wordByte b = within 65 90 b || within 97 122 b || digit b || eqb b 95 || within 128 255 b
+wordByte b = within (byte "A") (byte "Z") b || within (byte "a") (byte "z") b || digit b || eqb b (byte "_") || within 128 255 b
 
 -- ( ) [ ] { } , ; ?
 abbrev pub singleByte : ℕ → Bool
-singleByte b = among (40 ∷ 41 ∷ 91 ∷ 93 ∷ 123 ∷ 125 ∷ 44 ∷ 59 ∷ 63 ∷ []) b
+singleByte b = among (bytes "()[]{},;?") b
 
 -- An operator byte is any other of 33–126.
 unfoldable pub class : ℕ → Class
 class b =
-    cond (among (10 ∷ 32 ∷ []) b) Gap
+    cond (among (bytes "\n ") b) Gap
     (cond (singleByte b) Single
-    (cond (among (34 ∷ 39 ∷ []) b) Quote
+    (cond (among (bytes "\"'") b) Quote
     (cond (wordByte b) Word
     (cond (within 33 126 b) Operator Unclassed))))
 

@@ -1,0 +1,63 @@
+-- Bytes by name, each as it is written in quotes.
+-- Assumes nothing.
+use mathlib.Core.List.{List, [], _∷_}
+use Prim.Native.Nat.{ℕ}
+use Prim.Native.Char.{Char, code}
+use Prim.Native.String.{String, [] as empty, _∷_ as _before_}
+
+-- the byte of an ASCII character
+abbrev pub byte : Char → ℕ
+byte c = code c
+
+-- the bytes of a quoted ASCII text
+abbrev pub bytes : String → List ℕ
+bytes empty = []
+bytes (c before s) = byte c ∷ bytes s
+
+-- ---- gaps
+
+abbrev pub lineFeed : List ℕ
+lineFeed = bytes "\n"
+
+abbrev pub space : List ℕ
+space = bytes " "
+
+-- ---- the lexemes of kinds 2 to 16, 18 and 19 (document 01, 'The plain mark')
+
+abbrev pub leftBrace : List ℕ
+leftBrace = bytes "{"
+
+abbrev pub rightBrace : List ℕ
+rightBrace = bytes "}"
+
+abbrev pub leftParen : List ℕ
+leftParen = bytes "("
+
+abbrev pub rightParen : List ℕ
+rightParen = bytes ")"
+
+abbrev pub leftBracket : List ℕ
+leftBracket = bytes "["
+
+abbrev pub rightBracket : List ℕ
+rightBracket = bytes "]"
+
+abbrev pub comma : List ℕ
+comma = bytes ","
+
+abbrev pub elseWord : List ℕ
+elseWord = bytes "else"
+
+-- ---- the marks of comments
+
+abbrev pub slashes : List ℕ
+slashes = bytes "//"
+
+abbrev pub docSlashes : List ℕ
+docSlashes = bytes "///"
+
+abbrev pub slashStar : List ℕ
+slashStar = bytes "/*"
+
+abbrev pub starSlash : List ℕ
+starSlash = bytes "*/"
