@@ -1,16 +1,19 @@
 #!/usr/bin/env python3
-"""Holds the definition of the walk (crates/push_token/specs) against the Rust, by computation.
+"""Holds the definition of the layout call (crates/push_token/specs/Layout.antt: `layout`) against the Rust, by computation.
 
     python3 tests/definition_beside_rust.py [LISTS [SEED]]
 
 Builds format.rs (harness/, FORMAT_RS names the file if it is elsewhere), lays out LISTS token lists with it (1000 unless
-given), and has the checker compute the definition on the same lists: texts, and the plain mark by the model below, which
-is written from document 01. It writes a scratch crate under target/ and proves nothing of the repository.
+given), and has the checker compute `layout` on the same lists: options, row bytes, text bytes and an output go in; report
+and output come out. Texts, commas and the places of refusals 4 and 5 are the Rust's, stepped token by token; the plain mark
+is the model's below, which is written from document 01. It writes a scratch crate under target/ and proves nothing of the
+repository.
 """
 import os
 import random
 import re
 import shutil
+import struct
 import subprocess
 import sys
 
@@ -19,6 +22,7 @@ ROOT = os.path.dirname(HERE)
 LISTS = int(sys.argv[1]) if len(sys.argv) > 1 else 1000
 SEED = int(sys.argv[2]) if len(sys.argv) > 2 else 1
 BATCH = 125
+UNTOUCHED = 7  # a byte of the output before the call
 
 LEXEMES = {0: [b""], 1: [b"", b"\n"], 2: [b"{"], 3: [b"}"], 4: [b"("], 5: [b")"], 6: [b"["], 7: [b"]"], 8: [b","], 9: [b":"], 10: [b";"],
            11: [b"?"], 12: [b"."], 13: [b".."], 14: [b"::"], 15: [b"#"], 16: [b"!"], 17: [b"!#"], 18: [b"-"], 19: [b"else"],
@@ -95,53 +99,48 @@ def lay(lines, *words):
     return out.split("\n")[:-1]
 
 
-def rust(lists):
-    return [bytes.fromhex(text) for text in lay(line(options, tokens) for options, tokens in lists)]
-
-
 def antt_bytes(w):
     return "(" + "".join("%d ∷ " % b for b in w) + "[])"
 
 
-def antt_trivia(ts):
-    names = ["lineComment", "docComment", "blockComment"]
-    return "(" + "".join(("blankLine" if k == 3 else "%s %s" % (names[k], antt_bytes(c))) + " ∷ " for k, c in ts) + "[])"
+def arguments(tokens):
+    """The rows' bytes and the text of some tokens: what the rows name stands in the text in order."""
+    rows, text = b"", b""
+    for kind, lexeme, lead, trail in tokens:
+        for what, k, w in [(0, k, c) for k, c in lead] + [(1, kind, lexeme)] + [(2, k, c) for k, c in trail]:
+            rows += struct.pack("<4I", what, k, len(text), len(text) + len(w))
+            text += w
+    return rows, text
 
 
-def module(lists, texts):
+def answers(rng, lists):
+    """For each list the size of an output, mostly enough, and what comes of the call by format.rs: the report's numbers and the output."""
+    import make_replay_layout
+    for (options, tokens), said in zip(lists, lay((line(options, tokens) for options, tokens in lists), "steps")):
+        words = said.split(" ")
+        text, steps = bytes.fromhex(words[0]), [tuple(map(int, word.split(":"))) for word in words[1:]]
+        size = max(0, len(text) + rng.choice([0, 0, 1, 5, -1, -rng.randrange(1, 9)]))
+        report, laid = make_replay_layout.walk(tokens, text, steps, size)
+        yield size, report, bytes(size) if laid is None else laid + bytes([UNTOUCHED]) * (size - len(laid))
+
+
+def module(lists, expected):
     head = open(os.path.join(ROOT, "crates", "push_token", "proofs", "Cases.antt")).read()
     unfolding = next(line for line in head.split("\n") if line.startswith("unfolding "))
-    uses = "\n".join(line for line in head.split("\n") if line.startswith("use ") and "rows.specs.Token" not in line and "rows.specs.Options" not in line)
-    uses = uses.replace("Rattle.push_token.specs", "Rattle.push_token.specs") + "\nuse Rattle.rows.specs.Options.{Options, SameLine, Allman}"
+    uses = "\n".join(line for line in head.split("\n") if line.startswith("use "))
     theorems = []
-    for n, ((options, tokens), text) in enumerate(zip(lists, texts)):
-        token = "".join("token %d %s %s %s ∷ " % (k, antt_bytes(w), antt_trivia(lead), antt_trivia(trail)) for k, w, lead, trail in tokens)
-        style = "Allman" if options[0] else "SameLine"
-        case = "lay (record { braceStyle = %s; indentWidth = %d; fnSigWidth = %d; listWidth = %d }) (%s[])" % ((style,) + options[1:] + (token,))
-        theorems.append("same%d : %s ≡ laid %s %s\n%s\nsame%d = refl\n\n" % (n, case, antt_bytes(text), "true" if plain(tokens) else "false", unfolding, n))
-    return uses + """
-use Rattle.rows.specs.Token.{Trivia, lineComment, docComment, blockComment, blankLine, Token}
-
-record Laid : Type 0 where
-  text : List ℕ
-  mark : Bool
-
-abbrev laid : List ℕ → Bool → Laid
-laid w p = record { text = w; mark = p }
-
-abbrev lay : Options → List Token → Laid
-lay o ts = laid (walk o ts .out) (plain ts)
-
-abbrev token : ℕ → List ℕ → List Trivia → List Trivia → Token
-token k w l r = record { kind = k; lexeme = w; leading = l; trailing = r }
-
-""" + "".join(theorems)
+    for n, ((options, tokens), (size, report, out)) in enumerate(zip(lists, expected)):
+        rows, text = arguments(tokens)
+        call = "layout %d %d %d %d %s %s (replicate %d %d)" % (options + (antt_bytes(rows), antt_bytes(text), size, UNTOUCHED))
+        answer = "success %d %d %d" % report[1:] if report[0] == 0 else "refuse %d %d" % report[:2]
+        theorems.append("same%d : %s ≡ record { report = %s; out = %s }\n%s\nsame%d = refl\n\n" % (n, call, answer, antt_bytes(out), unfolding, n))
+    return uses.replace("Rattle.push_token.specs", "Rattle.push_token.specs") + "\n\n" + "".join(theorems)
 
 
 def main():
     rng = random.Random(SEED)
     lists = [make(rng) for _ in range(LISTS)]
-    texts = rust(lists)
+    expected = list(answers(rng, lists))
     scratch = os.path.join(ROOT, "target", "definition")
     names = ["report", "rows", "lookahead", "pieces", "push_token"]
     for name in names:
@@ -152,18 +151,19 @@ def main():
     os.makedirs(os.path.join(folder, "src"), exist_ok=True)
     os.makedirs(os.path.join(folder, "specs"), exist_ok=True)
     open(os.path.join(folder, "src", "lib.rt"), "w").write("// scratch\n")
-    compared = marks = 0
+    compared = marks = refused = 0
     for at in range(0, LISTS, BATCH):
-        some, answers = lists[at:at + BATCH], texts[at:at + BATCH]
+        some, said = lists[at:at + BATCH], expected[at:at + BATCH]
         open(os.path.join(folder, "specs", "Lib.antt"), "w").write("pub mod Run\n")
-        open(os.path.join(folder, "specs", "Run.antt"), "w").write(module(some, answers))
+        open(os.path.join(folder, "specs", "Run.antt"), "w").write(module(some, said))
         run = subprocess.run(["rt", "check", "run"], cwd=scratch, text=True, capture_output=True)
         if run.returncode:
             print(run.stdout[-3000:], run.stderr[-3000:])
             sys.exit("lists %d to %d: the definition and the Rust differ, or the check could not be made" % (at, at + len(some)))
         compared += len(some)
-        marks += sum(plain(tokens) for _, tokens in some)
-        print("%d lists: the Rust's texts, by the definition; %d bear the plain mark" % (compared, marks), flush=True)
+        marks += sum(report[0] == 0 and report[3] for _, report, _ in said)
+        refused += sum(report[0] != 0 for _, report, _ in said)
+        print("%d calls by the definition, as by the Rust; %d bear the plain mark, %d are refused" % (compared, marks, refused), flush=True)
 
 
 if __name__ == "__main__":

@@ -6,26 +6,26 @@ use Rattle.report.proofs.Logic.{split}
 use Rattle.rows.specs.Kinds.{LeftBrace}
 use Rattle.push_token.specs.Formatter.{setInlineDepth}
 use Rattle.push_token.specs.Act.{run}
-use Rattle.push_token.specs.Emit.{endedBy, openBlockMultiline}
-use Rattle.push_token.specs.Arms.{openBlock}
+use Rattle.push_token.specs.Emit.{endedBy, openBlockMultiline, openAllman, openSameLine}
+use Rattle.push_token.specs.Arms.{openBlock, openInnerInline}
 use Rattle.push_token.proofs.Said.{said}
 use Rattle.sink.specs.Sink.{Writes}
 use Rattle.fields.specs.declared.BraceStyle.the-variants.{SameLine, Allman}
 use Rattle.fields.specs.Pen.{Pen, opts, formatterOf}
 use Rattle.fields.specs.Does.{Does}
 use Rattle.fields.proofs.Does.{same-run, does}
-use Rattle.blocks.specs.Parts.{innerInlineBytes, openInnerInline, openAllman, openSameLine}
+use Rattle.blocks.specs.Parts.{innerInlineBytes, braced}
 
 -- ---- a block over several lines, by its style
 
 module _ {p q : Pen} (i : ℕ) where
-  pub block-same-line : p .form .options .«brace_style» ≡ SameLine → Does (λ o. openSameLine) p q → Does (λ o. openBlock o i) p q
+  pub block-same-line : p .form .options .«brace_style» ≡ SameLine → Does (λ o. braced openSameLine) p q → Does (λ o. openBlock o i) p q
   unfolding run openBlockMultiline
-  block-same-line e d = same-run {a = λ o. openSameLine} (rw e) d
+  block-same-line e d = same-run {a = λ o. braced openSameLine} (rw e) d
 
-  pub block-allman : p .form .options .«brace_style» ≡ Allman → Does (λ o. openAllman o i) p q → Does (λ o. openBlock o i) p q
+  pub block-allman : p .form .options .«brace_style» ≡ Allman → Does (λ o. braced (openAllman o i)) p q → Does (λ o. openBlock o i) p q
   unfolding run openBlockMultiline
-  block-allman e d = same-run {a = λ o. openAllman o i} (rw e) d
+  block-allman e d = same-run {a = λ o. braced (openAllman o i)} (rw e) d
 
 -- ---- a brace in a one-line block: the indent or a space and the brace, in one write
 

@@ -19,10 +19,11 @@ ghost use mathlib.Core.Path.{_≡_};
 ghost use Prim.Native.Nat.{ℕ, _<_};
 ghost use Rattle.rows.specs.Token.{Token};
 ghost use Rattle.push_token.specs.Act.{update, _⨾_};
-ghost use Rattle.push_token.specs.Arms.{nextIs, emptyRecord, openBlock};
+ghost use Rattle.push_token.specs.Arms.{nextIs, emptyRecord, openBlock, openInline, openInnerInline};
+ghost use Rattle.push_token.specs.Emit.{openAllman, openSameLine};
 ghost use Rattle.sink.specs.Sink.{Writes};
 ghost use Rattle.fields.specs.Pen.{Roomy, Names, Stands, Ahead, lone, optionsOf, formatterOf, on};
-ghost use Rattle.blocks.specs.Parts.{opensBlock, recordEntered, openOneLine, openInline, innerInlineBytes, openAllman, openInnerInline, openSameLine};
+ghost use Rattle.blocks.specs.Parts.{opensBlock, recordEntered, openOneLine, innerInlineBytes, braced};
 ghost use Rattle.fields.specs.Does.{Does};
 
 // `record E {` with `}` right behind it.
@@ -186,7 +187,7 @@ fn enter_record(mut f: Fields) -> Fields
 
 fn open_block_same_line(mut f: Fields, out: &mut [u8]) -> Fields
     requires { ⌜ f .indent < 4294967295 ⌝ }
-    ensures { λ r. ⌜ ((s : List ℕ) → Does (λ o. openSameLine) (on f s (now (out .entry))) (on r s (now (out .exit)))) ⌝ }
+    ensures { λ r. ⌜ ((s : List ℕ) → Does (λ o. braced openSameLine) (on f s (now (out .entry))) (on r s (now (out .exit)))) ⌝ }
 {
     let len = f.len;
     let gapped = write_byte(out, len, b' ');
@@ -204,7 +205,7 @@ fn open_block_same_line(mut f: Fields, out: &mut [u8]) -> Fields
 fn open_block_allman(mut f: Fields, out: &mut [u8], index: u32) -> Fields
     requires { ⌜ f .indent < 4294967295 ⌝ }
     requires { ⌜ index < 4294967295 ⌝ }
-    ensures { λ r. ⌜ ((s : List ℕ) → Does (λ o. openAllman o index) (on f s (now (out .entry))) (on r s (now (out .exit)))) ⌝ }
+    ensures { λ r. ⌜ ((s : List ℕ) → Does (λ o. braced (openAllman o index)) (on f s (now (out .entry))) (on r s (now (out .exit)))) ⌝ }
 {
     let len = f.len;
     let gapped = f.write_on_new_line(out, len);

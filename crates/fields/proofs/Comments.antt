@@ -1,49 +1,46 @@
 -- A row of trivia, and rows of trivia one by one. Assumes nothing.
-use mathlib.Core.List.{List, [], _∷_, _++_, append-nil, append-assoc}
-use mathlib.Core.Path.{_≡_, refl, sym, ap, _∙_}
+use mathlib.Core.List.{List, [], _∷_, _++_, append-nil}
+use mathlib.Core.Path.{_≡_, refl, ap, _∙_}
 use Prim.Native.Nat.{ℕ, zero, suc, _+_, _-_, _/_, _≤_, _<_}
 use native.Mathlib.Nat.{add-zero}
 use native.Mathlib.Omega.{arith}
 use lib.ListN.{length, drop}
 use lib.Seq.{drop-drop}
 use borrow.Author.Tests.{ne-eqb}
+use Rattle.report.specs.Bytes.{space}
 use Rattle.rows.specs.Kinds.{BlockComment}
 use Rattle.rows.specs.Row.{Row, rowAt, firstRows}
 use Rattle.rows.specs.Bounds.{Inside, InBounds}
 use Rattle.rows.specs.Options.{Options}
-use Rattle.rows.specs.Token.{Trivia, lineComment, docComment, blockComment, blankLine, bytesOf, triviaOf}
+use Rattle.rows.specs.Token.{Trivia, blankLine, bytesOf, triviaOf}
 use Rattle.rows.proofs.RowList.{row-drop}
 use Rattle.push_token.specs.Act.{State, Act, _⨾_, nothing, run}
-use Rattle.push_token.specs.Emit.{indentOrSpace, leadingTrivia, trailingTrivia}
+use Rattle.push_token.specs.Emit.{indentOrSpace, leadingTrivia, trailingTrivia, leadAct, trailAct}
 use Rattle.push_token.proofs.Said.{said}
 use Rattle.fields.specs.declared.Fields.{Fields}
 use Rattle.sink.specs.Sink.{Writes}
 use Rattle.sink.specs.Comment.{commentHead, leadTail, trailHead, trailTail}
 use Rattle.fields.specs.Pen.{Pen, on, opts, formatterOf}
-use Rattle.fields.specs.Trivia.{triviaIn, Part, leadAct, trailAct}
+use Rattle.fields.specs.Trivia.{triviaIn, Part}
 use Rattle.fields.specs.Does.{Does}
-use Rattle.sink.proofs.Sink.{same-bytes}
 use Rattle.fields.proofs.Does.{does, seq, stays, same-run}
 
 -- ---- a row, by its kind
-
-regroup : (xs ys zs us : List ℕ) → xs ++ (ys ++ (zs ++ us)) ≡ xs ++ (ys ++ zs) ++ us
-regroup xs ys zs us = sym (append-assoc xs (ys ++ zs) us ∙ ap (λ l. xs ++ l) (append-assoc ys zs us))
 
 pub blank-row : (text : List ℕ) (r : Row) → BlockComment < r .kind → triviaOf text r ≡ blankLine
 blank-row text r h =
     rw (ne-eqb (r .kind) 0 (λ e. omega arith), ne-eqb (r .kind) 1 (λ e. omega arith), ne-eqb (r .kind) 2 (λ e. omega arith))
 
 module _ {p q : Pen} (text : List ℕ) (r : Row) (h : r .kind < 3) (o : opts q ≡ opts p) (c : formatterOf (p .form) (p .stack) ≡ formatterOf (q .form) (q .stack)) (n : p .form .commas ≡ q .form .commas) where
-  pub lead-comment : Writes (p .buf) (p .form .len) (indentOrSpace (opts p) (formatterOf (p .form) (p .stack)) ++ (commentHead (r .kind) ++ (32 ∷ bytesOf text r ++ leadTail (r .kind)))) (q .buf) (q .form .len) → Does (λ o. leadAct o (triviaOf text r)) p q
+  pub lead-comment : Writes (p .buf) (p .form .len) (indentOrSpace (opts p) (formatterOf (p .form) (p .stack)) ++ (commentHead (r .kind) ++ (space ++ bytesOf text r ++ leadTail (r .kind)))) (q .buf) (q .form .len) → Does (λ o. leadAct o (triviaOf text r)) p q
   unfolding run said
-  lead-comment w = go (r .kind) refl (same-bytes (regroup (indentOrSpace (opts p) (formatterOf (p .form) (p .stack))) (commentHead (r .kind)) (32 ∷ bytesOf text r) (leadTail (r .kind))) w)
+  lead-comment w = go (r .kind) refl
     where
-      go : (k : ℕ) → r .kind ≡ k → Writes (p .buf) (p .form .len) (indentOrSpace (opts p) (formatterOf (p .form) (p .stack)) ++ (commentHead (r .kind) ++ (32 ∷ bytesOf text r)) ++ leadTail (r .kind)) (q .buf) (q .form .len) → Does (λ o. leadAct o (triviaOf text r)) p q
-      go zero e v = rw e (does o c n (rw e at v))
-      go (suc zero) e v = rw e (does o c n (rw e at v))
-      go (suc (suc zero)) e v = rw e (does o c n (rw e at v))
-      go (suc (suc (suc k))) e v = absurd (omega arith)
+      go : (k : ℕ) → r .kind ≡ k → Does (λ o. leadAct o (triviaOf text r)) p q
+      go zero e = rw e (does o c n (rw e at w))
+      go (suc zero) e = rw e (does o c n (rw e at w))
+      go (suc (suc zero)) e = rw e (does o c n (rw e at w))
+      go (suc (suc (suc k))) e = absurd (omega arith)
 
   pub trail-comment : Writes (p .buf) (p .form .len) (trailHead (r .kind) ++ (bytesOf text r ++ trailTail (r .kind))) (q .buf) (q .form .len) → Does (λ o. trailAct (triviaOf text r)) p q
   unfolding run said
@@ -94,23 +91,11 @@ pub record EachInTurn (all : Options → List Trivia → Act) (one : Options →
 
 pub leading-in-turn : EachInTurn leadingTrivia leadAct
 unfolding run leadingTrivia
-leading-in-turn = record { none = λ o s. refl; more = more }
-  where
-    more : (o : Options) (t : Trivia) (ts : List Trivia) (s : State) → run (leadAct o t ⨾ leadingTrivia o ts) s ≡ run (leadingTrivia o (t ∷ ts)) s
-    more o (lineComment c) ts s = refl
-    more o (docComment c) ts s = refl
-    more o (blockComment c) ts s = refl
-    more o blankLine ts s = refl
+leading-in-turn = record { none = λ o s. refl; more = λ o t ts s. refl }
 
 pub trailing-in-turn : EachInTurn (λ o. trailingTrivia) (λ o. trailAct)
 unfolding run trailingTrivia
-trailing-in-turn = record { none = λ o s. refl; more = λ o. more }
-  where
-    more : (t : Trivia) (ts : List Trivia) (s : State) → run (trailAct t ⨾ trailingTrivia ts) s ≡ run (trailingTrivia (t ∷ ts)) s
-    more (lineComment c) ts s = refl
-    more (docComment c) ts s = refl
-    more (blockComment c) ts s = refl
-    more blankLine ts s = refl
+trailing-in-turn = record { none = λ o s. refl; more = λ o t ts s. refl }
 
 -- from the formatter f and the output `out`, the rows from `at` on do what is left of the whole
 pub record Left (all : Options → List Trivia → Act) (rows text : List ℕ) (from to : ℕ) (f₀ : Fields) (out₀ : List ℕ) (at : ℕ) (f : Fields) (out : List ℕ) : Type 0 where

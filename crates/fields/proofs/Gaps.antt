@@ -6,7 +6,8 @@ use Prim.Native.Nat.{ℕ, _*_}
 use lib.ListN.{replicate}
 use Rattle.rows.specs.Options.{Options}
 use Rattle.push_token.specs.Formatter.{Formatter}
-use Rattle.push_token.specs.Emit.{tokenGap, spaceAfter, space}
+use Rattle.report.specs.Bytes.{space}
+use Rattle.push_token.specs.Emit.{tokenGap, spaceAfter}
 use Rattle.sink.specs.Sink.{Writes}
 use Rattle.sink.proofs.Sink.{same-bytes}
 use Rattle.fields.specs.Gap.{gapSize}

@@ -12,9 +12,9 @@ ghost use Prim.Native.Nat.{ℕ, _-_, _/_, _<_};
 ghost use Rattle.rows.specs.Answer.{rowOf};
 ghost use Rattle.rows.specs.Bounds.{Inside};
 ghost use Rattle.rows.specs.Token.{triviaOf};
-ghost use Rattle.push_token.specs.Emit.{leadingTrivia, trailingTrivia};
+ghost use Rattle.push_token.specs.Emit.{leadingTrivia, trailingTrivia, leadAct, trailAct};
 ghost use Rattle.fields.specs.Pen.{Held, on};
-ghost use Rattle.fields.specs.Trivia.{Part, triviaIn, leadAct, trailAct};
+ghost use Rattle.fields.specs.Trivia.{Part, triviaIn};
 ghost use Rattle.fields.specs.Does.{Does};
 
 impl Fields {

@@ -9,9 +9,9 @@ use Rattle.rows.specs.Token.{Token}
 use Rattle.lookahead.specs.Measure.{blockIsSingleLine}
 use Rattle.push_token.specs.Formatter.{setRecordPending, setInRecord, setRecordDepth}
 use Rattle.push_token.specs.Act.{State, Act, update, _⨾_, if, run}
-use Rattle.push_token.specs.Arms.{inOneLineBlock, nextIs, emptyRecord, openBlock, leftBraceArm}
+use Rattle.push_token.specs.Arms.{inOneLineBlock, nextIs, emptyRecord, openBlock, leftBraceArm, openInnerInline, openInline}
 use Rattle.fields.specs.Pen.{Pen, stateOf, opts}
-use Rattle.blocks.specs.Parts.{opensBlock, recordEntered, openInnerInline, openInline}
+use Rattle.blocks.specs.Parts.{opensBlock, recordEntered}
 use Rattle.fields.specs.Does.{Does}
 use Rattle.fields.proofs.Does.{same-run}
 

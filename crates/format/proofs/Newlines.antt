@@ -8,9 +8,9 @@ use Rattle.rows.specs.Token.{Token}
 use Rattle.lookahead.specs.Measure.{nextHasComment}
 use Rattle.push_token.specs.Act.{State, choose, nothing, run}
 use Rattle.push_token.specs.Emit.{isAt}
-use Rattle.push_token.specs.Arms.{inOneLineBlock, isEmptyText, endsWithTwoFeeds, newlineArm}
+use Rattle.push_token.specs.Arms.{inOneLineBlock, isEmptyText, endsWithTwoFeeds, newlineArm, feedLine}
 use Rattle.fields.specs.Pen.{Pen, newlineOf}
-use Rattle.format.specs.Parts.{feedsLine, feedLine}
+use Rattle.format.specs.Parts.{feedsLine}
 use Rattle.fields.specs.Does.{Does}
 use Rattle.fields.proofs.Does.{same-run}
 

@@ -9,13 +9,13 @@ use Rattle.rows.specs.Kinds.{LeftParen}
 use Rattle.rows.specs.Token.{Token}
 use Rattle.push_token.specs.Act.{update, _⨾_, run}
 use Rattle.push_token.specs.Emit.{pushLexeme}
-use Rattle.push_token.specs.Arms.{atSignature, groupClosed, breaksList, openList, leftParenArm, leftBracketArm}
+use Rattle.push_token.specs.Arms.{atSignature, groupClosed, breaksList, openList, leftParenArm, leftBracketArm, openSignature}
 use Rattle.fields.specs.declared.TokenAt.{TokenAt}
 use Rattle.fields.specs.Pen.{Pen, stateOf, opts, lone, Stands}
 use Rattle.fields.specs.Due.{Leads}
 use Rattle.fields.specs.Does.{Does}
 use Rattle.fields.proofs.Due.{yes, no, now, later}
-use Rattle.lists.specs.Parts.{opensSignature, openSignature, bracketOpened}
+use Rattle.lists.specs.Parts.{opensSignature, bracketOpened}
 use Rattle.format.specs.Parts.{openerArm}
 
 pub group-closes : {t : Token} {p q : Pen} → q .form .«lexeme_due» ≡ true → Does (λ o. update groupClosed) p q → Leads (λ o. pushLexeme o t ⨾ update groupClosed) t p q

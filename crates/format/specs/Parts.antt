@@ -1,18 +1,16 @@
 -- The parts of the definition's arms that functions of their own do.
 -- Assumes nothing.
 use mathlib.Core.Bool.{Bool, true, false, cond, not, _&&_, _||_}
-use mathlib.Core.List.{List, [], _∷_, _++_}
-use mathlib.Core.Option.{some}
+use mathlib.Core.List.{List}
 use mathlib.Core.Path.{_≡_}
 use Prim.Native.Nat.{ℕ, _<_}
 use lib.Dec.{eqb}
-use Rattle.rows.specs.Kinds.{Newline, LeftParen, Else}
+use Rattle.rows.specs.Kinds.{LeftParen}
 use Rattle.rows.specs.Options.{Options}
 use Rattle.rows.specs.Token.{Token}
 use Rattle.lookahead.specs.Measure.{nextHasComment}
-use Rattle.push_token.specs.Formatter.{Formatter, setAtLineStart, setPrev}
-use Rattle.push_token.specs.Act.{State, Act, update, gap, lexeme, _⨾_, if}
-use Rattle.push_token.specs.Emit.{lineFeed, indentStr, endedBy}
+use Rattle.push_token.specs.Formatter.{Formatter}
+use Rattle.push_token.specs.Act.{State, Act, if}
 use Rattle.push_token.specs.Arms.{inOneLineBlock, isEmptyText, endsWithTwoFeeds, breaksList, leftParenArm, leftBracketArm}
 
 -- whether a Newline that is not suppressed is written, before the tokens ts
@@ -22,9 +20,6 @@ feedsLine ts s =
     (cond (s .formatter .inRecord || inOneLineBlock (s .formatter)) false
     (cond (s .formatter .atLineStart) (not (endsWithTwoFeeds (s .out))) true))
 
-abbrev pub feedLine : Act
-feedLine = gap (λ f. lineFeed) ⨾ update (λ f. setPrev (some Newline) (setAtLineStart true f))
-
 -- the two arms of `(` and `[`
 abbrev pub openerArm : Options → ℕ → Token → List Token → Act
 openerArm o i t ts = if (λ f. eqb (t .kind) LeftParen) (leftParenArm o i t ts) (leftBracketArm o i t ts)
@@ -32,6 +27,3 @@ openerArm o i t ts = if (λ f. eqb (t .kind) LeftParen) (leftParenArm o i t ts) 
 -- a list that breaks finds room on a stack of 64 numbers, of which n are taken
 abbrev pub ListRoom : Options → Token → List Token → Formatter → ℕ → Type 0
 ListRoom o t ts f n = breaksList o t ts f ≡ true → n < 64
-
-abbrev pub breakElse : Options → Act
-breakElse o = gap (λ f. lineFeed ++ indentStr o f) ⨾ lexeme (101 ∷ 108 ∷ 115 ∷ 101 ∷ []) ⨾ update (endedBy Else)

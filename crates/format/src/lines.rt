@@ -15,9 +15,9 @@ ghost use Prim.Native.Nat.{ℕ, _≤_};
 ghost use lib.ListN.{length};
 ghost use Rattle.rows.specs.Token.{tokensOf};
 ghost use Rattle.push_token.specs.Emit.{isAt};
-ghost use Rattle.push_token.specs.Arms.{elseOnNewLine, inOneLineBlock};
+ghost use Rattle.push_token.specs.Arms.{elseOnNewLine, inOneLineBlock, feedLine, breakElse};
 ghost use Rattle.fields.specs.Pen.{formatterOf, newlineOf, stateOf, on};
-ghost use Rattle.format.specs.Parts.{feedsLine, feedLine, breakElse};
+ghost use Rattle.format.specs.Parts.{feedsLine};
 ghost use Rattle.fields.specs.Does.{Does};
 
 // Whether a Newline that is not suppressed is written: not at the text's start before a comment, not where lines

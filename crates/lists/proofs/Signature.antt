@@ -9,13 +9,12 @@ use Rattle.rows.specs.Token.{Token}
 use Rattle.lookahead.specs.Measure.{shouldBreakSig}
 use Rattle.push_token.specs.Formatter.{setFnState}
 use Rattle.push_token.specs.Act.{update, run}
-use Rattle.push_token.specs.Arms.{groupOpened, deeper}
+use Rattle.push_token.specs.Arms.{groupOpened, deeper, openSignature}
 use Rattle.fields.specs.declared.TokenAt.{TokenAt}
 use Rattle.fields.specs.Pen.{Pen, opts, signatureOf, lone, Stands}
 use Rattle.fields.specs.Does.{Does}
 use Rattle.fields.specs.Due.{Leads}
 use Rattle.fields.proofs.Due.{later}
-use Rattle.lists.specs.Parts.{openSignature}
 
 -- a signature that does not break
 pub signature-kept : {token : TokenAt} {rows text : List ℕ} {t : Token} {ts : List Token} {p q : Pen} → Stands token rows text t ts → shouldBreakSig (opts p .fnSigWidth) (t ∷ ts) ≡ false → q .form .«lexeme_due» ≡ true → Does (λ o. update (λ f. groupOpened (setFnState 0 f))) p q → Leads (λ o. openSignature o (token .index) t ts) (lone token text) p q

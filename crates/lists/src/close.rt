@@ -14,9 +14,8 @@ ghost use mathlib.Core.List.{List};
 ghost use mathlib.Core.Path.{_≡_};
 ghost use Prim.Native.Nat.{ℕ};
 ghost use Rattle.push_token.specs.Act.{update};
-ghost use Rattle.push_token.specs.Arms.{groupClosed, closeCall, closeArray};
+ghost use Rattle.push_token.specs.Arms.{groupClosed, closeCall, closeArray, closeSignatureParen};
 ghost use Rattle.fields.specs.Pen.{Roomy, on};
-ghost use Rattle.lists.specs.Parts.{closeSignatureParen};
 ghost use Rattle.fields.specs.Does.{Does};
 
 // A broken signature's `)`: the indent goes after it.

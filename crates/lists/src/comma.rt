@@ -10,9 +10,8 @@ ghost use mathlib.Core.Bool.{_||_};
 ghost use mathlib.Core.List.{List};
 ghost use mathlib.Core.Path.{_≡_};
 ghost use Prim.Native.Nat.{ℕ, _<_};
-ghost use Rattle.push_token.specs.Arms.{atRecordFields, inBrokenList};
+ghost use Rattle.push_token.specs.Arms.{atRecordFields, inBrokenList, breakComma};
 ghost use Rattle.fields.specs.Pen.{formatterOf, on};
-ghost use Rattle.lists.specs.Parts.{breakComma};
 ghost use Rattle.fields.specs.Does.{Does};
 
 pub fn breaks_comma(f: Fields, stack: &[u32]) -> bool

@@ -21,9 +21,9 @@ ghost use mathlib.Core.Path.{_≡_};
 ghost use Prim.Native.Nat.{ℕ, _≤_, _<_};
 ghost use Rattle.rows.specs.Token.{Token};
 ghost use Rattle.push_token.specs.Act.{update};
-ghost use Rattle.push_token.specs.Arms.{atSignature, openList, breaksList};
+ghost use Rattle.push_token.specs.Arms.{atSignature, openList, breaksList, openSignature, breakSignature};
 ghost use Rattle.fields.specs.Pen.{Roomy, StackRoom, Names, Stands, Ahead, lone, optionsOf, formatterOf, signatureOf, on};
-ghost use Rattle.lists.specs.Parts.{opensSignature, openSignature, signatureBelow, bracketOpened, breakSignature};
+ghost use Rattle.lists.specs.Parts.{opensSignature, signatureBelow, bracketOpened};
 ghost use Rattle.fields.specs.Due.{Leads};
 ghost use Rattle.fields.specs.Does.{Does};
 

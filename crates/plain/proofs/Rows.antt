@@ -18,9 +18,8 @@ use Rattle.lookahead.specs.Measure.{isEmpty}
 use Rattle.lookahead.specs.Scan.{trails}
 use Rattle.push_token.specs.Arms.{nextIs}
 use Rattle.push_token.specs.Plain.{isMute, hasItsLexeme, readsWhole, endsOperator, beginsOperator, beginsDigit, tightBefore, tightBehind, clause₂, clause₃, clause₄, clause₅, clause₆, clause₇, plain}
-use Rattle.push_token.specs.PlainScan
-use Rattle.push_token.specs.PlainScan.{see, plainFrom}
-use Rattle.push_token.proofs.PlainScan.{plain-scan}
+use Rattle.push_token.proofs.PlainScan
+use Rattle.push_token.proofs.PlainScan.{see, plainFrom, plain-scan}
 use Rattle.plain.specs.Scan.{Facts, unseen, mute, forbids, collides, fits, behind, plainRows}
 
 -- ---- what the code keeps of what has been seen

@@ -17,7 +17,8 @@ use Rattle.pieces.proofs.Written.{Written, written-gap}
 use Rattle.report.proofs.Logic.{impossible′, and-left}
 use Rattle.push_token.specs.Formatter.{Formatter, setFnState, setSigBreakDepth}
 use Rattle.push_token.specs.Act.{State, state, run}
-use Rattle.push_token.specs.Emit.{lineFeed, indentStr, onNewLine, indented, dedented, tokenGap}
+use Rattle.report.specs.Bytes.{lineFeed}
+use Rattle.push_token.specs.Emit.{indentStr, onNewLine, indented, dedented, tokenGap}
 use Rattle.push_token.specs.Arms.{popped, openList, deeper, leftParenArm, leftBracketArm, shallower, rightParenArm, rightBracketArm, commaArm, elseArm, trackRecord, otherArm}
 use Rattle.push_token.specs.Plain.{sameBytes, hasItsLexeme, mayMeet, noDotBehind}
 use Rattle.push_token.proofs.After.{After, chosen, inTurn, first, last}

@@ -1,191 +1,187 @@
--- The nine cases of document 01 that are marked P, over a joint list, by computation; and the 65th broken list. Assumes nothing.
-use mathlib.Core.Bool.{Bool, true, false}
-use mathlib.Core.List.{List, [], _∷_}
-use mathlib.Core.Option.{none, some}
+-- The cases of document 01 that are marked P, as one proof over a joint list, and others, the 65th broken list among them. Each is a whole layout call by
+-- computation: options, row bytes, text bytes and output go in, the report and the output come out. Assumes nothing.
+use mathlib.Core.Bool.{cond}
+use mathlib.Core.List.{List, [], _∷_, _++_}
 use mathlib.Core.Path.{_≡_, refl}
-use Prim.Native.Nat.{ℕ, zero, suc}
-use Rattle.rows.specs.Kinds.{Newline, LeftBrace, RightBrace, LeftParen, RightParen, LeftBracket, RightBracket, Comma, Colon, Minus, Else, Fn, Record, Identifier, NumberLiteral, Other}
-use Rattle.rows.specs.Options.{Options, Allman}
-use Rattle.rows.specs.Token.{Token, lineComment}
-use Rattle.lookahead.specs.Measure.{singleLineFrom, sigMeasureFrom, groupMeasureFrom, shouldBreakSig, shouldBreakList, anyComment}
+use Prim.Native.Nat.{ℕ, zero, suc, _+_}
+use Prim.Native.String.{String, [] as empty, _∷_ as _before_}
+use lib.Dec.{eqb}
+use lib.ListN.{length, drop, replicate}
+use Rattle.report.specs.Bytes.{byte, bytes, slashes}
+use Rattle.report.specs.Report.{success, refuse, zeroed, deep}
+use Rattle.rows.specs.Kinds.{TokenRow, Trailing, LineComment, Newline, LeftBrace, RightBrace, LeftParen, RightParen, LeftBracket, RightBracket, Comma, Colon, Minus, Else, Fn, Record, Identifier, NumberLiteral, Other}
+use Rattle.rows.specs.Row.{firstRows, rowsOf}
+use Rattle.rows.specs.Options.{badOption}
+use Rattle.rows.specs.Checks.{badFrom}
+use Rattle.rows.specs.Token.{trailingOf, tokensFrom, tokensOf}
+use Rattle.lookahead.specs.Measure.{anyComment, singleLineFrom, sigMeasureFrom, groupMeasureFrom, shouldBreakSig, shouldBreakList}
 use Rattle.pieces.specs.Class.{class}
 use Rattle.pieces.specs.Reading.{read}
 use Rattle.push_token.specs.Act.{run}
 use Rattle.push_token.specs.Emit.{leadingTrivia, trailingTrivia, openBlockMultiline}
 use Rattle.push_token.specs.Arms.{endsWithTwoFeeds, newlineArm, rightBraceArm, emptyRecord, leftBraceArm, leftParenArm, leftBracketArm, rightParenArm, rightBracketArm, commaArm, elseArm}
-use Rattle.push_token.specs.PushToken.{walkFrom, walk}
-use Rattle.push_token.specs.Plain.{noTrivia, hasItsLexeme, fixedLexemes, readsWhole, onePieces, operatorsApart, digitsUndotted, noBraceAfterComma, noEmptyRecord, plain}
+use Rattle.push_token.specs.Plain.{every, everyPair, hasItsLexeme, readsWhole, noBraceAfterComma, noEmptyRecord, plain}
+use Rattle.push_token.specs.Layout.{Layout, layFrom, layout}
+
+-- ---- a call's arguments
+
+-- a row of a case: its what, its kind, and the bytes that it names
+record Named : Type 0 where
+  what : ℕ
+  kind : ℕ
+  named : List ℕ
+
+-- a 32-bit number below 256, little-endian
+abbrev number : ℕ → List ℕ
+number n = n ∷ 0 ∷ 0 ∷ 0 ∷ []
+
+-- the rows' bytes; what they name stands in the text one behind the other, from an index on
+abbrev rowBytes : ℕ → List Named → List ℕ
+rowBytes at [] = []
+rowBytes at (r ∷ rs) = number (r .what) ++ number (r .kind) ++ number at ++ number (at + length (r .named)) ++ rowBytes (at + length (r .named)) rs
+
+-- the text's bytes
+abbrev textBytes : List Named → List ℕ
+textBytes [] = []
+textBytes (r ∷ rs) = r .named ++ textBytes rs
+
+-- the output before the call
+abbrev output : ℕ → List ℕ
+output size = replicate size 7
+
+-- ---- a case: options and rows, and what comes out of the call
 
 record Case : Type 0 where
+  indentWidth : ℕ
   fnSigWidth : ℕ
   listWidth : ℕ
-  tokens : List Token
+  rows : List Named
+  size : ℕ
+  comes : Layout
 
-record Laid : Type 0 where
-  text : List ℕ
-  commas : ℕ
-  mark : Bool
+-- the layout call in Allman style, into an output of the case's size
+abbrev laid : Case → Layout
+laid c = layout 1 (c .indentWidth) (c .fnSigWidth) (c .listWidth) (rowBytes 0 (c .rows)) (textBytes (c .rows)) (output (c .size))
 
-abbrev options : ℕ → ℕ → Options
-options signature list = record { braceStyle = Allman; indentWidth = 4; fnSigWidth = signature; listWidth = list }
+abbrev laidAll : List Case → List Layout
+laidAll [] = []
+laidAll (c ∷ cs) = laid c ∷ laidAll cs
 
-abbrev case : ℕ → ℕ → List Token → Case
-case signature list ts = record { fnSigWidth = signature; listWidth = list; tokens = ts }
+abbrev comeAll : List Case → List Layout
+comeAll [] = []
+comeAll (c ∷ cs) = c .comes ∷ comeAll cs
 
-abbrev laid : List ℕ → ℕ → Bool → Laid
-laid w n p = record { text = w; commas = n; mark = p }
+-- the text, the commas and the plain mark; past the text the output is unchanged
+abbrev says : ℕ → List ℕ → ℕ → ℕ → Layout
+says size text commas mark = record { report = success (length text) commas mark; out = text ++ drop (length text) (output size) }
 
-abbrev lay : Case → Laid
-lay c = laid (walk (options (c .fnSigWidth) (c .listWidth)) (c .tokens) .out) (walk (options (c .fnSigWidth) (c .listWidth)) (c .tokens) .commas) (plain (c .tokens))
+-- by signature width and list width, with the indent width 4, into 64 bytes
+abbrev case : ℕ → ℕ → List Named → List ℕ → ℕ → ℕ → Case
+case signature list rs text commas mark = record { indentWidth = 4; fnSigWidth = signature; listWidth = list; rows = rs; size = 64; comes = says 64 text commas mark }
 
-abbrev layAll : List Case → List Laid
-layAll [] = []
-layAll (c ∷ cs) = lay c ∷ layAll cs
-
-abbrev token : ℕ → List ℕ → Token
-token k w = record { kind = k; lexeme = w; leading = []; trailing = [] }
+-- a text as document 01 prints it: `/` is a line feed and `_` a space
+abbrev shown : String → List ℕ
+shown empty = []
+shown (c before s) = cond (eqb (byte c) (byte "/")) (byte "\n") (cond (eqb (byte c) (byte "_")) (byte " ") (byte c)) ∷ shown s
 
 -- ---- the tokens of the cases
 
-abbrev lex-log : Token
-lex-log = token Identifier (108 ∷ 111 ∷ 103 ∷ [])
+abbrev token : ℕ → String → Named
+token k w = record { what = TokenRow; kind = k; named = bytes w }
 
-abbrev lex-x : Token
-lex-x = token Identifier (120 ∷ [])
+abbrev name : String → Named
+name w = token Identifier w
 
-abbrev lex-a : Token
-lex-a = token Identifier (97 ∷ [])
+abbrev F : Named
+F = token Fn "F"
 
-abbrev lex-b : Token
-lex-b = token Identifier (98 ∷ [])
+abbrev R : Named
+R = token Record "R"
 
-abbrev lex-c : Token
-lex-c = token Identifier (99 ∷ [])
+abbrev openParen : Named
+openParen = token LeftParen "("
 
-abbrev lex-d : Token
-lex-d = token Identifier (100 ∷ [])
+abbrev closeParen : Named
+closeParen = token RightParen ")"
 
-abbrev lex-g : Token
-lex-g = token Identifier (103 ∷ [])
+abbrev openBracket : Named
+openBracket = token LeftBracket "["
 
-abbrev lex-f : Token
-lex-f = token Identifier (102 ∷ [])
+abbrev closeBracket : Named
+closeBracket = token RightBracket "]"
 
-abbrev lex-E : Token
-lex-E = token Identifier (69 ∷ [])
+abbrev openBrace : Named
+openBrace = token LeftBrace "{"
 
-abbrev lex-F : Token
-lex-F = token Fn (70 ∷ [])
+abbrev closeBrace : Named
+closeBrace = token RightBrace "}"
 
-abbrev lex-R : Token
-lex-R = token Record (82 ∷ [])
+abbrev comma : Named
+comma = token Comma ","
 
-abbrev openParen : Token
-openParen = token LeftParen (40 ∷ [])
+abbrev newline : Named
+newline = token Newline ""
 
-abbrev closeParen : Token
-closeParen = token RightParen (41 ∷ [])
+-- ---- the nine that are marked P; the first has two texts
 
-abbrev openBracket : Token
-openBracket = token LeftBracket (91 ∷ [])
-
-abbrev closeBracket : Token
-closeBracket = token RightBracket (93 ∷ [])
-
-abbrev openBrace : Token
-openBrace = token LeftBrace (123 ∷ [])
-
-abbrev closeBrace : Token
-closeBrace = token RightBrace (125 ∷ [])
-
-abbrev comma : Token
-comma = token Comma (44 ∷ [])
-
-abbrev newline : Token
-newline = token Newline []
-
--- signature width, list width, tokens; style Allman, indent width 4
 abbrev cases : List Case
 cases =
-    case 40 8 (lex-log ∷ openParen ∷ lex-a ∷ comma ∷ lex-b ∷ closeParen ∷ []) ∷
-    case 40 7 (lex-log ∷ openParen ∷ lex-a ∷ comma ∷ lex-b ∷ closeParen ∷ []) ∷
-    case 40 7 (lex-x ∷ openBracket ∷ lex-a ∷ comma ∷ lex-b ∷ closeBracket ∷ []) ∷
-    case 2 40 (lex-F ∷ lex-f ∷ openParen ∷ closeParen ∷ []) ∷
-    case 1 40 (lex-F ∷ lex-f ∷ openParen ∷ closeParen ∷ []) ∷
-    case 40 40 (lex-F ∷ lex-f ∷ openParen ∷ lex-a ∷ comma ∷ lex-b ∷ comma ∷ lex-c ∷ comma ∷ lex-d ∷ closeParen ∷ []) ∷
-    case 40 40 (lex-F ∷ lex-f ∷ openParen ∷ lex-a ∷ comma ∷ lex-b ∷ comma ∷ lex-c ∷ closeParen ∷ []) ∷
-    case 40 40 (lex-R ∷ lex-E ∷ openBrace ∷ closeBrace ∷ []) ∷
-    case 40 0 (lex-g ∷ openParen ∷ lex-a ∷ comma ∷ openBrace ∷ lex-b ∷ comma ∷ openBrace ∷ lex-c ∷ closeBrace ∷ closeBrace ∷ closeParen ∷ []) ∷
-    case 40 0 (lex-x ∷ openBracket ∷ lex-a ∷ comma ∷ lex-b ∷ comma ∷ newline ∷ newline ∷ closeBracket ∷ []) ∷ []
+    -- `log(a, b)`, list width 8: one line; 7: log(/____a,/____b/)
+    case 40 8 (name "log" ∷ openParen ∷ name "a" ∷ comma ∷ name "b" ∷ closeParen ∷ []) (shown "log(a,_b)") 0 1 ∷
+    case 40 7 (name "log" ∷ openParen ∷ name "a" ∷ comma ∷ name "b" ∷ closeParen ∷ []) (shown "log(/____a,/____b/)") 0 1 ∷
+    -- `x[a, b]`, 7: x[/____a,/____b,/], commas 1
+    case 40 7 (name "x" ∷ openBracket ∷ name "a" ∷ comma ∷ name "b" ∷ closeBracket ∷ []) (shown "x[/____a,/____b,/]") 1 1 ∷
+    -- `F f()`, signature width 2: F f(); 1: F f(/____/____)
+    case 2 40 (F ∷ name "f" ∷ openParen ∷ closeParen ∷ []) (shown "F_f()") 0 1 ∷
+    case 1 40 (F ∷ name "f" ∷ openParen ∷ closeParen ∷ []) (shown "F_f(/____/____)") 0 1 ∷
+    -- `F f(a, b, c, d)`: F f(/____a, b, c, d/____); three parameters: one line
+    case 40 40 (F ∷ name "f" ∷ openParen ∷ name "a" ∷ comma ∷ name "b" ∷ comma ∷ name "c" ∷ comma ∷ name "d" ∷ closeParen ∷ []) (shown "F_f(/____a,_b,_c,_d/____)") 0 1 ∷
+    case 40 40 (F ∷ name "f" ∷ openParen ∷ name "a" ∷ comma ∷ name "b" ∷ comma ∷ name "c" ∷ closeParen ∷ []) (shown "F_f(a,_b,_c)") 0 1 ∷
+    -- `R E {}`: R E {{}, plain 0
+    case 40 40 (R ∷ name "E" ∷ openBrace ∷ closeBrace ∷ []) (shown "R_E_{{}") 0 0 ∷
+    -- `g(a, { b, { c } })`, list width 0: g(/____a,/____{ b,/_____c } }/), plain 0
+    case 40 0 (name "g" ∷ openParen ∷ name "a" ∷ comma ∷ openBrace ∷ name "b" ∷ comma ∷ openBrace ∷ name "c" ∷ closeBrace ∷ closeBrace ∷ closeParen ∷ []) (shown "g(/____a,/____{_b,/_____c_}_}/)") 0 0 ∷
+    -- `x[a, b,` Newline Newline `]`, 0: x[/____a,/____b,//,], commas 1
+    case 40 0 (name "x" ∷ openBracket ∷ name "a" ∷ comma ∷ name "b" ∷ comma ∷ newline ∷ newline ∷ closeBracket ∷ []) (shown "x[/____a,/____b,//,]") 1 1 ∷ []
 
--- the texts, in which `/` of document 01 is 10 and `_` is 32, the commas and the mark
-pub paper : layAll cases ≡
-    laid (108 ∷ 111 ∷ 103 ∷ 40 ∷ 97 ∷ 44 ∷ 32 ∷ 98 ∷ 41 ∷ []) 0 true ∷
-    laid (108 ∷ 111 ∷ 103 ∷ 40 ∷ 10 ∷ 32 ∷ 32 ∷ 32 ∷ 32 ∷ 97 ∷ 44 ∷ 10 ∷ 32 ∷ 32 ∷ 32 ∷ 32 ∷ 98 ∷ 10 ∷ 41 ∷ []) 0 true ∷
-    laid (120 ∷ 91 ∷ 10 ∷ 32 ∷ 32 ∷ 32 ∷ 32 ∷ 97 ∷ 44 ∷ 10 ∷ 32 ∷ 32 ∷ 32 ∷ 32 ∷ 98 ∷ 44 ∷ 10 ∷ 93 ∷ []) 1 true ∷
-    laid (70 ∷ 32 ∷ 102 ∷ 40 ∷ 41 ∷ []) 0 true ∷
-    laid (70 ∷ 32 ∷ 102 ∷ 40 ∷ 10 ∷ 32 ∷ 32 ∷ 32 ∷ 32 ∷ 10 ∷ 32 ∷ 32 ∷ 32 ∷ 32 ∷ 41 ∷ []) 0 true ∷
-    laid (70 ∷ 32 ∷ 102 ∷ 40 ∷ 10 ∷ 32 ∷ 32 ∷ 32 ∷ 32 ∷ 97 ∷ 44 ∷ 32 ∷ 98 ∷ 44 ∷ 32 ∷ 99 ∷ 44 ∷ 32 ∷ 100 ∷ 10 ∷ 32 ∷ 32 ∷ 32 ∷ 32 ∷ 41 ∷ []) 0 true ∷
-    laid (70 ∷ 32 ∷ 102 ∷ 40 ∷ 97 ∷ 44 ∷ 32 ∷ 98 ∷ 44 ∷ 32 ∷ 99 ∷ 41 ∷ []) 0 true ∷
-    laid (82 ∷ 32 ∷ 69 ∷ 32 ∷ 123 ∷ 123 ∷ 125 ∷ []) 0 false ∷
-    laid (103 ∷ 40 ∷ 10 ∷ 32 ∷ 32 ∷ 32 ∷ 32 ∷ 97 ∷ 44 ∷ 10 ∷ 32 ∷ 32 ∷ 32 ∷ 32 ∷ 123 ∷ 32 ∷ 98 ∷ 44 ∷ 10 ∷ 32 ∷ 32 ∷ 32 ∷ 32 ∷ 32 ∷ 99 ∷ 32 ∷ 125 ∷ 32 ∷ 125 ∷ 10 ∷ 41 ∷ []) 0 false ∷
-    laid (120 ∷ 91 ∷ 10 ∷ 32 ∷ 32 ∷ 32 ∷ 32 ∷ 97 ∷ 44 ∷ 10 ∷ 32 ∷ 32 ∷ 32 ∷ 32 ∷ 98 ∷ 44 ∷ 10 ∷ 10 ∷ 44 ∷ 93 ∷ []) 1 true ∷ []
-unfolding class read anyComment singleLineFrom sigMeasureFrom groupMeasureFrom shouldBreakSig shouldBreakList run leadingTrivia trailingTrivia openBlockMultiline endsWithTwoFeeds newlineArm rightBraceArm emptyRecord leftBraceArm leftParenArm leftBracketArm rightParenArm rightBracketArm commaArm elseArm walkFrom noTrivia hasItsLexeme fixedLexemes readsWhole onePieces operatorsApart digitsUndotted noBraceAfterComma noEmptyRecord plain
+pub paper : laidAll cases ≡ comeAll cases
+unfolding badOption badFrom firstRows rowsOf trailingOf tokensFrom tokensOf class read anyComment singleLineFrom sigMeasureFrom groupMeasureFrom shouldBreakSig shouldBreakList run leadingTrivia trailingTrivia openBlockMultiline endsWithTwoFeeds newlineArm rightBraceArm emptyRecord leftBraceArm leftParenArm leftBracketArm rightParenArm rightBracketArm commaArm elseArm every everyPair hasItsLexeme readsWhole noBraceAfterComma noEmptyRecord plain layFrom layout
 paper = refl
 
--- ---- four more: the texts are those that the Rust wrote
+-- ---- others; the texts are those that the Rust wrote
 
-abbrev equals : Token
-equals = token Other (61 ∷ [])
+abbrev minus : Named
+minus = token Minus "-"
 
-abbrev minus : Token
-minus = token Minus (45 ∷ [])
+abbrev colon : Named
+colon = token Colon ":"
 
-abbrev lex-1 : Token
-lex-1 = token NumberLiteral (49 ∷ [])
+-- lists `[a,`, each open in the one before, with widths 0 and no indent
+abbrev nested : ℕ → List Named
+nested zero = []
+nested (suc n) = openBracket ∷ name "a" ∷ comma ∷ nested n
 
-abbrev lex-else : Token
-lex-else = token Else (101 ∷ 108 ∷ 115 ∷ 101 ∷ [])
+abbrev nestedText : ℕ → List ℕ
+nestedText zero = []
+nestedText (suc n) = shown "[/a,/" ++ nestedText n
 
-abbrev lex-y : Token
-lex-y = token Identifier (121 ∷ [])
+abbrev deepCase : ℕ → Layout → Case
+deepCase n comes = record { indentWidth = 0; fnSigWidth = 0; listWidth = 0; rows = nested n; size = 400; comes = comes }
 
-abbrev lex-n : Token
-lex-n = token Identifier (110 ∷ [])
-
-abbrev colon : Token
-colon = token Colon (58 ∷ [])
-
-abbrev commaNote : Token
-commaNote = record { kind = Comma; lexeme = 44 ∷ []; leading = []; trailing = lineComment (99 ∷ []) ∷ [] }
-
--- a unary and a binary minus; `else` behind a block of several lines; a Newline counts in the width; a record field with a trailing comment (document 01)
 abbrev moreCases : List Case
 moreCases =
-    case 40 40 (lex-x ∷ equals ∷ minus ∷ lex-1 ∷ minus ∷ lex-a ∷ []) ∷
-    case 40 40 (lex-a ∷ openBrace ∷ newline ∷ lex-b ∷ newline ∷ closeBrace ∷ lex-else ∷ openBrace ∷ lex-c ∷ closeBrace ∷ []) ∷
-    case 40 8 (lex-x ∷ openBracket ∷ lex-a ∷ comma ∷ newline ∷ lex-b ∷ closeBracket ∷ []) ∷
-    case 40 40 (lex-R ∷ lex-E ∷ openBrace ∷ lex-x ∷ colon ∷ lex-n ∷ commaNote ∷ newline ∷ lex-y ∷ colon ∷ lex-n ∷ closeBrace ∷ []) ∷ []
+    -- a unary and a binary minus: x = -1 - a
+    case 40 40 (name "x" ∷ token Other "=" ∷ minus ∷ token NumberLiteral "1" ∷ minus ∷ name "a" ∷ []) (shown "x_=_-1_-_a") 0 1 ∷
+    -- `else` behind a block of several lines: a/{/____b/}/else { c }
+    case 40 40 (name "a" ∷ openBrace ∷ newline ∷ name "b" ∷ newline ∷ closeBrace ∷ token Else "else" ∷ openBrace ∷ name "c" ∷ closeBrace ∷ []) (shown "a/{/____b/}/else_{_c_}") 0 1 ∷
+    -- a Newline counts in the width: x[/____a,/____b,/]
+    case 40 8 (name "x" ∷ openBracket ∷ name "a" ∷ comma ∷ newline ∷ name "b" ∷ closeBracket ∷ []) (shown "x[/____a,/____b,/]") 1 1 ∷
+    -- document 01: a record field `x: n,` with trailing comment c, Newline, `y: n`: after the line feed two slash bytes and then _c____y: n,
+    case 40 40 (R ∷ name "E" ∷ openBrace ∷ name "x" ∷ colon ∷ name "n" ∷ comma ∷ record { what = Trailing; kind = LineComment; named = bytes "c" } ∷ newline ∷ name "y" ∷ colon ∷ name "n" ∷ closeBrace ∷ []) (shown "R_E/{/____x:_n,/" ++ slashes ++ shown "_c____y:_n,/}") 1 0 ∷ 
+    -- 64 lists, each open in the one before, and a 65th, which is refused at its index
+    deepCase 64 (says 400 (nestedText 64) 0 1) ∷
+    deepCase 65 (record { report = refuse deep 192; out = zeroed (output 400) }) ∷ []
 
-pub more : layAll moreCases ≡
-    laid (120 ∷ 32 ∷ 61 ∷ 32 ∷ 45 ∷ 49 ∷ 32 ∷ 45 ∷ 32 ∷ 97 ∷ []) 0 true ∷
-    laid (97 ∷ 10 ∷ 123 ∷ 10 ∷ 32 ∷ 32 ∷ 32 ∷ 32 ∷ 98 ∷ 10 ∷ 125 ∷ 10 ∷ 101 ∷ 108 ∷ 115 ∷ 101 ∷ 32 ∷ 123 ∷ 32 ∷ 99 ∷ 32 ∷ 125 ∷ []) 0 true ∷
-    laid (120 ∷ 91 ∷ 10 ∷ 32 ∷ 32 ∷ 32 ∷ 32 ∷ 97 ∷ 44 ∷ 10 ∷ 32 ∷ 32 ∷ 32 ∷ 32 ∷ 98 ∷ 44 ∷ 10 ∷ 93 ∷ []) 1 true ∷
-    laid (82 ∷ 32 ∷ 69 ∷ 10 ∷ 123 ∷ 10 ∷ 32 ∷ 32 ∷ 32 ∷ 32 ∷ 120 ∷ 58 ∷ 32 ∷ 110 ∷ 44 ∷ 10 ∷ 47 ∷ 47 ∷ 32 ∷ 99 ∷ 32 ∷ 32 ∷ 32 ∷ 32 ∷ 121 ∷ 58 ∷ 32 ∷ 110 ∷ 44 ∷ 10 ∷ 125 ∷ []) 1 false ∷ []
-unfolding class read anyComment singleLineFrom sigMeasureFrom groupMeasureFrom shouldBreakSig shouldBreakList run leadingTrivia trailingTrivia openBlockMultiline endsWithTwoFeeds newlineArm rightBraceArm emptyRecord leftBraceArm leftParenArm leftBracketArm rightParenArm rightBracketArm commaArm elseArm walkFrom noTrivia hasItsLexeme fixedLexemes readsWhole onePieces operatorsApart digitsUndotted noBraceAfterComma noEmptyRecord plain
+pub more : laidAll moreCases ≡ comeAll moreCases
+unfolding badOption badFrom firstRows rowsOf trailingOf tokensFrom tokensOf class read anyComment singleLineFrom sigMeasureFrom groupMeasureFrom shouldBreakSig shouldBreakList run leadingTrivia trailingTrivia openBlockMultiline endsWithTwoFeeds newlineArm rightBraceArm emptyRecord leftBraceArm leftParenArm leftBracketArm rightParenArm rightBracketArm commaArm elseArm every everyPair hasItsLexeme readsWhole noBraceAfterComma noEmptyRecord plain layFrom layout
 more = refl
-
--- ---- refusal 4: lists, each open in the one before
-
-abbrev nested : ℕ → List Token
-nested zero = []
-nested (suc n) = openBracket ∷ lex-a ∷ comma ∷ nested n
-
--- the 65th is refused, at its index
-too-deep : walk (options 0 0) (nested 65) .formatter .tooDeep ≡ some 192
-unfolding class read anyComment singleLineFrom sigMeasureFrom groupMeasureFrom shouldBreakSig shouldBreakList run leadingTrivia trailingTrivia openBlockMultiline endsWithTwoFeeds newlineArm rightBraceArm emptyRecord leftBraceArm leftParenArm leftBracketArm rightParenArm rightBracketArm commaArm elseArm walkFrom noTrivia hasItsLexeme fixedLexemes readsWhole onePieces operatorsApart digitsUndotted noBraceAfterComma noEmptyRecord plain
-too-deep = refl
-
-deep-enough : walk (options 0 0) (nested 64) .formatter .tooDeep ≡ none
-unfolding class read anyComment singleLineFrom sigMeasureFrom groupMeasureFrom shouldBreakSig shouldBreakList run leadingTrivia trailingTrivia openBlockMultiline endsWithTwoFeeds newlineArm rightBraceArm emptyRecord leftBraceArm leftParenArm leftBracketArm rightParenArm rightBracketArm commaArm elseArm walkFrom noTrivia hasItsLexeme fixedLexemes readsWhole onePieces operatorsApart digitsUndotted noBraceAfterComma noEmptyRecord plain
-deep-enough = refl

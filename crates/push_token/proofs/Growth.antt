@@ -116,7 +116,7 @@ leading o [] = idle
 leading o (lineComment c ∷ ts) = commented then leading o ts
 leading o (docComment c ∷ ts) = commented then leading o ts
 leading o (blockComment c ∷ ts) = commented then leading o ts
-leading o (blankLine ∷ ts) = commented then keeps (λ f. search arith) then leading o ts
+leading o (blankLine ∷ ts) = (commented then keeps (λ f. search arith)) then leading o ts
 
 trailing : (ts : List Trivia) → Slow 0 0 (trailingTrivia ts)
 unfolding trailingTrivia
@@ -124,7 +124,7 @@ trailing [] = idle
 trailing (lineComment c ∷ ts) = commented then trailing ts
 trailing (docComment c ∷ ts) = commented then trailing ts
 trailing (blockComment c ∷ ts) = commented then trailing ts
-trailing (blankLine ∷ ts) = trailing ts
+trailing (blankLine ∷ ts) = idle then trailing ts
 
 push-lexeme : (o : Options) (t : Token) → Slow 0 0 (pushLexeme o t)
 push-lexeme o t = gapped then written then keeps (λ f. search arith)

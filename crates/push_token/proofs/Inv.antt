@@ -19,9 +19,10 @@ use Rattle.pieces.proofs.Written.{Written, apart-single, written-gap, written-l
 use Rattle.report.proofs.Logic.{either}
 use Rattle.push_token.specs.Formatter.{Formatter}
 use Rattle.push_token.specs.Act.{State}
-use Rattle.push_token.specs.Emit.{lineFeed, space, indentStr, indentOrSpace, onNewLine, spaceAfter, tokenGap}
+use Rattle.report.specs.Bytes.{lineFeed, space}
+use Rattle.push_token.specs.Emit.{indentStr, indentOrSpace, onNewLine, spaceAfter, tokenGap}
 use Rattle.push_token.specs.Plain.{mayMeet, noDotBehind}
-use Rattle.push_token.specs.PlainScan.{Seen}
+use Rattle.push_token.proofs.PlainScan.{Seen}
 use Rattle.push_token.proofs.Beside.{Sound, reads-whole, apart}
 
 -- How the reader stands behind what is written: nothing is open; or the lexeme of the last token, whose kind is `prev`, and not at a line's start.

@@ -16,11 +16,12 @@ use Rattle.pieces.proofs.Written.{written-gap}
 use Rattle.report.proofs.Logic.{impossible, impossible′, and-left, and-right, or-cases, split}
 use Rattle.push_token.specs.Formatter.{Formatter}
 use Rattle.push_token.specs.Act.{State, state, Act, run, update, _⨾_, nothing, if}
-use Rattle.push_token.specs.Emit.{isSome, lineFeed, trackFnState, leadingTrivia, trailingTrivia}
+use Rattle.report.specs.Bytes.{lineFeed}
+use Rattle.push_token.specs.Emit.{isSome, trackFnState, leadingTrivia, trailingTrivia}
 use Rattle.push_token.specs.Arms.{nextIs, newlineArm}
 use Rattle.push_token.specs.PushToken.{takeInlineClose, arm, pushToken, turn}
 use Rattle.push_token.specs.Plain.{isMute, readsWhole, mayMeet, noDotBehind, clause₁, clause₂, clause₃, clause₄, clause₅, clause₆, clause₇}
-use Rattle.push_token.specs.PlainScan.{Seen, see, fits}
+use Rattle.push_token.proofs.PlainScan.{Seen, see, fits}
 use Rattle.push_token.proofs.After.{After, chosen, inTurn, first, last, implied}
 use Rattle.push_token.proofs.Beside.{Sound}
 use Rattle.push_token.proofs.Inv.{free, WroteBy, Wrote, Keeps, Kept, Inv, feed}

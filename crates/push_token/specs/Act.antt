@@ -1,8 +1,9 @@
 -- What a step of the walk does to the formatter, and what it writes. The arms of `push_token` are acts.
 -- Assumes nothing.
-use mathlib.Core.Bool.{Bool, true, false, cond}
-use mathlib.Core.List.{List, [], _∷_, _++_}
+use mathlib.Core.Bool.{Bool, cond}
+use mathlib.Core.List.{List, _++_}
 use Prim.Native.Nat.{ℕ, _+_}
+use Rattle.report.specs.Bytes.{comma}
 use Rattle.push_token.specs.Formatter.{Formatter}
 
 -- The formatter, `out`, and the number of inserted commas in it.
@@ -35,7 +36,7 @@ unfoldable pub run : Act → State → State
 run (update g) s = state (g (s .formatter)) (s .out) (s .commas)
 run (gap g) s = state (s .formatter) (s .out ++ g (s .formatter)) (s .commas)
 run (lexeme w) s = state (s .formatter) (s .out ++ w) (s .commas)
-run (insert g w) s = state (s .formatter) (s .out ++ (44 ∷ g (s .formatter) ++ w)) (s .commas + 1)
+run (insert g w) s = state (s .formatter) (s .out ++ (comma ++ g (s .formatter) ++ w)) (s .commas + 1)
 run (comment g) s = state (s .formatter) (s .out ++ g (s .formatter)) (s .commas)
 run (a ⨾ b) s = run b (run a s)
 run (choose t a b) s = cond (t s) (run a s) (run b s)

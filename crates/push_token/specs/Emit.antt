@@ -1,4 +1,4 @@
--- Trivia, gaps and token text: what the arms of `push_token` call, in the order of format.rs.
+-- Gaps, trivia and token text: what the arms of `push_token` call, in the order of format.rs. A number in a heading is a line of format.rs.
 -- Assumes nothing.
 use mathlib.Core.Bool.{Bool, true, false, cond, not, _&&_}
 use mathlib.Core.List.{List, [], _∷_, _++_}
@@ -6,6 +6,7 @@ use mathlib.Core.Option.{Option, none, some}
 use Prim.Native.Nat.{ℕ, _+_, _-_, _*_}
 use lib.Dec.{eqb}
 use lib.ListN.{replicate}
+use Rattle.report.specs.Bytes.{byte, lineFeed, space, leftBrace, slashes, docSlashes, slashStar, starSlash}
 use Rattle.rows.specs.Kinds.{Newline, Minus, Fn, Identifier}
 use Rattle.rows.specs.Options.{BraceStyle, SameLine, Allman, Options}
 use Rattle.rows.specs.Token.{Trivia, lineComment, docComment, blockComment, blankLine, Token}
@@ -24,19 +25,13 @@ isAt (some j) k = eqb j k
 abbrev pub prevIs : ℕ → Formatter → Bool
 prevIs k f = isAt (f .prev) k
 
--- ---- bytes
+-- ---- gaps
 
-abbrev pub lineFeed : List ℕ
-lineFeed = 10 ∷ []
-
-abbrev pub space : List ℕ
-space = 32 ∷ []
-
--- `indent_str`
+-- `indent_str`, 124
 abbrev pub indentStr : Options → Formatter → List ℕ
-indentStr o f = replicate (o .indentWidth * f .indent) 32
+indentStr o f = replicate (o .indentWidth * f .indent) (byte " ")
 
--- `push_trivia_gap`, and the gap before a one-line block's `{`: the indent at a line's start, else a space
+-- `push_trivia_gap`, 144, and the gap before a one-line block's `{`: the indent at a line's start, else a space
 abbrev pub indentOrSpace : Options → Formatter → List ℕ
 indentOrSpace o f = cond (f .atLineStart) (indentStr o f) space
 
@@ -60,7 +55,7 @@ indented f = setIndent (f .indent + 1) f
 abbrev pub dedented : Formatter → Formatter
 dedented f = setIndent (f .indent - 1) f
 
--- ---- `track_fn_state`
+-- ---- `track_fn_state`, 265
 
 abbrev pub fnStateAfter : ℕ → Formatter → ℕ
 fnStateAfter k f = cond (eqb k Fn) 1 (cond (eqb k Identifier && eqb (f .fnState) 1) 2 (cond (eqb k Newline) (f .fnState) 0))
@@ -68,35 +63,44 @@ fnStateAfter k f = cond (eqb k Fn) 1 (cond (eqb k Identifier && eqb (f .fnState)
 abbrev pub trackFnState : ℕ → Formatter → Formatter
 trackFnState k f = setFnState (cond (isSome (f .sigBreakDepth)) (f .fnState) (fnStateAfter k f)) f
 
--- ---- leading and trailing trivia of `push_token`
+-- ---- trivia of `push_token`: leading, 285, and trailing, 608
+
+abbrev pub leadAct : Options → Trivia → Act
+leadAct o (lineComment c) = comment (λ f. indentOrSpace o f ++ (slashes ++ space ++ c ++ lineFeed))
+leadAct o (docComment c) = comment (λ f. indentOrSpace o f ++ (docSlashes ++ space ++ c ++ lineFeed))
+leadAct o (blockComment c) = comment (λ f. indentOrSpace o f ++ (slashStar ++ space ++ c ++ (space ++ starSlash ++ lineFeed)))
+leadAct o blankLine = comment (λ f. cond (f .inRecord) [] lineFeed) ⨾ update (setAtLineStart true)
 
 unfoldable pub leadingTrivia : Options → List Trivia → Act
 leadingTrivia o [] = nothing
-leadingTrivia o (lineComment c ∷ ts) = comment (λ f. indentOrSpace o f ++ 47 ∷ 47 ∷ 32 ∷ c ++ lineFeed) ⨾ leadingTrivia o ts
-leadingTrivia o (docComment c ∷ ts) = comment (λ f. indentOrSpace o f ++ 47 ∷ 47 ∷ 47 ∷ 32 ∷ c ++ lineFeed) ⨾ leadingTrivia o ts
-leadingTrivia o (blockComment c ∷ ts) = comment (λ f. indentOrSpace o f ++ 47 ∷ 42 ∷ 32 ∷ c ++ 32 ∷ 42 ∷ 47 ∷ lineFeed) ⨾ leadingTrivia o ts
-leadingTrivia o (blankLine ∷ ts) = comment (λ f. cond (f .inRecord) [] lineFeed) ⨾ update (setAtLineStart true) ⨾ leadingTrivia o ts
+leadingTrivia o (t ∷ ts) = leadAct o t ⨾ leadingTrivia o ts
+
+abbrev pub trailAct : Trivia → Act
+trailAct (lineComment c) = comment (λ f. slashes ++ space ++ c)
+trailAct (docComment c) = comment (λ f. docSlashes ++ space ++ c)
+trailAct (blockComment c) = comment (λ f. slashStar ++ c ++ starSlash)
+trailAct blankLine = nothing
 
 unfoldable pub trailingTrivia : List Trivia → Act
 trailingTrivia [] = nothing
-trailingTrivia (lineComment c ∷ ts) = comment (λ f. 47 ∷ 47 ∷ 32 ∷ c) ⨾ trailingTrivia ts
-trailingTrivia (docComment c ∷ ts) = comment (λ f. 47 ∷ 47 ∷ 47 ∷ 32 ∷ c) ⨾ trailingTrivia ts
-trailingTrivia (blockComment c ∷ ts) = comment (λ f. 47 ∷ 42 ∷ c ++ 42 ∷ 47 ∷ []) ⨾ trailingTrivia ts
-trailingTrivia (blankLine ∷ ts) = trailingTrivia ts
+trailingTrivia (t ∷ ts) = trailAct t ⨾ trailingTrivia ts
 
--- ---- `open_block_multiline`
+-- ---- `open_block_multiline`, 632
+
+abbrev pub openSameLine : Act
+openSameLine = gap (λ f. space) ⨾ lexeme leftBrace ⨾ update (λ f. setAtLineStart false (indented f))
+
+abbrev pub openAllman : Options → ℕ → Act
+openAllman o i = gap (onNewLine o) ⨾ lexeme leftBrace ⨾ gap (λ f. lineFeed) ⨾ update (λ f. lineBegun (i + 1) (indented f))
 
 abbrev pub isAllman : BraceStyle → Bool
 isAllman SameLine = false
 isAllman Allman = true
 
 unfoldable pub openBlockMultiline : Options → ℕ → Act
-openBlockMultiline o i =
-    if (λ f. isAllman (o .braceStyle))
-    (gap (onNewLine o) ⨾ lexeme (123 ∷ []) ⨾ gap (λ f. lineFeed) ⨾ update (λ f. lineBegun (i + 1) (indented f)))
-    (gap (λ f. space) ⨾ lexeme (123 ∷ []) ⨾ update (λ f. setAtLineStart false (indented f)))
+openBlockMultiline o i = if (λ f. isAllman (o .braceStyle)) (openAllman o i) openSameLine
 
--- ---- `push_lexeme` and `emit_token_text`
+-- ---- `push_lexeme`, 654, and `emit_token_text`, 664
 
 -- whether a space stands before a token of the kind k; none behind a unary `-`
 abbrev pub spaceAfter : Option ℕ → Bool → ℕ → Bool

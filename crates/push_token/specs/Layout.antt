@@ -1,6 +1,6 @@
 -- The layout call: from options, rows, text and output to the answer and the output after it (document 01's table, refusals 1 to 5).
 -- Assumes nothing.
-use mathlib.Core.Bool.{Bool, true, false, cond}
+use mathlib.Core.Bool.{Bool, cond}
 use mathlib.Core.List.{List, [], _∷_, _++_}
 use mathlib.Core.Option.{Option, none, some}
 use Prim.Native.Nat.{ℕ, _+_}

@@ -4,6 +4,5 @@ pub mod Emit
 pub mod Arms
 pub mod PushToken
 pub mod Plain
-pub mod PlainScan
 pub mod Layout
 pub mod Demand3

@@ -7,6 +7,7 @@ use mathlib.Core.Option.{Option, none, some}
 use Prim.Native.Nat.{ℕ}
 use lib.Dec.{eqb}
 use lib.ListN.{length}
+use Rattle.report.specs.Bytes.{bytes}
 use Rattle.rows.specs.Kinds.{Eof, Newline, LeftBrace, RightBrace, LeftParen, RightParen, LeftBracket, RightBracket, Comma, Colon, Semicolon, Question, Dot, DotDot, ColonColon, Hash, Bang, BangHash, Minus, Else, Record, oneOf}
 use Rattle.rows.specs.Token.{Token}
 use Rattle.lookahead.specs.Measure.{bare}
@@ -18,14 +19,24 @@ use Rattle.push_token.specs.Arms.{nextIs}
 abbrev pub isMute : Token → Bool
 isMute t = oneOf (Eof ∷ Newline ∷ []) (t .kind)
 
+-- a clause holds of each token
+unfoldable pub every : (Token → Bool) → List Token → Bool
+every clause [] = true
+every clause (t ∷ ts) = clause t && every clause ts
+
+-- the neighbour before what comes behind t
+abbrev pub neighbour : Option Token → Token → Option Token
+neighbour last t = cond (isMute t) last (some t)
+
+-- a clause holds of each token and the neighbour before it
+unfoldable pub everyPair : (Option Token → Token → Bool) → Option Token → List Token → Bool
+everyPair clause last [] = true
+everyPair clause last (t ∷ ts) = clause last t && everyPair clause (neighbour last t) ts
+
 -- ---- 1. no trivia rows
 
 abbrev pub clause₁ : Token → Bool
 clause₁ t = bare t
-
-unfoldable pub noTrivia : List Token → Bool
-noTrivia [] = true
-noTrivia (t ∷ ts) = clause₁ t && noTrivia ts
 
 -- ---- 2. kinds 2–16, 18, 19 have their lexemes, and BangHash only operator bytes
 
@@ -44,32 +55,28 @@ onlyOperators (b ∷ w) = operatorByte b && onlyOperators w
 
 unfoldable pub hasItsLexeme : ℕ → List ℕ → Bool
 hasItsLexeme k w =
-    cond (eqb k LeftBrace) (sameBytes w (123 ∷ []))
-    (cond (eqb k RightBrace) (sameBytes w (125 ∷ []))
-    (cond (eqb k LeftParen) (sameBytes w (40 ∷ []))
-    (cond (eqb k RightParen) (sameBytes w (41 ∷ []))
-    (cond (eqb k LeftBracket) (sameBytes w (91 ∷ []))
-    (cond (eqb k RightBracket) (sameBytes w (93 ∷ []))
-    (cond (eqb k Comma) (sameBytes w (44 ∷ []))
-    (cond (eqb k Colon) (sameBytes w (58 ∷ []))
-    (cond (eqb k Semicolon) (sameBytes w (59 ∷ []))
-    (cond (eqb k Question) (sameBytes w (63 ∷ []))
-    (cond (eqb k Dot) (sameBytes w (46 ∷ []))
-    (cond (eqb k DotDot) (sameBytes w (46 ∷ 46 ∷ []))
-    (cond (eqb k ColonColon) (sameBytes w (58 ∷ 58 ∷ []))
-    (cond (eqb k Hash) (sameBytes w (35 ∷ []))
-    (cond (eqb k Bang) (sameBytes w (33 ∷ []))
-    (cond (eqb k Minus) (sameBytes w (45 ∷ []))
-    (cond (eqb k Else) (sameBytes w (101 ∷ 108 ∷ 115 ∷ 101 ∷ []))
+    cond (eqb k LeftBrace) (sameBytes w (bytes "{"))
+    (cond (eqb k RightBrace) (sameBytes w (bytes "}"))
+    (cond (eqb k LeftParen) (sameBytes w (bytes "("))
+    (cond (eqb k RightParen) (sameBytes w (bytes ")"))
+    (cond (eqb k LeftBracket) (sameBytes w (bytes "["))
+    (cond (eqb k RightBracket) (sameBytes w (bytes "]"))
+    (cond (eqb k Comma) (sameBytes w (bytes ","))
+    (cond (eqb k Colon) (sameBytes w (bytes ":"))
+    (cond (eqb k Semicolon) (sameBytes w (bytes ";"))
+    (cond (eqb k Question) (sameBytes w (bytes "?"))
+    (cond (eqb k Dot) (sameBytes w (bytes "."))
+    (cond (eqb k DotDot) (sameBytes w (bytes ".."))
+    (cond (eqb k ColonColon) (sameBytes w (bytes "::"))
+    (cond (eqb k Hash) (sameBytes w (bytes "#"))
+    (cond (eqb k Bang) (sameBytes w (bytes "!"))
+    (cond (eqb k Minus) (sameBytes w (bytes "-"))
+    (cond (eqb k Else) (sameBytes w (bytes "else"))
     (cond (eqb k BangHash) (onlyOperators w)
     true)))))))))))))))))
 
 abbrev pub clause₂ : Token → Bool
 clause₂ t = hasItsLexeme (t .kind) (t .lexeme)
-
-unfoldable pub fixedLexemes : List Token → Bool
-fixedLexemes [] = true
-fixedLexemes (t ∷ ts) = clause₂ t && fixedLexemes ts
 
 -- ---- 3. each lexeme but those of Newline and Eof reads as one piece that is the whole lexeme
 
@@ -85,10 +92,6 @@ readsWhole w = isOnePiece (length w) (reading w)
 
 abbrev pub clause₃ : Token → Bool
 clause₃ t = isMute t || readsWhole (t .lexeme)
-
-unfoldable pub onePieces : List Token → Bool
-onePieces [] = true
-onePieces (t ∷ ts) = clause₃ t && onePieces ts
 
 -- ---- 4. where a neighbour ends and the next begins with an operator byte, the first isn't one of seven kinds and the second isn't one of four
 
@@ -116,16 +119,8 @@ abbrev pub mayMeet : Option Token → Token → Bool
 mayMeet none u = true
 mayMeet (some t) u = not (operatorsMeet t u) || not (tightBefore (t .kind) || tightBehind (u .kind))
 
--- the neighbour before what comes behind t
-abbrev pub neighbour : Option Token → Token → Option Token
-neighbour last t = cond (isMute t) last (some t)
-
 abbrev pub clause₄ : Option Token → Token → Bool
 clause₄ last t = isMute t || mayMeet last t
-
-unfoldable pub operatorsApart : Option Token → List Token → Bool
-operatorsApart last [] = true
-operatorsApart last (t ∷ ts) = clause₄ last t && operatorsApart (neighbour last t) ts
 
 -- ---- 5. no lexeme begun with a digit has Dot for its next neighbour
 
@@ -139,10 +134,6 @@ noDotBehind (some t) u = not (beginsDigit (t .lexeme) && eqb (u .kind) Dot)
 
 abbrev pub clause₅ : Option Token → Token → Bool
 clause₅ last t = isMute t || noDotBehind last t
-
-unfoldable pub digitsUndotted : Option Token → List Token → Bool
-digitsUndotted last [] = true
-digitsUndotted last (t ∷ ts) = clause₅ last t && digitsUndotted (neighbour last t) ts
 
 -- ---- 6. no `{` directly after `,`, nor after it with only Eof between
 
@@ -174,10 +165,10 @@ noEmptyRecord armed (t ∷ ts) = clause₇ armed t ts && noEmptyRecord (recordOp
 
 unfoldable pub plain : List Token → Bool
 plain ts =
-    noTrivia ts
-    && (fixedLexemes ts
-    && (onePieces ts
-    && (operatorsApart none ts
-    && (digitsUndotted none ts
+    every clause₁ ts
+    && (every clause₂ ts
+    && (every clause₃ ts
+    && (everyPair clause₄ none ts
+    && (everyPair clause₅ none ts
     && (noBraceAfterComma false ts
     && noEmptyRecord false ts)))))

@@ -1,8 +1,8 @@
--- `push_token`, and the walk over all tokens.
+-- `push_token`, line 277 of format.rs: one token of the walk.
 -- Assumes nothing.
-use mathlib.Core.Bool.{Bool, true, false, cond, not, _&&_, _||_}
+use mathlib.Core.Bool.{Bool, false, not, _&&_, _||_}
 use mathlib.Core.List.{List, [], _∷_}
-use mathlib.Core.Option.{none, some}
+use mathlib.Core.Option.{some}
 use Prim.Native.Nat.{ℕ, _+_}
 use lib.Dec.{eqb, leb}
 use lib.ListN.{length}
@@ -51,13 +51,6 @@ pushToken o i t ts =
 abbrev pub turn : Options → ℕ → Token → List Token → Act
 turn o i t ts = if (λ f. isSome (f .tooDeep)) nothing (if (λ f. f .skipNext) (update (setSkipNext false)) (pushToken o i t ts))
 
--- `format`, in an output without end
-unfoldable pub walkFrom : Options → State → ℕ → List Token → State
-walkFrom o s i [] = s
-walkFrom o s i (t ∷ ts) = walkFrom o (run (turn o i t ts) s) (i + 1) ts
-
+-- where the walk begins: `Formatter::new`
 abbrev pub begun : State
 begun = state new [] 0
-
-abbrev pub walk : Options → List Token → State
-walk o ts = walkFrom o begun 0 ts

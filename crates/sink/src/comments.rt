@@ -4,8 +4,9 @@ use crate::write::write_part;
 use rows::Row;
 use rows::kinds;
 ghost use mathlib.Core.Bool.{cond};
-ghost use mathlib.Core.List.{[], _∷_, _++_};
+ghost use mathlib.Core.List.{[], _++_};
 ghost use Prim.Native.Nat.{_<_};
+ghost use Rattle.report.specs.Bytes.{lineFeed, space, starSlash};
 ghost use Rattle.rows.specs.Answer.{rowOf};
 ghost use Rattle.rows.specs.Bounds.{Inside};
 ghost use Rattle.rows.specs.Token.{bytesOf};
@@ -16,7 +17,7 @@ ghost use Rattle.sink.specs.Comment.{commentHead, leadTail, trailHead, t
 pub fn write_lead(out: &mut [u8], len: usize, text: &[u8], row: Row) -> usize
     requires { ⌜ Inside (now text) (rowOf row) ⌝ }
     requires { ⌜ row .kind < 3 ⌝ }
-    ensures { λ r. ⌜ Writes (now (out .entry)) len (commentHead (row .kind) ++ (32 ∷ bytesOf (now (text .entry)) (rowOf row) ++ leadTail (row .kind))) (now (out .exit)) r ⌝ }
+    ensures { λ r. ⌜ Writes (now (out .entry)) len (commentHead (row .kind) ++ (space ++ bytesOf (now (text .entry)) (rowOf row) ++ leadTail (row .kind))) (now (out .exit)) r ⌝ }
 {
     let headed = write_head(out, len, row.kind);
     let spaced = write_byte(out, headed, b' ');
@@ -50,7 +51,7 @@ pub fn write_trail(out: &mut [u8], len: usize, text: &[u8], row: Row) -> usize
 
 // A blank line's line feed, except in a record.
 pub fn write_blank_line(out: &mut [u8], len: usize, in_record: bool) -> usize
-    ensures { λ r. ⌜ Writes (now (out .entry)) len (cond «in_record» [] (10 ∷ [])) (now (out .exit)) r ⌝ }
+    ensures { λ r. ⌜ Writes (now (out .entry)) len (cond «in_record» [] lineFeed) (now (out .exit)) r ⌝ }
 {
     if in_record {
         return len;
@@ -75,7 +76,7 @@ fn write_head(out: &mut [u8], len: usize, kind: u32) -> usize
 }
 
 fn write_tail(out: &mut [u8], len: usize) -> usize
-    ensures { λ r. ⌜ Writes (now (out .entry)) len (42 ∷ 47 ∷ []) (now (out .exit)) r ⌝ }
+    ensures { λ r. ⌜ Writes (now (out .entry)) len starSlash (now (out .exit)) r ⌝ }
 {
     let star = write_byte(out, len, b'*');
     write_byte(out, star, b'/')

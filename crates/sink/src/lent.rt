@@ -42,10 +42,9 @@ pub fn next_is(rows: &[u8], kind: u32) -> bool
     false
 }
 
-// Puts a depth on the stack at `count`, where it has room.
+// Puts a depth on the stack at `count`; a stack that has no such place stays as it is.
 pub fn push_entry(stack: &mut [u32], count: usize, depth: u32)
-    ensures { λ r. ⌜ (count < length (now (stack .entry)) → now (stack .exit) ≡ set (now (stack .entry)) count depth) ⌝ }
-    ensures size { λ r. ⌜ length (now (stack .exit)) ≡ length (now (stack .entry)) ⌝ }
+    ensures { λ r. ⌜ now (stack .exit) ≡ set (now (stack .entry)) count depth ⌝ }
 {
     if count < stack.len() {
         stack[count] = depth;

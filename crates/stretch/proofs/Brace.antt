@@ -10,7 +10,8 @@ use Rattle.rows.specs.Options.{Options}
 use Rattle.rows.specs.Token.{Token}
 use Rattle.push_token.specs.Formatter.{Formatter, setInlineDepth, setJustClosedInline}
 use Rattle.push_token.specs.Act.{state, run}
-use Rattle.push_token.specs.Emit.{space, endedBy, trackFnState}
+use Rattle.report.specs.Bytes.{space}
+use Rattle.push_token.specs.Emit.{endedBy, trackFnState}
 use Rattle.push_token.specs.Arms.{inOneLineBlock, rightBraceArm, leftBraceArm}
 use Rattle.push_token.specs.PushToken.{arm, takeInlineClose, turn}
 use Rattle.stretch.specs.declared.braces.Braces.{Braces}

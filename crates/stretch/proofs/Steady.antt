@@ -14,7 +14,8 @@ use Rattle.rows.specs.Options.{Options}
 use Rattle.rows.specs.Token.{Token}
 use Rattle.push_token.specs.Formatter.{Formatter, setRecordPending}
 use Rattle.push_token.specs.Act.{State, state, run}
-use Rattle.push_token.specs.Emit.{space, spaceAfter, endedBy, trackFnState, tokenGap, trackMinus, pushLexeme}
+use Rattle.report.specs.Bytes.{space}
+use Rattle.push_token.specs.Emit.{spaceAfter, endedBy, trackFnState, tokenGap, trackMinus, pushLexeme}
 use Rattle.push_token.specs.Arms.{atRecordFields, inBrokenList, commaArm, otherArm}
 use Rattle.push_token.specs.PushToken.{arm, takeInlineClose, turn}
 use Rattle.stretch.specs.Stretch.{isSteady, Steady, behind}

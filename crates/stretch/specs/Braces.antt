@@ -12,7 +12,7 @@ use Rattle.rows.specs.Options.{Options}
 use Rattle.rows.specs.Token.{tokensOf}
 use Rattle.push_token.specs.Formatter.{Formatter, setPrev, setInlineDepth, setJustClosedInline, setInlineClose, setReturned}
 use Rattle.push_token.specs.Act.{state}
-use Rattle.push_token.specs.Emit.{space}
+use Rattle.report.specs.Bytes.{space}
 use Rattle.push_token.specs.Layout.{finished, layFrom}
 use Rattle.stretch.specs.declared.braces.Braces.{Braces}
 

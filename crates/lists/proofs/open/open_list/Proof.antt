@@ -47,7 +47,7 @@ same-length-2 c = search needs
 
 returns : tie.Need-returns
 unfolding run said
-returns c = λ few. let room : c .before .before .before .before .before .before .before .before .before .before .before .before .before .before .before .before .before .before .before .args .f .«break_count» < length (c .before .before .before .before .before .before .before .before .before .before .before .before .before .before .before .before .before .before .before .args .stack .now) = let z = c .before .before .before .before .before .before .before .before .before .before .before .before .before .before .before .before .before .before .before .pre .1 .0 .size in omega arith in does refl (sym (rw (c .before .before .before .push-entry .ensures .0 room, top-pushed (c .before .before .before .before .before .before .before .before .before .before .before .before .before .before .before .before .before .before .before .args .f .«break_count») (c .before .before .before .before .before .before .before .before .before .before .before .before .before .before .before .before .before .before .before .args .stack .now) _ room))) refl (rw append-nil (andThen (gapped (optionsOf (c .before .before .before .before .before .before .before .before .before .before .before .before .before .before .before .before .before .before .before .args .f .options)) (c .before .before .before .before .before .before .before .before .before .before .before .before .before .before .before .before .before .before .before .args .token .kind) (formatterOf (c .before .before .before .before .before .before .before .before .before .before .before .before .before .before .before .before .before .before .before .args .f) []) _ (c .before .before .before .before .before .before .before .before .before .before .before .before .before .before .before .gap-before .ensures) (c .before .before .before .before .before .before .before .before .before .before .before .before .before .emit-token-text .ensures)) (c .before .before .before .before .before .before .before .before .before .write-byte .ensures)))
+returns c = λ few. let room : c .before .before .before .before .before .before .before .before .before .before .before .before .before .before .before .before .before .before .before .args .f .«break_count» < length (c .before .before .before .before .before .before .before .before .before .before .before .before .before .before .before .before .before .before .before .args .stack .now) = let z = c .before .before .before .before .before .before .before .before .before .before .before .before .before .before .before .before .before .before .before .pre .1 .0 .size in omega arith in does refl (sym (rw (c .before .before .before .push-entry .ensures, top-pushed (c .before .before .before .before .before .before .before .before .before .before .before .before .before .before .before .before .before .before .before .args .f .«break_count») (c .before .before .before .before .before .before .before .before .before .before .before .before .before .before .before .before .before .before .before .args .stack .now) _ room))) refl (rw append-nil (andThen (gapped (optionsOf (c .before .before .before .before .before .before .before .before .before .before .before .before .before .before .before .before .before .before .before .args .f .options)) (c .before .before .before .before .before .before .before .before .before .before .before .before .before .before .before .before .before .before .before .args .token .kind) (formatterOf (c .before .before .before .before .before .before .before .before .before .before .before .before .before .before .before .before .before .before .before .args .f) []) _ (c .before .before .before .before .before .before .before .before .before .before .before .before .before .before .before .gap-before .ensures) (c .before .before .before .before .before .before .before .before .before .before .before .before .before .emit-token-text .ensures)) (c .before .before .before .before .before .before .before .before .before .write-byte .ensures)))
 
 pub open-list-spec : {M : Type 1} → statement M
 open-list-spec =

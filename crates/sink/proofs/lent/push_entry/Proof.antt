@@ -1,6 +1,6 @@
 -- `sink::lent::push_entry` meets its contract. Assumes nothing.
-use mathlib.Core.Path.{refl}
-use native.Mathlib.Omega.{arith}
+use mathlib.Core.Path.{sym}
+use lib.Seq.{set-out}
 use borrow.Author.Needs.{needs}
 use Rattle.sink.proofs.lent.push_entry.Statement.{statement}
 use Rattle.sink.proofs.lent.push_entry.Tie as tie
@@ -18,7 +18,7 @@ returns : tie.Need-returns
 returns c = search needs
 
 returns-2 : tie.Need-returns-2
-returns-2 c = (λ h. let m = c .if1 .left in absurd (omega arith), refl)
+returns-2 c = sym (set-out _ _ _ (c .if1 .left))
 
 pub push-entry-spec : {M : Type 1} → statement M
 push-entry-spec = tie.close (tie.spec mul-stack slice-write-stack same-length returns returns-2)
