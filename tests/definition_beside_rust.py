@@ -99,6 +99,11 @@ def lay(lines, *words):
     return out.split("\n")[:-1]
 
 
+def rust(lists):
+    """The texts of format.rs."""
+    return [bytes.fromhex(text) for text in lay(line(options, tokens) for options, tokens in lists)]
+
+
 def antt_bytes(w):
     return "(" + "".join("%d ∷ " % b for b in w) + "[])"
 

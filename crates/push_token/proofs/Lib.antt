@@ -1,3 +1,4 @@
+pub mod Setters
 pub mod PlainScan
 pub mod After
 pub mod Beside

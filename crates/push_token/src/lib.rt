@@ -1,1 +1,2 @@
-// The walk of format.rs, as a definition. Its code is the crate `format`.
+// The layout of format.rs as a definition (specs/), demand 3 and the stated cases (proofs/). Its code is in the crates `plain`, `walk` and
+// those below `walk`; `format_tokens` is the call.

@@ -7,14 +7,18 @@ use Prim.Native.Nat.{ℕ}
 use Rattle.rows.specs.Token.{Token, Trivia}
 use Rattle.lookahead.specs.Measure.{isEmpty}
 use Rattle.push_token.specs.Formatter.{setTooDeep}
-use Rattle.push_token.specs.Act.{update}
+use Rattle.push_token.specs.Act.{Act, update, _⨾_}
 use Rattle.push_token.specs.Emit.{trackFnState, leadingTrivia}
 use Rattle.push_token.specs.PushToken.{takeInlineClose, overflows, arm, pushToken}
 use Rattle.fields.specs.Pen.{Pen, opts, formatterOf}
 use Rattle.fields.specs.Does.{Does}
 use Rattle.fields.specs.Due.{due, Leads}
 use Rattle.fields.proofs.Does.{seq, yes, no}
-use Rattle.walk.specs.Walk.{trailToken, endToken}
+use Rattle.walk.specs.Walk.{trailToken}
+
+-- all behind an arm
+abbrev pub endToken : ℕ → List Trivia → Act
+endToken k trailing = trailToken trailing ⨾ update (trackFnState k)
 
 module _ (i : ℕ) (t : Token) (ts : List Token) {lead : List Trivia} {bare : Bool} {p q r : Pen} (leads : t .leading ≡ lead) (is-bare : bare ≡ isEmpty lead) (led : Does (λ o. leadingTrivia o lead) p q) (taken : Does (λ o. update (takeInlineClose bare)) q r) where
   led-by : Does (λ o. leadingTrivia o (t .leading)) p q

@@ -14,8 +14,8 @@ use Rattle.rows.specs.Checks.{atStart, badFrom}
 use Rattle.rows.specs.Token.{Token, Trivia, tokensOf}
 use Rattle.lookahead.specs.Scan.{lacks, widthRows}
 use Rattle.push_token.specs.Formatter.{new}
-use Rattle.push_token.specs.Act.{State, Act, update, _⨾_, nothing, if}
-use Rattle.push_token.specs.Emit.{trackFnState, trailingTrivia}
+use Rattle.push_token.specs.Act.{State, Act, nothing, if}
+use Rattle.push_token.specs.Emit.{trailingTrivia}
 use Rattle.push_token.specs.Layout.{Ended, finished, stopped, lay}
 use Rattle.fields.specs.declared.Fields.{Fields}
 use Rattle.fields.specs.declared.Ends.{Ends}
@@ -66,11 +66,7 @@ pub record Trivial (token : TokenAt) (next : ℕ) (rows text : List ℕ) (t : To
 abbrev pub trailToken : List Trivia → Act
 trailToken trailing = if (λ f. f .returned) nothing (trailingTrivia trailing)
 
--- all behind an arm
-abbrev pub endToken : ℕ → List Trivia → Act
-endToken k trailing = trailToken trailing ⨾ update (trackFnState k)
-
--- `Fields::new`, with an empty text and a stack of 64 numbers
+-- a state as `Formatter::new` makes it, with an empty text and a stack of 64 numbers
 pub record Fresh (f : Fields) (stack : List ℕ) : Type 0 where
   pub new : formatterOf f stack ≡ new
   pub empty : f .len ≡ 0
