@@ -83,8 +83,8 @@ up-to-drop k (suc n) (r ∷ rs) h =
     (λ z. let l : upToLast k rs + 1 ≤ suc n = rw z at h in omega arith))
 
 -- from `behind_last` on the rows lack the kind
-pub none-behind : (k : ℕ) (rows : List ℕ) (j : ℕ) → behindLast k rows ≤ 16 * j → lacks k (rowsOf (drop (16 * j) rows)) ≡ true
-none-behind k rows j h = rw (rows-drop j rows) (none-lacks k (drop j (rowsOf rows)) (up-to-drop k j (rowsOf rows) (omega (arith, h))))
+pub none-behind : (k : ℕ) (rows : List ℕ) {r : ℕ} → r ≡ behindLast k rows → (j : ℕ) → r ≤ 16 * j → lacks k (rowsOf (drop (16 * j) rows)) ≡ true
+none-behind k rows e j h = rw (rows-drop j rows) (none-lacks k (drop j (rowsOf rows)) (up-to-drop k j (rowsOf rows) (omega arith)))
 
 -- ---- the loop of `behind_last`
 

@@ -1,5 +1,5 @@
 -- The measures over sizes: rows that lie in a text have the sizes of the tokens that they name there, and the code's loops measure the sizes of the rows. Assumes nothing.
-use mathlib.Core.Bool.{Bool, true, false, _&&_, _||_, Bool·beq, or-false, and-true, and-false, and-comm}
+use mathlib.Core.Bool.{Bool, true, false, _&&_, _||_, Bool·beq, and-true, and-false, and-comm}
 use mathlib.Core.List.{List, [], _∷_}
 use mathlib.Core.Path.{_≡_, refl, sym, ap, _∙_}
 use Prim.Native.Nat.{ℕ, _+_, _-_}

@@ -1,6 +1,6 @@
 -- What `needs_space` (document 01, 'Spaces') and the two measures of rows answer.
 -- Assumes nothing.
-use mathlib.Core.Bool.{Bool, true, false, cond}
+use mathlib.Core.Bool.{Bool, cond}
 use mathlib.Core.List.{List, []}
 use Prim.Native.Nat.{ℕ}
 use lib.Dec.{ltb}

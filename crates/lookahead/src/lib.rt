@@ -11,7 +11,7 @@ use rows::kinds;
 use rows::row_at;
 ghost use mathlib.Core.List.{List};
 ghost use mathlib.Core.Path.{_≡_};
-ghost use Prim.Native.Nat.{ℕ, _*_, _^_, _≤_, _<_};
+ghost use Prim.Native.Nat.{ℕ, _^_, _≤_, _<_};
 ghost use lib.ListN.{length, drop};
 ghost use Rattle.rows.specs.Row.{rowsOf};
 ghost use Rattle.rows.specs.Token.{tokensOf};
@@ -72,7 +72,19 @@ pub fn space_between(prev: u32, curr: u32) -> bool
 pub fn is_value_kind(kind: u32) -> bool
     ensures { λ r. ⌜ r ≡ isValueKind kind ⌝ }
 {
-    sets::member(sets::VALUES, kind)
+    match kind {
+        kinds::IDENTIFIER
+        | kinds::NUMBER_LITERAL
+        | kinds::BYTE_LITERAL
+        | kinds::STRING_LITERAL
+        | kinds::CHARACTER_LITERAL
+        | kinds::FLOAT_LITERAL
+        | kinds::BOOL_LITERAL
+        | kinds::RIGHT_PAREN
+        | kinds::RIGHT_BRACKET
+        | kinds::NULL => true,
+        _ => false,
+    }
 }
 
 // The lookaheads take the part of the rows that starts at the opener, its own leading rows included, and goes to
@@ -445,10 +457,10 @@ fn trails(rows: &[u8], at: usize) -> bool
 fn ends_line(kind: u32) -> bool
     ensures { λ r. ⌜ r ≡ endsLine kind ⌝ }
 {
-    if kind == kinds::NEWLINE {
-        return true;
+    match kind {
+        kinds::NEWLINE | kinds::EOF => true,
+        _ => false,
     }
-    kind == kinds::EOF
 }
 
 fn is_comment(row: Row) -> bool
@@ -457,5 +469,9 @@ fn is_comment(row: Row) -> bool
     if row.what != kinds::LEADING {
         return false;
     }
-    row.kind < kinds::BLANK_LINE
+    let kind = row.kind;
+    match kind {
+        kinds::LINE_COMMENT | kinds::DOC_COMMENT | kinds::BLOCK_COMMENT => true,
+        _ => false,
+    }
 }

@@ -7,7 +7,7 @@ use Prim.Native.Nat.{ℕ, zero, suc}
 use Rattle.rows.specs.Kinds.{Newline, LeftBrace, RightBrace, LeftParen, RightParen, LeftBracket, RightBracket, Comma, Colon, Minus, Else, Fn, Record, Identifier, NumberLiteral, Other}
 use Rattle.rows.specs.Options.{Options, Allman}
 use Rattle.rows.specs.Token.{Token, lineComment}
-use Rattle.lookahead.specs.Measure.{singleLineFrom, sigMeasureFrom, groupMeasureFrom, shouldBreakSig, shouldBreakList, anyComment}
+use Rattle.lookahead.specs.Measure.{singleLineFrom, measureFrom, shouldBreakSig, shouldBreakList, anyComment}
 use Rattle.pieces.specs.Class.{class}
 use Rattle.pieces.specs.Reading.{read}
 use Rattle.push_token.specs.Act.{run}
@@ -130,7 +130,7 @@ pub paper : layAll cases ≡
     laid (82 ∷ 32 ∷ 69 ∷ 32 ∷ 123 ∷ 123 ∷ 125 ∷ []) 0 false ∷
     laid (103 ∷ 40 ∷ 10 ∷ 32 ∷ 32 ∷ 32 ∷ 32 ∷ 97 ∷ 44 ∷ 10 ∷ 32 ∷ 32 ∷ 32 ∷ 32 ∷ 123 ∷ 32 ∷ 98 ∷ 44 ∷ 10 ∷ 32 ∷ 32 ∷ 32 ∷ 32 ∷ 32 ∷ 99 ∷ 32 ∷ 125 ∷ 32 ∷ 125 ∷ 10 ∷ 41 ∷ []) 0 false ∷
     laid (120 ∷ 91 ∷ 10 ∷ 32 ∷ 32 ∷ 32 ∷ 32 ∷ 97 ∷ 44 ∷ 10 ∷ 32 ∷ 32 ∷ 32 ∷ 32 ∷ 98 ∷ 44 ∷ 10 ∷ 10 ∷ 44 ∷ 93 ∷ []) 1 true ∷ []
-unfolding class read anyComment singleLineFrom sigMeasureFrom groupMeasureFrom shouldBreakSig shouldBreakList run leadingTrivia trailingTrivia openBlockMultiline endsWithTwoFeeds newlineArm rightBraceArm emptyRecord leftBraceArm leftParenArm leftBracketArm rightParenArm rightBracketArm commaArm elseArm walkFrom noTrivia hasItsLexeme fixedLexemes readsWhole onePieces operatorsApart digitsUndotted noBraceAfterComma noEmptyRecord plain
+unfolding class read anyComment singleLineFrom measureFrom shouldBreakSig shouldBreakList run leadingTrivia trailingTrivia openBlockMultiline endsWithTwoFeeds newlineArm rightBraceArm emptyRecord leftBraceArm leftParenArm leftBracketArm rightParenArm rightBracketArm commaArm elseArm walkFrom noTrivia hasItsLexeme fixedLexemes readsWhole onePieces operatorsApart digitsUndotted noBraceAfterComma noEmptyRecord plain
 paper = refl
 
 -- ---- four more: the texts are those that the Rust wrote
@@ -172,7 +172,7 @@ pub more : layAll moreCases ≡
     laid (97 ∷ 10 ∷ 123 ∷ 10 ∷ 32 ∷ 32 ∷ 32 ∷ 32 ∷ 98 ∷ 10 ∷ 125 ∷ 10 ∷ 101 ∷ 108 ∷ 115 ∷ 101 ∷ 32 ∷ 123 ∷ 32 ∷ 99 ∷ 32 ∷ 125 ∷ []) 0 true ∷
     laid (120 ∷ 91 ∷ 10 ∷ 32 ∷ 32 ∷ 32 ∷ 32 ∷ 97 ∷ 44 ∷ 10 ∷ 32 ∷ 32 ∷ 32 ∷ 32 ∷ 98 ∷ 44 ∷ 10 ∷ 93 ∷ []) 1 true ∷
     laid (82 ∷ 32 ∷ 69 ∷ 10 ∷ 123 ∷ 10 ∷ 32 ∷ 32 ∷ 32 ∷ 32 ∷ 120 ∷ 58 ∷ 32 ∷ 110 ∷ 44 ∷ 10 ∷ 47 ∷ 47 ∷ 32 ∷ 99 ∷ 32 ∷ 32 ∷ 32 ∷ 32 ∷ 121 ∷ 58 ∷ 32 ∷ 110 ∷ 44 ∷ 10 ∷ 125 ∷ []) 1 false ∷ []
-unfolding class read anyComment singleLineFrom sigMeasureFrom groupMeasureFrom shouldBreakSig shouldBreakList run leadingTrivia trailingTrivia openBlockMultiline endsWithTwoFeeds newlineArm rightBraceArm emptyRecord leftBraceArm leftParenArm leftBracketArm rightParenArm rightBracketArm commaArm elseArm walkFrom noTrivia hasItsLexeme fixedLexemes readsWhole onePieces operatorsApart digitsUndotted noBraceAfterComma noEmptyRecord plain
+unfolding class read anyComment singleLineFrom measureFrom shouldBreakSig shouldBreakList run leadingTrivia trailingTrivia openBlockMultiline endsWithTwoFeeds newlineArm rightBraceArm emptyRecord leftBraceArm leftParenArm leftBracketArm rightParenArm rightBracketArm commaArm elseArm walkFrom noTrivia hasItsLexeme fixedLexemes readsWhole onePieces operatorsApart digitsUndotted noBraceAfterComma noEmptyRecord plain
 more = refl
 
 -- ---- refusal 4: lists, each open in the one before
@@ -183,9 +183,9 @@ nested (suc n) = openBracket ∷ lex-a ∷ comma ∷ nested n
 
 -- the 65th is refused, at its index
 too-deep : walk (options 0 0) (nested 65) .formatter .tooDeep ≡ some 192
-unfolding class read anyComment singleLineFrom sigMeasureFrom groupMeasureFrom shouldBreakSig shouldBreakList run leadingTrivia trailingTrivia openBlockMultiline endsWithTwoFeeds newlineArm rightBraceArm emptyRecord leftBraceArm leftParenArm leftBracketArm rightParenArm rightBracketArm commaArm elseArm walkFrom noTrivia hasItsLexeme fixedLexemes readsWhole onePieces operatorsApart digitsUndotted noBraceAfterComma noEmptyRecord plain
+unfolding class read anyComment singleLineFrom measureFrom shouldBreakSig shouldBreakList run leadingTrivia trailingTrivia openBlockMultiline endsWithTwoFeeds newlineArm rightBraceArm emptyRecord leftBraceArm leftParenArm leftBracketArm rightParenArm rightBracketArm commaArm elseArm walkFrom noTrivia hasItsLexeme fixedLexemes readsWhole onePieces operatorsApart digitsUndotted noBraceAfterComma noEmptyRecord plain
 too-deep = refl
 
 deep-enough : walk (options 0 0) (nested 64) .formatter .tooDeep ≡ none
-unfolding class read anyComment singleLineFrom sigMeasureFrom groupMeasureFrom shouldBreakSig shouldBreakList run leadingTrivia trailingTrivia openBlockMultiline endsWithTwoFeeds newlineArm rightBraceArm emptyRecord leftBraceArm leftParenArm leftBracketArm rightParenArm rightBracketArm commaArm elseArm walkFrom noTrivia hasItsLexeme fixedLexemes readsWhole onePieces operatorsApart digitsUndotted noBraceAfterComma noEmptyRecord plain
+unfolding class read anyComment singleLineFrom measureFrom shouldBreakSig shouldBreakList run leadingTrivia trailingTrivia openBlockMultiline endsWithTwoFeeds newlineArm rightBraceArm emptyRecord leftBraceArm leftParenArm leftBracketArm rightParenArm rightBracketArm commaArm elseArm walkFrom noTrivia hasItsLexeme fixedLexemes readsWhole onePieces operatorsApart digitsUndotted noBraceAfterComma noEmptyRecord plain
 deep-enough = refl
