@@ -79,7 +79,7 @@ start = record { parenDepth = 0; bracketDepth = 0; commas = 0; width = 0; sawTok
 abbrev pub depthAfter : ℕ → ℕ → ℕ → ℕ → ℕ
 depthAfter opener closer k depth = cond (eqb k opener) (depth + 1) (cond (eqb k closer) (depth - 1) depth)
 
--- one turn of both loops: a Comma counts if the test says so, and a token is as wide as its bytes and one more
+-- one turn of both loops: `top` is whether a Comma counts; the width grows by the lexeme's bytes and one more
 abbrev pub counted : Bool → Measure → Sized → Measure
 counted top m t = record {
   parenDepth = depthAfter LeftParen RightParen (t .kind) (m .parenDepth);
@@ -89,12 +89,12 @@ counted top m t = record {
   sawToken = true;
 }
 
--- Both loops: `stops` is where they break, by the depths behind a token and its kind, beside Eof; `top` is whether a Comma counts.
+-- Both loops. They break before a token where `stops` says so, by the depths behind it and its kind, and before Eof; `top` says by the depths before a Comma whether it counts.
 unfoldable pub measureFrom : (Measure → ℕ → Bool) → (Measure → Bool) → Measure → List Sized → Measure
 measureFrom stops top m [] = m
 measureFrom stops top m (t ∷ ts) = let n = counted (top m) m t in cond (stops n (t .kind) || eqb (t .kind) Eof) m (measureFrom stops top n ts)
 
--- the `)` that matches
+-- it breaks at the `)` that matches
 abbrev pub sigStops : Measure → ℕ → Bool
 sigStops m k = eqb k RightParen && eqb (m .parenDepth) 0
 
@@ -104,7 +104,7 @@ sigMeasure ts = measureFrom sigStops (λ m. eqb (m .parenDepth) 1 && eqb (m .bra
 abbrev pub params : Measure → ℕ
 params m = cond (m .sawToken) (m .commas + 1) 0
 
--- the closer that matches
+-- it breaks at the closer that matches
 abbrev pub groupStops : Bool → Measure → ℕ → Bool
 groupStops isParen m k = ((eqb k RightParen && isParen) || (eqb k RightBracket && not isParen)) && (eqb (m .parenDepth) 0 && eqb (m .bracketDepth) 0)
 

@@ -1,4 +1,4 @@
--- The lookaheads over rows: what the code's loops compute. They say the same as those over tokens (proofs/Tokens.antt).
+-- What the code computes over rows. The measures here say the same as those of Measure.antt (proofs/Sizes.antt).
 -- Assumes nothing.
 use mathlib.Core.Bool.{Bool, true, false, cond, not, _&&_, _||_}
 use mathlib.Core.List.{List, [], _∷_}

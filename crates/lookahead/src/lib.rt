@@ -88,8 +88,8 @@ pub fn is_value_kind(kind: u32) -> bool
 }
 
 // The lookaheads take the part of the rows that starts at the opener, its own leading rows included, and goes to
-// the end. The first four go by the rows' own numbers; the tokens that the rows name in a text in which they lie
-// have the same sizes (proofs/Sizes.antt: sizes-in-bounds).
+// the end. The first four go by the rows' own numbers. Where the rows lie in a text, the tokens that they name
+// there have these sizes (proofs/Sizes.antt: sizes-in-bounds).
 
 // Whether a signature breaks: more than 3 params, or wider than `fn_sig_width`.
 pub fn should_break_sig(rows: &[u8], fn_sig_width: u32) -> bool
@@ -211,7 +211,8 @@ pub fn next_has_comment(rows: &[u8]) -> bool
     false
 }
 
-// Behind the last row of the kind, or 0; no token of the kind stands from there on (proofs/Lacks.antt: none-behind).
+// Behind the last row of the kind, or 0. No token of the kind stands from there on (proofs/Lacks.antt:
+// none-behind).
 pub fn behind_last(rows: &[u8], kind: u32) -> usize
     ensures { λ r. ⌜ r ≡ behindLast kind (now (rows .entry)) ⌝ }
 {
