@@ -10,7 +10,9 @@ use borrow.Author.Tests.{eqb-true, eqb-false, ne-eqb}
 use Rattle.report.proofs.Logic.{split, and-left, and-right}
 use Rattle.rows.specs.Kinds.{Leading, TokenRow, LeftBrace, RightBrace, Comma}
 use Rattle.rows.specs.Row.{Row}
-use Rattle.lookahead.specs.Scan.{depthAfter, leastRows, isTop, endsGroup, tokenKind, commaAhead, trails, endsLine, closesBlock, singleLineRows}
+use Rattle.lookahead.specs.Measure.{depthAfter}
+use Rattle.lookahead.specs.Scan.{leastRows, isTop, endsGroup, tokenKind, commaAhead, trails, endsLine}
+use Rattle.lookahead.proofs.Tokens.{closesBlock, singleLineRows}
 
 -- ---- a token closes one at most
 

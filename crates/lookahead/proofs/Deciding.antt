@@ -12,8 +12,8 @@ use Rattle.rows.specs.Kinds.{TokenRow, LeftParen, RightParen, LeftBracket, Righ
 use Rattle.rows.specs.Row.{Row, rowsOf}
 use Rattle.lookahead.specs.declared.measure.Span.{Span}
 use Rattle.lookahead.specs.declared.measure.Span.the-variants.{Signature, Paren, Bracket}
-use Rattle.lookahead.specs.Measure.{Measure, start, more}
-use Rattle.lookahead.specs.Scan.{depthAfter, isTop, endsGroup, stopsAt, topIn, counts, measureRows, measureOf, commaAhead, breaks, breaksAt}
+use Rattle.lookahead.specs.Measure.{Measure, start, depthAfter}
+use Rattle.lookahead.specs.Scan.{more, isTop, endsGroup, stopsAt, topIn, counts, measureRows, measureOf, commaAhead, breaks, breaksAt}
 use Rattle.lookahead.proofs.Steps.{ends-above, depth-after-none, more-least}
 use Rattle.lookahead.specs.declared.measure.Measure
 

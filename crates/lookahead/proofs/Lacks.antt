@@ -1,20 +1,20 @@
--- Rows without a token of a kind: no list breaks without a comma, no block closes without a `}`; the loop of `behind_last`. Assumes nothing.
+-- Rows without a token of a kind: no list breaks without a comma, no block closes without a `}`; `behind_last` finds where they begin. Assumes nothing.
 use mathlib.Core.Bool.{Bool, true, false, not, _&&_, _||_, and-false}
 use mathlib.Core.List.{List, [], _∷_}
-use mathlib.Core.Path.{_≡_, refl, ap, _∙_}
-use Prim.Native.Nat.{ℕ, _+_, _-_, _*_, _%_, _≤_, _<_}
+use mathlib.Core.Path.{_≡_, refl, sym, ap, _∙_}
+use Prim.Native.Nat.{ℕ, zero, suc, _+_, _-_, _*_, _/_, _%_, _≤_, _<_}
 use native.Mathlib.Omega.{arith}
-use lib.Dec.{eqb, ltb}
+use lib.Dec.{eqb}
 use lib.ListN.{length, drop}
-use borrow.Author.Tests.{ne-eqb, not-true, ltb-true, ltb-false}
+use borrow.Author.Tests.{eqb-true, eq-eqb, ne-eqb, not-true}
 use Rattle.report.proofs.Logic.{split, and-left, and-right}
-use Rattle.rows.specs.Kinds.{Leading, TokenRow, RightBrace, Comma}
+use Rattle.rows.specs.Kinds.{Leading, TokenRow, Eof, RightBrace, Comma}
 use Rattle.rows.specs.Row.{Row, rowAt, rowsOf}
 use Rattle.rows.specs.Token.{Trivia, tokenOf, tokensFrom, tokensOf}
-use Rattle.rows.proofs.RowList.{part-cons, part-none}
-use Rattle.lookahead.specs.Measure.{Measure, start, opensParen, groupStops, groupCounts, groupMeasureFrom, shouldBreakList, blockIsSingleLine}
-use Rattle.lookahead.specs.Scan.{lacks, trails, endsLine, singleLineRows}
-use Rattle.lookahead.proofs.Tokens.{group-counts, single-rows}
+use Rattle.rows.proofs.RowList.{part-cons, part-none, rows-drop}
+use Rattle.lookahead.specs.Measure.{Measure, start, sized, sizes, counted, measureFrom, opensParen, groupStops, topLevel, shouldBreakList, blockIsSingleLine}
+use Rattle.lookahead.specs.Scan.{upToLast, behindLast, lacks, trails, endsLine}
+use Rattle.lookahead.proofs.Tokens.{singleLineRows, single-rows}
 
 -- ---- the first row and the rest
 
@@ -27,25 +27,21 @@ module _ (k : ℕ) (r : Row) (rs : List Row) (e : lacks k (r ∷ rs) ≡ true) w
   unfolding lacks
   rest-lacks = and-right (not (eqb (r .what) TokenRow && eqb (r .kind) k)) (lacks k rs) e
 
-lacks-more : (k : ℕ) (r : Row) (rs : List Row) → (r .kind ≡ k → ⊥) → lacks k rs ≡ true → lacks k (r ∷ rs) ≡ true
-unfolding lacks
-lacks-more k r rs n e = rw (ne-eqb (r .kind) k n, and-false (eqb (r .what) TokenRow), e)
-
 -- ---- no comma: no list breaks
 
-commas-stay : (isParen : Bool) (text : List ℕ) (m : Measure) (l : List Trivia) (rs : List Row) → lacks Comma rs ≡ true → groupMeasureFrom isParen m (tokensFrom text l rs) .commas ≡ m .commas
-unfolding tokensFrom groupMeasureFrom
-commas-stay isParen text m l [] e = refl
-commas-stay isParen text m l (r ∷ rs) e =
+commas-stay : (stops : Measure → ℕ → Bool) (top : Measure → Bool) (text : List ℕ) (m : Measure) (l : List Trivia) (rs : List Row) → lacks Comma rs ≡ true → measureFrom stops top m (sizes (tokensFrom text l rs)) .commas ≡ m .commas
+unfolding tokensFrom measureFrom
+commas-stay stops top text m l [] e = refl
+commas-stay stops top text m l (r ∷ rs) e =
     split (eqb (r .what) TokenRow)
-    (λ t. rw t (split (groupStops isParen m (tokenOf text l r rs)) (λ s. rw s)
-    (λ s. rw s (commas-stay isParen text (groupCounts isParen m (tokenOf text l r rs)) _ rs (rest-lacks Comma r rs e)
-    ∙ rw (group-counts isParen m (tokenOf text l r rs), first-lacks Comma r rs e t)))))
-    (λ t. rw t (commas-stay isParen text m _ rs (rest-lacks Comma r rs e)))
+    (λ t. let n = counted (top m) m (sized (tokenOf text l r rs)) in
+    rw t (split (stops n (r .kind) || eqb (r .kind) Eof) (λ s. rw s)
+    (λ s. rw s (commas-stay stops top text n _ rs (rest-lacks Comma r rs e) ∙ rw (first-lacks Comma r rs e t)))))
+    (λ t. rw t (commas-stay stops top text m _ rs (rest-lacks Comma r rs e)))
 
 pub no-comma : (w : ℕ) (rows text : List ℕ) → lacks Comma (rowsOf rows) ≡ true → shouldBreakList w (tokensOf rows text) ≡ false
 unfolding shouldBreakList tokensOf
-no-comma w rows text e = rw (commas-stay (opensParen (tokensOf rows text)) text start [] (rowsOf rows) e)
+no-comma w rows text e = let p = opensParen (sizes (tokensOf rows text)) in rw (commas-stay (groupStops p) (topLevel p) text start [] (rowsOf rows) e)
 
 -- ---- no `}`: no block closes
 
@@ -63,30 +59,73 @@ pub no-brace : (rows text : List ℕ) → lacks RightBrace (rowsOf rows) ≡ tru
 unfolding tokensOf
 no-brace rows text e = single-rows text 0 (rowsOf rows) ∙ never-closes 0 (rowsOf rows) e
 
+-- ---- behind the last row of a kind
+
+-- no row of the kind
+none-lacks : (k : ℕ) (rs : List Row) → upToLast k rs ≡ 0 → lacks k rs ≡ true
+unfolding upToLast lacks
+none-lacks k [] e = refl
+none-lacks k (r ∷ rs) e =
+    split (eqb (upToLast k rs) 0)
+    (λ z. split (eqb (r .kind) k)
+    (λ y. absurd (let f : 1 ≡ 0 = rw (z, y) at e in omega arith))
+    (λ y. rw (y, and-false (eqb (r .what) TokenRow), none-lacks k rs (eqb-true (upToLast k rs) 0 z))))
+    (λ z. absurd (let f : upToLast k rs + 1 ≡ 0 = rw z at e in omega arith))
+
+up-to-drop : (k n : ℕ) (rs : List Row) → upToLast k rs ≤ n → upToLast k (drop n rs) ≡ 0
+unfolding upToLast
+up-to-drop k zero rs h = omega arith
+up-to-drop k (suc n) [] h = refl
+up-to-drop k (suc n) (r ∷ rs) h =
+    up-to-drop k n rs
+    (split (eqb (upToLast k rs) 0)
+    (λ z. let e = eqb-true (upToLast k rs) 0 z in omega arith)
+    (λ z. let l : upToLast k rs + 1 ≤ suc n = rw z at h in omega arith))
+
+-- from `behind_last` on the rows lack the kind
+pub none-behind : (k : ℕ) (rows : List ℕ) {r : ℕ} → r ≡ behindLast k rows → (j : ℕ) → r ≤ 16 * j → lacks k (rowsOf (drop (16 * j) rows)) ≡ true
+none-behind k rows e j h = rw (rows-drop j rows) (none-lacks k (drop j (rowsOf rows)) (up-to-drop k j (rowsOf rows) (omega arith)))
+
 -- ---- the loop of `behind_last`
 
--- whole rows lie before `at`, and no token of the kind k from there on
+-- whole rows lie before `at`, and none of the kind k from there on
 pub record Clear (rows : List ℕ) (k at : ℕ) : Type 0 where
   pub within : at ≤ length rows
   pub whole : at % 16 ≡ 0
-  pub clear : (j : ℕ) → at ≤ 16 * j → lacks k (rowsOf (drop (16 * j) rows)) ≡ true
+  pub clear : upToLast k (rowsOf (drop at rows)) ≡ 0
 
 pub clear-start : (rows : List ℕ) (k : ℕ) → Clear rows k (length rows - length rows % 16)
-unfolding lacks
-clear-start rows k = record { within = omega arith; whole = omega arith; clear = λ j h. rw (part-none rows (16 * j) (omega arith)) }
+unfolding upToLast
+clear-start rows k = record { within = omega arith; whole = omega arith; clear = rw (part-none rows (length rows - length rows % 16) (omega arith)) }
 
-module _ {rows : List ℕ} {k at : ℕ} (σ : Clear rows k at) where
+-- rows before a part that has one of the kind
+up-to-part : (k n : ℕ) (rs : List Row) → 0 < upToLast k (drop n rs) → upToLast k rs ≡ n + upToLast k (drop n rs)
+unfolding upToLast
+up-to-part k zero rs h = omega arith
+up-to-part k (suc n) [] h = absurd (omega (arith, h))
+up-to-part k (suc n) (r ∷ rs) h = let e = up-to-part k n rs h in rw (ne-eqb (upToLast k rs) 0 (λ z. omega (arith, h))) (omega arith)
+
+module _ {rows : List ℕ} {k at : ℕ} (σ : Clear rows k at) {r : Row} (h : 16 ≤ at) (e : r ≡ rowAt rows (at - 16)) where
+  here-at : rowsOf (drop (at - 16) rows) ≡ r ∷ rowsOf (drop at rows)
+  here-at = let n : at - 16 + 16 ≡ at = omega arith in part-cons rows (at - 16) (omega (arith, σ .within)) ∙ rw (n, e)
+
   -- one more row is passed, of another kind
-  pub clear-more : 16 ≤ at → {r : Row} → r ≡ rowAt rows (at - 16) → (r .kind ≡ k → ⊥) → Clear rows k (at - 16)
-  clear-more h {r} e n = record { within = omega (arith, σ .within); whole = omega (arith, σ .whole); clear = λ j l. split (ltb (16 * j) at) (λ b. at-row j l (ltb-true (16 * j) at b)) (λ b. σ .clear j (ltb-false (16 * j) at b)) }
-    where
-      at-row : (j : ℕ) → at - 16 ≤ 16 * j → 16 * j < at → lacks k (rowsOf (drop (16 * j) rows)) ≡ true
-      at-row j l b =
-          let i : at - 16 ≡ 16 * j = omega (arith, σ .whole) in
-          let p : 16 * j + 16 ≡ 16 * (j + 1) = omega arith in
-          ap (lacks k) (part-cons rows (16 * j) (omega (arith, σ .within)))
-          ∙ lacks-more k (rowAt rows (16 * j)) (rowsOf (drop (16 * j + 16) rows)) (λ q. n (ap (λ x. x .kind) e ∙ ap (λ a. rowAt rows a .kind) i ∙ q))
-          (ap (λ a. lacks k (rowsOf (drop a rows))) p ∙ σ .clear (j + 1) (omega arith))
+  pub clear-more : (r .kind ≡ k → ⊥) → Clear rows k (at - 16)
+  unfolding upToLast
+  clear-more n = record { within = omega (arith, σ .within); whole = omega (arith, σ .whole); clear = rw (here-at, σ .clear, ne-eqb (r .kind) k n) }
 
-  pub clear-all : at < 16 → (j : ℕ) → 0 ≤ 16 * j → lacks k (rowsOf (drop (16 * j) rows)) ≡ true
-  clear-all h j l = σ .clear j (omega (arith, σ .whole))
+  -- the last row of the kind
+  pub clear-found : r .kind ≡ k → at ≡ behindLast k rows
+  unfolding upToLast
+  clear-found q =
+      let j = (at - 16) / 16 in
+      let i : 16 * j ≡ at - 16 = omega (arith, σ .whole) in
+      let one : upToLast k (drop j (rowsOf rows)) ≡ 1 = sym (ap (upToLast k) (rows-drop j rows)) ∙ ap (λ n. upToLast k (rowsOf (drop n rows))) i ∙ rw (here-at, σ .clear, eq-eqb (r .kind) k q) in
+      let all = up-to-part k j (rowsOf rows) (omega arith) in
+      omega arith
+
+pub clear-all : {rows : List ℕ} {k at : ℕ} → Clear rows k at → at < 16 → 0 ≡ behindLast k rows
+clear-all {rows} {k} {at} σ h =
+    let z : at ≡ 0 = omega (arith, σ .whole) in
+    let none : upToLast k (rowsOf rows) ≡ 0 = ap (λ n. upToLast k (rowsOf (drop n rows))) (sym z) ∙ σ .clear in
+    omega arith

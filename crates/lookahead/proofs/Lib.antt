@@ -1,6 +1,7 @@
 pub mod Masks
 pub mod Steps
 pub mod Tokens
+pub mod Sizes
 pub mod Rests
 pub mod Measuring
 pub mod Deciding

@@ -11,9 +11,9 @@ use Rattle.report.proofs.Logic.{impossible, and-left, and-right, or-cases, or-l
 use Rattle.rows.specs.Kinds.{Leading, TokenRow, Trailing, Eof, Newline, LeftBrace, RightBrace, LeftParen, Comma}
 use Rattle.rows.specs.Row.{Row, rowAt, rowsOf}
 use Rattle.rows.specs.Token.{tokensOf}
-use Rattle.lookahead.specs.Measure.{nextHasComment, blockIsSingleLine, anyComment}
-use Rattle.lookahead.specs.Scan.{leastRows, tokenKind, GroupKinds, isLast, isTop, endsGroup, commaAhead, isComment, commentAhead, depthAfter, isTrivia, trails, endsLine, closesBlock, singleLineRows, opensParenRows}
-use Rattle.lookahead.proofs.Tokens.{comment-rows, single-rows}
+use Rattle.lookahead.specs.Measure.{nextHasComment, blockIsSingleLine, anyComment, depthAfter, rowSizes, opensParen}
+use Rattle.lookahead.specs.Scan.{leastRows, tokenKind, GroupKinds, isLast, isTop, endsGroup, commaAhead, isComment, isTrivia, trails, endsLine}
+use Rattle.lookahead.proofs.Tokens.{commentAhead, comment-rows, closesBlock, singleLineRows, single-rows}
 use Rattle.lookahead.proofs.Rests.{here, over, rows-left}
 use Rattle.lookahead.proofs.Closing.{comma-deep, block-deep}
 use Rattle.lookahead.proofs.Steps.{ends-eof, ends-other, ends-closer, ends-above, depth-after-none}
@@ -37,22 +37,25 @@ module _ {rows : List ℕ} {answer : Bool} {at : ℕ} (scan : List Row → Bool)
 
 -- ---- `opens_paren`
 
-pub opens-start : (rows : List ℕ) → Ahead rows (opensParenRows (rowsOf rows)) opensParenRows 0
+abbrev pub opens : List Row → Bool
+opens rs = opensParen (rowSizes rs)
+
+pub opens-start : (rows : List ℕ) → Ahead rows (opens (rowsOf rows)) opens 0
 opens-start rows = record { within = omega arith; left = refl }
 
-module _ {rows : List ℕ} {answer : Bool} {at : ℕ} (α : Ahead rows answer opensParenRows at) where
+module _ {rows : List ℕ} {answer : Bool} {at : ℕ} (α : Ahead rows answer opens at) where
   module _ {r : Row} (h : 16 ≤ length rows - at) (e : r ≡ rowAt rows at) where
     pub opens-first : r .what ≡ TokenRow → eqb (r .kind) LeftParen ≡ answer
-    unfolding opensParenRows
-    opens-first t = sym (at-row opensParenRows α h e ∙ rw (eq-eqb (r .what) TokenRow t))
+    unfolding rowSizes
+    opens-first t = sym (at-row opens α h e ∙ rw (eq-eqb (r .what) TokenRow t))
 
-    pub opens-more : (r .what ≡ TokenRow → ⊥) → Ahead rows answer opensParenRows (at + 16)
-    unfolding opensParenRows
-    opens-more n = behind-row opensParenRows α h e opensParenRows (λ rs. rw (ne-eqb (r .what) TokenRow n))
+    pub opens-more : (r .what ≡ TokenRow → ⊥) → Ahead rows answer opens (at + 16)
+    unfolding rowSizes
+    opens-more n = behind-row opens α h e opens (λ rs. rw (ne-eqb (r .what) TokenRow n))
 
   pub opens-none : length rows - at < 16 → false ≡ answer
-  unfolding opensParenRows
-  opens-none h = no-row opensParenRows α refl h
+  unfolding rowSizes
+  opens-none h = no-row opens α refl h
 
 -- ---- `comma_ahead`
 

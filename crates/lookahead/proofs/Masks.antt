@@ -1,33 +1,33 @@
--- The masks in the code are the sets of kinds of format.rs: each by one test, computed at every kind below 64. Assumes nothing.
-use mathlib.Core.Bool.{Bool, true, false, not, _&&_, Bool·beq, or-true, or-false}
+-- The masks and the ranges in the code are the sets of kinds of format.rs: each by one test, computed at every kind below a bound. Assumes nothing.
+use mathlib.Core.Bool.{Bool, true, false, not, _&&_, _||_, Bool·beq, or-true, or-false}
 use mathlib.Core.List.{List, [], _∷_}
 use mathlib.Core.Path.{_≡_, refl, sym, _∙_}
-use Prim.Native.Nat.{ℕ, _≤_}
+use Prim.Native.Nat.{ℕ, _≤_, _<_}
 use native.Mathlib.Omega.{arith}
-use lib.Dec.{eqb, ltb}
-use borrow.Author.Tests.{ltb-true, ltb-false, ne-eqb}
+use lib.Dec.{eqb, leb, ltb}
+use borrow.Author.Tests.{ltb-true, ltb-false, le-leb, lt-leb, ne-eqb}
 use Rattle.report.proofs.Logic.{and-left, and-right, split}
 use Rattle.report.proofs.Below.{allBelow, agree-below}
 use Rattle.rows.specs.Kinds.{LeftBrace, RightBrace, LeftParen, RightParen, LeftBracket, RightBracket, Comma, Colon, Semicolon, Question, Dot, DotDot, ColonColon, Hash, Bang, BangHash, Identifier, NumberLiteral, ByteLiteral, StringLiteral, CharacterLiteral, FloatLiteral, BoolLiteral, Null, Array, Map, Set, Result, oneOf}
 use Rattle.lookahead.specs.Sets.{member}
 use Rattle.lookahead.specs.Space.{noSpaceAfter, noSpaceBefore, needsSpace, isValueKind}
 
--- every kind of the list is below 64
-abbrev small : List ℕ → Bool
-small [] = true
-small (j ∷ js) = ltb j 64 && small js
+-- every kind of the list is below n
+abbrev small : ℕ → List ℕ → Bool
+small n [] = true
+small n (j ∷ js) = ltb j n && small n js
 
-none-high : (js : List ℕ) (k : ℕ) → small js ≡ true → 64 ≤ k → oneOf js k ≡ false
-none-high [] k e h = refl
-none-high (j ∷ js) k e h =
-    let l = ltb-true j 64 (and-left (ltb j 64) (small js) e) in
-    rw (ne-eqb k j (λ q. omega arith)) (none-high js k (and-right (ltb j 64) (small js) e) h)
+none-high : (n : ℕ) (js : List ℕ) (k : ℕ) → small n js ≡ true → n ≤ k → oneOf js k ≡ false
+none-high n [] k e h = refl
+none-high n (j ∷ js) k e h =
+    let l = ltb-true j n (and-left (ltb j n) (small n js) e) in
+    rw (ne-eqb k j (λ q. omega arith)) (none-high n js k (and-right (ltb j n) (small n js) e) h)
 
 -- a mask is a list of kinds
-mask-is : (mask : ℕ) (js : List ℕ) → small js ≡ true → allBelow 64 (λ k. Bool·beq (member mask k) (oneOf js k)) ≡ true → (k : ℕ) → member mask k ≡ oneOf js k
+mask-is : (mask : ℕ) (js : List ℕ) → small 64 js ≡ true → allBelow 64 (λ k. Bool·beq (member mask k) (oneOf js k)) ≡ true → (k : ℕ) → member mask k ≡ oneOf js k
 mask-is mask js s a k =
     split (ltb k 64) (λ e. agree-below 64 (member mask) (oneOf js) a k (ltb-true k 64 e))
-    (λ e. rw e (sym (none-high js k s (ltb-false k 64 e))))
+    (λ e. rw e (sym (none-high 64 js k s (ltb-false k 64 e))))
 
 pub after-mask : (k : ℕ) → member 0x3_f050 k ≡ noSpaceAfter k
 after-mask = mask-is 0x3_f050 (LeftParen ∷ LeftBracket ∷ Dot ∷ DotDot ∷ ColonColon ∷ Hash ∷ Bang ∷ BangHash ∷ []) refl refl
@@ -47,9 +47,6 @@ called-mask = mask-is 0x40_00a0 called refl refl
 
 pub indexed-mask : (k : ℕ) → member 0x3_c040_00a0 k ≡ oneOf indexed k
 indexed-mask = mask-is 0x3_c040_00a0 indexed refl refl
-
-pub value-mask : (k : ℕ) → member 0x3fc0_00a0 k ≡ isValueKind k
-value-mask = mask-is 0x3fc0_00a0 (Identifier ∷ NumberLiteral ∷ ByteLiteral ∷ StringLiteral ∷ CharacterLiteral ∷ FloatLiteral ∷ BoolLiteral ∷ RightParen ∷ RightBracket ∷ Null ∷ []) refl refl
 
 -- ---- `space_between`, by the tests that its code makes
 
@@ -75,3 +72,21 @@ module _ {r : Bool} (p k : ℕ) (e : r ≡ member 0x3_f050 p) where
 
     pub before-other : {s : Bool} → s ≡ member 0x7fa0 k → s ≡ false → (k ≡ RightBrace → ⊥) → (k ≡ LeftParen → ⊥) → (k ≡ LeftBracket → ⊥) → true ≡ needsSpace p k
     before-other f g x y z = rw (tight h, sym (before-mask k) ∙ sym f ∙ g, ne-eqb k RightBrace x, ne-eqb k LeftParen y, ne-eqb k LeftBracket z)
+
+-- ---- `is_value_kind`: `)`, `]` and the kinds from Identifier to Null
+
+abbrev values : List ℕ
+values = Identifier ∷ NumberLiteral ∷ ByteLiteral ∷ StringLiteral ∷ CharacterLiteral ∷ FloatLiteral ∷ BoolLiteral ∷ RightParen ∷ RightBracket ∷ Null ∷ []
+
+module _ (k : ℕ) where
+  value-below : k ≤ Null → oneOf (RightParen ∷ RightBracket ∷ []) k || leb Identifier k ≡ isValueKind k
+  value-below h = agree-below 30 (λ j. oneOf (RightParen ∷ RightBracket ∷ []) j || leb Identifier j) isValueKind refl k (omega arith)
+
+  pub value-high : Null < k → false ≡ isValueKind k
+  value-high h = sym (none-high 30 values k refl (omega arith))
+
+  pub value-literal : Identifier ≤ k → k ≤ Null → true ≡ isValueKind k
+  value-literal h l = rw (le-leb Identifier k h, or-true) at (value-below l)
+
+  pub value-none : k < Identifier → (k ≡ RightParen → ⊥) → (k ≡ RightBracket → ⊥) → false ≡ isValueKind k
+  value-none h n m = sym (rw (ne-eqb k RightParen n, ne-eqb k RightBracket m, lt-leb Identifier k h)) ∙ value-below (omega arith)

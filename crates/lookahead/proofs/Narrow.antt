@@ -14,9 +14,9 @@ use Rattle.rows.specs.Bounds.{InBounds}
 use Rattle.rows.specs.Token.{tokensOf}
 use Rattle.rows.proofs.RowList.{part-cons, part-none}
 use Rattle.lookahead.specs.declared.measure.Span.{Span}
-use Rattle.lookahead.specs.Measure.{Measure, start, opensParen, shouldBreakList}
+use Rattle.lookahead.specs.Measure.{Measure, start, rowSizes, opensParen, shouldBreakList}
 use Rattle.lookahead.specs.Scan.{groupOf, stopsAt, counts, measureRows, widthRows}
-use Rattle.lookahead.proofs.Tokens.{group-rows}
+use Rattle.lookahead.proofs.Sizes.{sizes-in-bounds, group-is}
 use Rattle.lookahead.proofs.Rests.{here, over}
 
 -- ---- no list is wider than all tokens
@@ -31,12 +31,12 @@ measure-most span m (r ∷ rs) =
     (λ t. rw t (measure-most span m rs))
 
 pub narrow : (w : ℕ) (rows text : List ℕ) → InBounds text (rowsOf rows) → widthRows (rowsOf rows) ≤ w → shouldBreakList w (tokensOf rows text) ≡ false
-unfolding shouldBreakList tokensOf
+unfolding shouldBreakList
 narrow w rows text β h =
-    let isParen = opensParen (tokensOf rows text) in
-    let m = measureRows (groupOf isParen) start (rowsOf rows) in
-    let l = measure-most (groupOf isParen) start (rowsOf rows) in
-    rw (group-rows isParen text start [] (rowsOf rows) β, le-ltb w (m .width) (omega arith)) (and-false (ltb 0 (m .commas)))
+    let span = groupOf (opensParen (rowSizes (rowsOf rows))) in
+    let m = measureRows span start (rowsOf rows) in
+    let l = measure-most span start (rowsOf rows) in
+    rw (← sizes-in-bounds rows text β, group-is (rowsOf rows), le-ltb w (m .width) (omega arith)) (and-false (ltb 0 (m .commas)))
 
 -- ---- a part of the rows is no wider than the whole
 

@@ -1,22 +1,22 @@
--- What the measures and decisions over rows say of the tokens that the rows name. Assumes nothing.
+-- What the measures and decisions over rows say of the sizes of the rows. Assumes nothing.
 use mathlib.Core.Bool.{Bool, true, false, _&&_, _||_, and-true}
 use mathlib.Core.List.{List, [], _∷_}
 use mathlib.Core.Path.{_≡_, refl, sym, ap, _∙_}
-use Prim.Native.Nat.{ℕ, _+_, _-_}
+use Prim.Native.Nat.{ℕ, _+_, _-_, _≤_, _<_}
 use native.Mathlib.Omega.{arith}
 use lib.Dec.{eqb, ltb}
+use lib.ListN.{length}
 use borrow.Author.Tests.{lt-ltb, le-ltb, ltb-true, ltb-false}
 use Rattle.report.proofs.Logic.{split}
 use Rattle.rows.specs.Kinds.{TokenRow}
 use Rattle.rows.specs.Row.{Row, rowsOf}
-use Rattle.rows.specs.Token.{tokensOf}
-use Rattle.rows.specs.Bounds.{InBounds}
 use Rattle.lookahead.specs.declared.measure.Span.{Span}
 use Rattle.lookahead.specs.declared.measure.Span.the-variants.{Signature}
-use Rattle.lookahead.specs.Measure.{Measure, start, params, sigMeasure, groupMeasure, groupMeasureFrom, shouldBreakSig, shouldBreakList}
-use Rattle.lookahead.specs.Scan.{stopsAt, counts, measureRows, measureOf, breaks, breaksAt, groupOf, opensParenRows}
+use Rattle.lookahead.specs.Answer.{mostBytes, measured, sigAnswer, groupAnswer}
+use Rattle.lookahead.specs.Measure.{Measure, start, rowSizes, opensParen, params, measureFrom, sigMeasure, groupMeasure, sigBreaks, listBreaks}
+use Rattle.lookahead.specs.Scan.{stopsAt, counts, measureRows, measureOf, breaks, breaksAt, groupOf}
 use Rattle.lookahead.proofs.Steps.{positive}
-use Rattle.lookahead.proofs.Tokens.{sig-rows, group-rows, opens-rows}
+use Rattle.lookahead.proofs.Sizes.{sig-is, group-is}
 use Rattle.lookahead.specs.declared.measure.Measure
 
 -- ---- a token was seen exactly where there is a width
@@ -51,35 +51,38 @@ sig-breaks limit m σ =
 
 -- ---- the decisions
 
-module _ (rows text : List ℕ) (β : InBounds text (rowsOf rows)) where
-  sig-is : sigMeasure (tokensOf rows text) ≡ measureRows Signature start (rowsOf rows)
-  unfolding tokensOf
-  sig-is = sig-rows text start [] (rowsOf rows) β
-
-  group-is : groupMeasure (tokensOf rows text) ≡ measureRows (groupOf (opensParenRows (rowsOf rows))) start (rowsOf rows)
-  unfolding tokensOf
-  group-is = ap (λ p. groupMeasureFrom p start (tokensOf rows text)) (opens-rows text [] (rowsOf rows)) ∙ group-rows (opensParenRows (rowsOf rows)) text start [] (rowsOf rows) β
-
-  pub sig-said : {x : Bool} (limit : ℕ) → x ≡ breaksAt Signature limit (measureRows Signature start (rowsOf rows)) → x ≡ shouldBreakSig limit (tokensOf rows text)
-  unfolding shouldBreakSig
-  sig-said limit e = e ∙ sym (rw sig-is (sig-breaks limit (measureRows Signature start (rowsOf rows)) (seen-rows Signature start (rowsOf rows) (record { saw = refl; none = λ z. refl }))))
+module _ (rows : List ℕ) where
+  pub sig-said : {x : Bool} (limit : ℕ) → x ≡ breaksAt Signature limit (measureRows Signature start (rowsOf rows)) → x ≡ sigBreaks limit (sigMeasure (rowSizes (rowsOf rows)))
+  sig-said limit e = e ∙ sym (rw (sig-is (rowsOf rows)) (sig-breaks limit (measureRows Signature start (rowsOf rows)) (seen-rows Signature start (rowsOf rows) (record { saw = refl; none = λ z. refl }))))
 
   breaks-group : (b : Bool) (limit c w : ℕ) → breaks (groupOf b) limit c w ≡ ltb 0 c && ltb limit w
   breaks-group true limit c w = refl
   breaks-group false limit c w = refl
 
-  pub list-said : {x : Bool} (limit : ℕ) → x ≡ breaksAt (groupOf (opensParenRows (rowsOf rows))) limit (measureRows (groupOf (opensParenRows (rowsOf rows))) start (rowsOf rows)) → x ≡ shouldBreakList limit (tokensOf rows text)
-  unfolding shouldBreakList
-  list-said limit e = e ∙ breaks-group (opensParenRows (rowsOf rows)) limit _ _ ∙ sym (rw group-is)
+  pub list-said : {x : Bool} (limit : ℕ) → x ≡ breaksAt (groupOf (opensParen (rowSizes (rowsOf rows)))) limit (measureRows (groupOf (opensParen (rowSizes (rowsOf rows)))) start (rowsOf rows)) → x ≡ listBreaks limit (groupMeasure (rowSizes (rowsOf rows)))
+  list-said limit e = e ∙ breaks-group (opensParen (rowSizes (rowsOf rows))) limit _ _ ∙ sym (ap (listBreaks limit) (group-is (rowsOf rows)))
 
   -- ---- the measures
 
-  module _ (m : Measure.Measure) (e : measureOf m ≡ measureRows Signature start (rowsOf rows)) where
-    pub no-params : m .width ≡ 0 → (0 ≡ params (sigMeasure (tokensOf rows text))) × (0 ≡ sigMeasure (tokensOf rows text) .width)
-    no-params z = (rw (sig-is, ← e, z), rw (sig-is, ← e, z))
+  module _ (many : mostBytes < length rows) where
+    pub sig-none : record { params = 0; width = 0 } ≡ sigAnswer rows
+    unfolding measureFrom
+    sig-none = rw (lt-ltb mostBytes (length rows) many)
 
-    pub some-params : (m .width ≡ 0 → ⊥) → (m .commas + 1 ≡ params (sigMeasure (tokensOf rows text))) × (m .width ≡ sigMeasure (tokensOf rows text) .width)
-    some-params n = (rw (sig-is, ← e, positive (m .width) n), rw (sig-is, ← e))
+    pub group-none : record { commas = 0; width = 0 } ≡ groupAnswer rows
+    unfolding measureFrom
+    group-none = rw (lt-ltb mostBytes (length rows) many)
 
-  pub group-said : (m : Measure.Measure) → measureOf m ≡ measureRows (groupOf (opensParenRows (rowsOf rows))) start (rowsOf rows) → (m .commas ≡ groupMeasure (tokensOf rows text) .commas) × (m .width ≡ groupMeasure (tokensOf rows text) .width)
-  group-said m e = (rw (group-is, ← e), rw (group-is, ← e))
+  module _ (few : length rows ≤ mostBytes) (m : Measure.Measure) where
+    few-measured : measured rows ≡ rowSizes (rowsOf rows)
+    few-measured = rw (le-ltb mostBytes (length rows) few)
+
+    module _ (e : measureOf m ≡ measureRows Signature start (rowsOf rows)) where
+      pub no-params : m .width ≡ 0 → record { params = 0; width = 0 } ≡ sigAnswer rows
+      no-params z = rw (few-measured, sig-is (rowsOf rows), ← e, z)
+
+      pub some-params : (m .width ≡ 0 → ⊥) → record { params = m .commas + 1; width = m .width } ≡ sigAnswer rows
+      some-params n = rw (few-measured, sig-is (rowsOf rows), ← e, positive (m .width) n)
+
+    pub group-said : measureOf m ≡ measureRows (groupOf (opensParen (rowSizes (rowsOf rows)))) start (rowsOf rows) → record { commas = m .commas; width = m .width } ≡ groupAnswer rows
+    group-said e = rw (few-measured, group-is (rowsOf rows), ← e)

@@ -9,8 +9,8 @@ use Rattle.report.proofs.Logic.{split}
 use Rattle.rows.specs.Kinds.{Eof, RightParen, RightBracket, Comma}
 use Rattle.lookahead.specs.declared.measure.Span.{Span}
 use Rattle.lookahead.specs.declared.measure.Span.the-variants.{Signature, Paren, Bracket}
-use Rattle.lookahead.specs.Measure.{more}
-use Rattle.lookahead.specs.Scan.{depthAfter, isLast, endsGroup, stopsAt}
+use Rattle.lookahead.specs.Measure.{depthAfter}
+use Rattle.lookahead.specs.Scan.{more, isLast, endsGroup, stopsAt}
 
 -- ---- the last closer: none is open, or one
 

@@ -1,13 +1,21 @@
--- What `needs_space` answers (document 01, 'Spaces').
+-- What `needs_space` (document 01, 'Spaces') and the two measures of rows answer.
 -- Assumes nothing.
-use mathlib.Core.Bool.{Bool, true, false, cond}
+use mathlib.Core.Bool.{Bool, cond}
+use mathlib.Core.List.{List, []}
 use Prim.Native.Nat.{ℕ}
 use lib.Dec.{ltb}
+use lib.ListN.{length}
 use Rattle.report.specs.Report.{Report, success, refuse, badRow}
 use Rattle.rows.specs.Kinds.{Other}
+use Rattle.rows.specs.Row.{rowsOf}
 use Rattle.lookahead.specs.declared.Space.{Space}
 use Rattle.lookahead.specs.declared.Space.the-variants.{Needed, BadRow}
+use Rattle.lookahead.specs.declared.SigMeasure.{SigMeasure}
+use Rattle.lookahead.specs.declared.GroupMeasure.{GroupMeasure}
 use Rattle.lookahead.specs.Space.{needsSpace}
+use Rattle.lookahead.specs.Measure.{Sized, rowSizes, sigMeasure, params, groupMeasure}
+
+-- ---- `needs_space`
 
 -- 1 for a space, 0 for none
 abbrev pub spaces : Bool → ℕ
@@ -24,3 +32,19 @@ spaceReport first second =
     cond (ltb Other first) (refuse badRow 0)
     (cond (ltb Other second) (refuse badRow 1)
     (success (spaces (needsSpace first second)) 0 0))
+
+-- ---- `sig_measure` and `group_measure`
+
+-- the bytes of the 65,535 rows that a layout takes at most
+abbrev pub mostBytes : ℕ
+mostBytes = 1048560
+
+-- what is measured: of more rows than that, nothing
+abbrev pub measured : List ℕ → List Sized
+measured rows = cond (ltb mostBytes (length rows)) [] (rowSizes (rowsOf rows))
+
+abbrev pub sigAnswer : List ℕ → SigMeasure
+sigAnswer rows = record { params = params (sigMeasure (measured rows)); width = sigMeasure (measured rows) .width }
+
+abbrev pub groupAnswer : List ℕ → GroupMeasure
+groupAnswer rows = record { commas = groupMeasure (measured rows) .commas; width = groupMeasure (measured rows) .width }

@@ -1,14 +1,15 @@
 -- The lookaheads of format.rs, over the tokens from the opener to the end (document 01, 'Looking ahead').
 -- Assumes nothing.
 use mathlib.Core.Bool.{Bool, true, false, cond, not, _&&_, _||_, Bool·beq}
-use mathlib.Core.List.{List, [], _∷_}
+use mathlib.Core.List.{List, [], _∷_, map}
 use Prim.Native.Nat.{ℕ, _+_, _-_}
 use lib.Dec.{eqb, ltb}
 use lib.ListN.{length}
-use Rattle.rows.specs.Kinds.{Eof, Newline, LeftBrace, RightBrace, LeftParen, RightParen, LeftBracket, RightBracket, Comma}
+use Rattle.rows.specs.Kinds.{TokenRow, Eof, Newline, LeftBrace, RightBrace, LeftParen, RightParen, LeftBracket, RightBracket, Comma}
+use Rattle.rows.specs.Row.{Row}
 use Rattle.rows.specs.Token.{Trivia, lineComment, docComment, blockComment, blankLine, Token}
 
--- ---- `next_has_comment`, over the tokens behind a token
+-- ---- `next_has_comment`, over the tokens behind a token (format.rs 131)
 
 unfoldable pub anyComment : List Trivia → Bool
 anyComment [] = false
@@ -21,7 +22,7 @@ abbrev pub nextHasComment : List Token → Bool
 nextHasComment [] = false
 nextHasComment (t ∷ ts) = anyComment (t .leading)
 
--- ---- `block_is_single_line`
+-- ---- `block_is_single_line` (format.rs 155)
 
 abbrev pub isEmpty : List Trivia → Bool
 isEmpty [] = true
@@ -45,7 +46,23 @@ singleLineFrom depth (t ∷ ts) =
 abbrev pub blockIsSingleLine : List Token → Bool
 blockIsSingleLine ts = singleLineFrom 0 ts
 
--- ---- `sig_measure` and `group_measure`
+-- ---- `sig_measure` (format.rs 183) and `group_measure` (format.rs 218)
+
+-- what a measure looks at: a token's kind, and how many bytes its lexeme has
+pub record Sized : Type 0 where
+  pub kind : ℕ
+  pub size : ℕ
+
+abbrev pub sized : Token → Sized
+sized t = record { kind = t .kind; size = length (t .lexeme) }
+
+abbrev pub sizes : List Token → List Sized
+sizes ts = map sized ts
+
+-- the same by the numbers of the token rows; other rows are passed over
+unfoldable pub rowSizes : List Row → List Sized
+rowSizes [] = []
+rowSizes (r ∷ rs) = cond (eqb (r .what) TokenRow) (record { kind = r .kind; size = r .end - r .start } ∷ rowSizes rs) (rowSizes rs)
 
 -- the running numbers of both loops
 pub record Measure : Type 0 where
@@ -58,75 +75,63 @@ pub record Measure : Type 0 where
 abbrev pub start : Measure
 start = record { parenDepth = 0; bracketDepth = 0; commas = 0; width = 0; sawToken = false }
 
--- a token that is counted, with the depths and commas behind it: its lexeme's bytes and one more
-abbrev pub counted : Measure → Token → ℕ → ℕ → ℕ → Measure
-counted m t parens brackets commas = record { parenDepth = parens; bracketDepth = brackets; commas = commas; width = m .width + (length (t .lexeme) + 1); sawToken = true }
+-- the depth behind a token of the kind k
+abbrev pub depthAfter : ℕ → ℕ → ℕ → ℕ → ℕ
+depthAfter opener closer k depth = cond (eqb k opener) (depth + 1) (cond (eqb k closer) (depth - 1) depth)
 
--- one more comma where the test holds
-abbrev pub more : Bool → ℕ → ℕ
-more b n = cond b (n + 1) n
+-- one turn of both loops: `top` is whether a Comma counts; the width grows by the lexeme's bytes and one more
+abbrev pub counted : Bool → Measure → Sized → Measure
+counted top m t = record {
+  parenDepth = depthAfter LeftParen RightParen (t .kind) (m .parenDepth);
+  bracketDepth = depthAfter LeftBracket RightBracket (t .kind) (m .bracketDepth);
+  commas = cond (eqb (t .kind) Comma && top) (m .commas + 1) (m .commas);
+  width = m .width + (t .size + 1);
+  sawToken = true;
+}
 
--- the `)` that matches, or Eof: the measure stops before it
-abbrev pub sigStops : Measure → Token → Bool
-sigStops m t = (eqb (t .kind) RightParen && eqb (m .parenDepth - 1) 0) || eqb (t .kind) Eof
+-- Both loops. They break before a token where `stops` says so, by the depths behind it and its kind, and before Eof; `top` says by the depths before a Comma whether it counts.
+unfoldable pub measureFrom : (Measure → ℕ → Bool) → (Measure → Bool) → Measure → List Sized → Measure
+measureFrom stops top m [] = m
+measureFrom stops top m (t ∷ ts) = let n = counted (top m) m t in cond (stops n (t .kind) || eqb (t .kind) Eof) m (measureFrom stops top n ts)
 
-abbrev pub sigCounts : Measure → Token → Measure
-sigCounts m t =
-    cond (eqb (t .kind) LeftParen) (counted m t (m .parenDepth + 1) (m .bracketDepth) (m .commas))
-    (cond (eqb (t .kind) RightParen) (counted m t (m .parenDepth - 1) (m .bracketDepth) (m .commas))
-    (cond (eqb (t .kind) LeftBracket) (counted m t (m .parenDepth) (m .bracketDepth + 1) (m .commas))
-    (cond (eqb (t .kind) RightBracket) (counted m t (m .parenDepth) (m .bracketDepth - 1) (m .commas))
-    (cond (eqb (t .kind) Comma) (counted m t (m .parenDepth) (m .bracketDepth) (more (eqb (m .parenDepth) 1 && eqb (m .bracketDepth) 0) (m .commas)))
-    (counted m t (m .parenDepth) (m .bracketDepth) (m .commas))))))
+-- it breaks at the `)` that matches
+abbrev pub sigStops : Measure → ℕ → Bool
+sigStops m k = eqb k RightParen && eqb (m .parenDepth) 0
 
-unfoldable pub sigMeasureFrom : Measure → List Token → Measure
-sigMeasureFrom m [] = m
-sigMeasureFrom m (t ∷ ts) = cond (sigStops m t) m (sigMeasureFrom (sigCounts m t) ts)
-
-abbrev pub sigMeasure : List Token → Measure
-sigMeasure ts = sigMeasureFrom start ts
+abbrev pub sigMeasure : List Sized → Measure
+sigMeasure ts = measureFrom sigStops (λ m. eqb (m .parenDepth) 1 && eqb (m .bracketDepth) 0) start ts
 
 abbrev pub params : Measure → ℕ
 params m = cond (m .sawToken) (m .commas + 1) 0
+
+-- it breaks at the closer that matches
+abbrev pub groupStops : Bool → Measure → ℕ → Bool
+groupStops isParen m k = ((eqb k RightParen && isParen) || (eqb k RightBracket && not isParen)) && (eqb (m .parenDepth) 0 && eqb (m .bracketDepth) 0)
 
 -- exactly one level inside the opening kind
 abbrev pub topLevel : Bool → Measure → Bool
 topLevel isParen m = eqb (m .parenDepth + m .bracketDepth) 1 && Bool·beq isParen (eqb (m .parenDepth) 1)
 
--- the closer that matches, or Eof: the measure stops before it
-abbrev pub groupStops : Bool → Measure → Token → Bool
-groupStops isParen m t =
-    (isParen && (eqb (t .kind) RightParen && (eqb (m .parenDepth - 1) 0 && eqb (m .bracketDepth) 0)))
-    || (not isParen && (eqb (t .kind) RightBracket && (eqb (m .parenDepth) 0 && eqb (m .bracketDepth - 1) 0)))
-    || eqb (t .kind) Eof
-
-abbrev pub groupCounts : Bool → Measure → Token → Measure
-groupCounts isParen m t =
-    cond (eqb (t .kind) LeftParen) (counted m t (m .parenDepth + 1) (m .bracketDepth) (m .commas))
-    (cond (eqb (t .kind) RightParen) (counted m t (m .parenDepth - 1) (m .bracketDepth) (m .commas))
-    (cond (eqb (t .kind) LeftBracket) (counted m t (m .parenDepth) (m .bracketDepth + 1) (m .commas))
-    (cond (eqb (t .kind) RightBracket) (counted m t (m .parenDepth) (m .bracketDepth - 1) (m .commas))
-    (cond (eqb (t .kind) Comma) (counted m t (m .parenDepth) (m .bracketDepth) (more (topLevel isParen m) (m .commas)))
-    (counted m t (m .parenDepth) (m .bracketDepth) (m .commas))))))
-
-unfoldable pub groupMeasureFrom : Bool → Measure → List Token → Measure
-groupMeasureFrom isParen m [] = m
-groupMeasureFrom isParen m (t ∷ ts) = cond (groupStops isParen m t) m (groupMeasureFrom isParen (groupCounts isParen m t) ts)
-
 -- the group's opening kind is that of the first token
-abbrev pub opensParen : List Token → Bool
+abbrev pub opensParen : List Sized → Bool
 opensParen [] = false
 opensParen (t ∷ ts) = eqb (t .kind) LeftParen
 
-abbrev pub groupMeasure : List Token → Measure
-groupMeasure ts = groupMeasureFrom (opensParen ts) start ts
+abbrev pub groupMeasure : List Sized → Measure
+groupMeasure ts = measureFrom (groupStops (opensParen ts)) (topLevel (opensParen ts)) start ts
 
--- ---- the two decisions
+-- ---- the two decisions, of a measure (format.rs 444, and `should_break_list` 258)
 
 -- a signature breaks: more than 3 params, or wider than the signature width
-unfoldable pub shouldBreakSig : ℕ → List Token → Bool
-shouldBreakSig width ts = (ltb 3 (params (sigMeasure ts)) || ltb width (sigMeasure ts .width)) && ltb 0 (params (sigMeasure ts))
+abbrev pub sigBreaks : ℕ → Measure → Bool
+sigBreaks width m = (ltb 3 (params m) || ltb width (m .width)) && ltb 0 (params m)
 
--- `should_break_list`: a top-level comma, and wider than the list width
+-- a list breaks: a top-level comma, and wider than the list width
+abbrev pub listBreaks : ℕ → Measure → Bool
+listBreaks width m = ltb 0 (m .commas) && ltb width (m .width)
+
+unfoldable pub shouldBreakSig : ℕ → List Token → Bool
+shouldBreakSig width ts = sigBreaks width (sigMeasure (sizes ts))
+
 unfoldable pub shouldBreakList : ℕ → List Token → Bool
-shouldBreakList width ts = ltb 0 (groupMeasure ts .commas) && ltb width (groupMeasure ts .width)
+shouldBreakList width ts = listBreaks width (groupMeasure (sizes ts))

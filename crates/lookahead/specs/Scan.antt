@@ -1,18 +1,27 @@
--- The lookaheads over rows: what the code's loops compute. They say the same as those over tokens (proofs/Tokens.antt).
+-- What the code computes over rows. The measures here say the same as those of Measure.antt (proofs/Sizes.antt).
 -- Assumes nothing.
 use mathlib.Core.Bool.{Bool, true, false, cond, not, _&&_, _||_}
 use mathlib.Core.List.{List, [], _∷_}
 use mathlib.Core.Path.{_≡_}
-use Prim.Native.Nat.{ℕ, _+_, _-_, _^_, _<_}
+use Prim.Native.Nat.{ℕ, _+_, _-_, _*_, _^_, _<_}
 use lib.Dec.{eqb, ltb}
-use Rattle.rows.specs.Kinds.{Leading, TokenRow, Trailing, BlankLine, Eof, Newline, LeftBrace, RightBrace, LeftParen, RightParen, LeftBracket, RightBracket, Comma, Other}
-use Rattle.rows.specs.Row.{Row}
+use Rattle.rows.specs.Kinds.{Leading, TokenRow, Trailing, BlankLine, Eof, Newline, RightParen, RightBracket, Comma, Other}
+use Rattle.rows.specs.Row.{Row, rowsOf}
 use Rattle.lookahead.specs.declared.measure.Span.{Span}
 use Rattle.lookahead.specs.declared.measure.Span.the-variants.{Signature, Paren, Bracket}
 use Rattle.lookahead.specs.declared.measure.Measure
-use Rattle.lookahead.specs.Measure.{Measure, more}
+use Rattle.lookahead.specs.Measure.{Measure, depthAfter, counted}
 
 -- ---- `behind_last`
+
+-- how many rows there are up to the last one of the kind k, which is counted; 0 if there is none
+unfoldable pub upToLast : ℕ → List Row → ℕ
+upToLast k [] = 0
+upToLast k (r ∷ rs) = cond (eqb (upToLast k rs) 0) (cond (eqb (r .kind) k) 1 0) (upToLast k rs + 1)
+
+-- the index behind that row
+abbrev pub behindLast : ℕ → List ℕ → ℕ
+behindLast k rows = 16 * upToLast k (rowsOf rows)
 
 -- no row is a token of the kind k
 unfoldable pub lacks : ℕ → List Row → Bool
@@ -31,16 +40,7 @@ widthRows (r ∷ rs) = cond (eqb (r .what) TokenRow) (r .end - r .start + 1 + wi
 abbrev pub isComment : Row → Bool
 isComment r = eqb (r .what) Leading && ltb (r .kind) BlankLine
 
--- the first token row, and whether a leading comment was seen before it
-unfoldable pub commentAhead : Bool → List Row → Bool
-commentAhead seen [] = false
-commentAhead seen (r ∷ rs) = cond (eqb (r .what) TokenRow) seen (commentAhead (seen || isComment r) rs)
-
--- ---- a depth
-
--- the depth behind a token of the kind k
-abbrev pub depthAfter : ℕ → ℕ → ℕ → ℕ → ℕ
-depthAfter opener closer k depth = cond (eqb k opener) (depth + 1) (cond (eqb k closer) (depth - 1) depth)
+-- ---- `least_rows`
 
 -- the rows that a scan needs at least: one for each level that is open, and one where none is
 abbrev pub leastRows : ℕ → ℕ
@@ -60,28 +60,11 @@ trails (r ∷ rs) = eqb (r .what) Trailing
 abbrev pub endsLine : ℕ → Bool
 endsLine k = eqb k Newline || eqb k Eof
 
-abbrev pub closesBlock : ℕ → ℕ → Bool
-closesBlock k depth = eqb k RightBrace && eqb (depth - 1) 0
-
-unfoldable pub singleLineRows : ℕ → List Row → Bool
-singleLineRows depth [] = false
-singleLineRows depth (r ∷ rs) =
-    cond (eqb (r .what) Leading) false
-    (cond (eqb (r .what) TokenRow)
-    (cond (trails rs || endsLine (r .kind)) false
-    (cond (closesBlock (r .kind) depth) true (singleLineRows (depthAfter LeftBrace RightBrace (r .kind) depth) rs)))
-    (singleLineRows depth rs))
-
 -- ---- `sig_measure` and `group_measure`
 
 -- the group that a kind opens
 abbrev pub groupOf : Bool → Span
 groupOf isParen = cond isParen Paren Bracket
-
--- whether the first token is a LeftParen
-unfoldable pub opensParenRows : List Row → Bool
-opensParenRows [] = false
-opensParenRows (r ∷ rs) = cond (eqb (r .what) TokenRow) (eqb (r .kind) LeftParen) (opensParenRows rs)
 
 -- no more than one of the opening kind is open, and none of the other
 abbrev pub isLast : ℕ → ℕ → Bool
@@ -107,15 +90,13 @@ topIn Signature parens brackets = isTop parens brackets
 topIn Paren parens brackets = isTop parens brackets
 topIn Bracket parens brackets = isTop brackets parens
 
+-- one more comma where the test holds
+abbrev pub more : Bool → ℕ → ℕ
+more b n = cond b (n + 1) n
+
 -- a token of the kind k and of n bytes is counted
 abbrev pub counts : Span → Measure → ℕ → ℕ → Measure
-counts span m k n = record {
-  parenDepth = depthAfter LeftParen RightParen k (m .parenDepth);
-  bracketDepth = depthAfter LeftBracket RightBracket k (m .bracketDepth);
-  commas = more (eqb k Comma && topIn span (m .parenDepth) (m .bracketDepth)) (m .commas);
-  width = m .width + (n + 1);
-  sawToken = true;
-}
+counts span m k n = counted (topIn span (m .parenDepth) (m .bracketDepth)) m (record { kind = k; size = n })
 
 unfoldable pub measureRows : Span → Measure → List Row → Measure
 measureRows span m [] = m

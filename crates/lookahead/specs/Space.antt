@@ -1,12 +1,14 @@
 -- `needs_space` and `is_value_token` of format.rs (document 01, 'Spaces').
 -- Assumes nothing.
-use mathlib.Core.Bool.{Bool, true, false, cond, not, _&&_, _||_}
+use mathlib.Core.Bool.{Bool, false, not, _&&_, _||_}
 use mathlib.Core.List.{[], _∷_}
 use mathlib.Core.Option.{Option, none, some}
 use Prim.Native.Nat.{ℕ}
 use lib.Dec.{eqb}
 use Rattle.rows.specs.Kinds.{LeftBrace, RightBrace, LeftParen, RightParen, LeftBracket, RightBracket, Comma, Colon, Semicolon, Question, Dot, DotDot, ColonColon, Hash, Bang, BangHash}
 use Rattle.rows.specs.Kinds.{Identifier, NumberLiteral, ByteLiteral, StringLiteral, CharacterLiteral, FloatLiteral, BoolLiteral, Null, Array, Map, Set, Result, oneOf}
+
+-- ---- `needs_space` (format.rs 684)
 
 -- never a space right after these
 abbrev pub noSpaceAfter : ℕ → Bool
@@ -30,6 +32,8 @@ indexes prev curr = eqb curr LeftBracket && oneOf (Identifier ∷ RightParen ∷
 
 abbrev pub needsSpace : ℕ → ℕ → Bool
 needsSpace prev curr = not (noSpaceAfter prev || noSpaceBefore curr || emptyBlock prev curr || calls prev curr || indexes prev curr)
+
+-- ---- `is_value_token` (format.rs 738)
 
 -- a token that can end an expression, after which a `-` is binary
 abbrev pub isValueKind : ℕ → Bool

@@ -9,19 +9,17 @@ use rows::ROW_BYTES;
 use rows::Row;
 use rows::kinds;
 use rows::row_at;
-ghost use mathlib.Core.Bool.{true};
 ghost use mathlib.Core.List.{List};
 ghost use mathlib.Core.Path.{_≡_};
-ghost use Prim.Native.Nat.{ℕ, _*_, _^_, _≤_, _<_};
+ghost use Prim.Native.Nat.{ℕ, _^_, _≤_, _<_};
 ghost use lib.ListN.{length, drop};
 ghost use Rattle.rows.specs.Row.{rowsOf};
 ghost use Rattle.rows.specs.Token.{tokensOf};
-ghost use Rattle.rows.specs.Bounds.{InBounds};
 ghost use Rattle.rows.specs.Answer.{rowOf};
 ghost use Rattle.lookahead.specs.Space.{needsSpace, isValueKind};
-ghost use Rattle.lookahead.specs.Answer.{reported, spaceReport};
-ghost use Rattle.lookahead.specs.Measure.{start, params, sigMeasure, groupMeasure, shouldBreakSig, shouldBreakList, blockIsSingleLine, nextHasComment};
-ghost use Rattle.lookahead.specs.Scan.{lacks, widthRows, isComment, isTrivia, trails, endsLine, opensParenRows, groupOf, measureRows, measureOf, leastRows, tokenKind, GroupKinds, commaAhead, breaksAt};
+ghost use Rattle.lookahead.specs.Answer.{reported, spaceReport, mostBytes, sigAnswer, groupAnswer};
+ghost use Rattle.lookahead.specs.Measure.{start, rowSizes, opensParen, sigMeasure, groupMeasure, sigBreaks, listBreaks, blockIsSingleLine, nextHasComment};
+ghost use Rattle.lookahead.specs.Scan.{behindLast, widthRows, isComment, isTrivia, trails, endsLine, groupOf, measureRows, measureOf, leastRows, tokenKind, GroupKinds, commaAhead, breaksAt};
 
 mod measure;
 mod sets;
@@ -74,22 +72,35 @@ pub fn space_between(prev: u32, curr: u32) -> bool
 pub fn is_value_kind(kind: u32) -> bool
     ensures { λ r. ⌜ r ≡ isValueKind kind ⌝ }
 {
-    sets::member(sets::VALUES, kind)
+    match kind {
+        kinds::IDENTIFIER
+        | kinds::NUMBER_LITERAL
+        | kinds::BYTE_LITERAL
+        | kinds::STRING_LITERAL
+        | kinds::CHARACTER_LITERAL
+        | kinds::FLOAT_LITERAL
+        | kinds::BOOL_LITERAL
+        | kinds::RIGHT_PAREN
+        | kinds::RIGHT_BRACKET
+        | kinds::NULL => true,
+        _ => false,
+    }
 }
 
 // The lookaheads take the part of the rows that starts at the opener, its own leading rows included, and goes to
-// the end. What the first four answer holds of every text in which the rows lie; the others need none.
+// the end. The first four go by the rows' own numbers. Where the rows lie in a text, the tokens that they name
+// there have these sizes (proofs/Sizes.antt: sizes-in-bounds).
 
 // Whether a signature breaks: more than 3 params, or wider than `fn_sig_width`.
 pub fn should_break_sig(rows: &[u8], fn_sig_width: u32) -> bool
-    ensures { λ r. ⌜ ((text : List ℕ) → InBounds text (rowsOf (now (rows .entry))) → r ≡ shouldBreakSig «fn_sig_width» (tokensOf (now (rows .entry)) text)) ⌝ }
+    ensures { λ r. ⌜ r ≡ sigBreaks «fn_sig_width» (sigMeasure (rowSizes (rowsOf (now (rows .entry))))) ⌝ }
 {
     decide(rows, Span::Signature, fn_sig_width as usize)
 }
 
 // Whether a list breaks: it has a top-level comma, and is wider than `list_width`.
 pub fn should_break_list(rows: &[u8], list_width: u32) -> bool
-    ensures { λ r. ⌜ ((text : List ℕ) → InBounds text (rowsOf (now (rows .entry))) → r ≡ shouldBreakList «list_width» (tokensOf (now (rows .entry)) text)) ⌝ }
+    ensures { λ r. ⌜ r ≡ listBreaks «list_width» (groupMeasure (rowSizes (rowsOf (now (rows .entry))))) ⌝ }
 {
     decide(rows, group(rows), list_width as usize)
 }
@@ -101,8 +112,7 @@ pub struct SigMeasure {
 
 // The params of a signature and its width; more rows than a layout takes measure 0.
 pub fn sig_measure(rows: &[u8]) -> SigMeasure
-    ensures exact { λ r. ⌜ (length (now (rows .entry)) ≤ 1048560 → (text : List ℕ) → InBounds text (rowsOf (now (rows .entry))) → (r .params ≡ params (sigMeasure (tokensOf (now (rows .entry)) text))) × (r .width ≡ sigMeasure (tokensOf (now (rows .entry)) text) .width)) ⌝ }
-    ensures too_many { λ r. ⌜ (1048560 < length (now (rows .entry)) → (r .params ≡ 0) × (r .width ≡ 0)) ⌝ }
+    ensures { λ r. ⌜ r ≡ sigAnswer (now (rows .entry)) ⌝ }
 {
     if MOST_BYTES < rows.len() {
         return SigMeasure {
@@ -130,8 +140,7 @@ pub struct GroupMeasure {
 
 // The top-level commas of a group and its width; more rows than a layout takes measure 0.
 pub fn group_measure(rows: &[u8]) -> GroupMeasure
-    ensures exact { λ r. ⌜ (length (now (rows .entry)) ≤ 1048560 → (text : List ℕ) → InBounds text (rowsOf (now (rows .entry))) → (r .commas ≡ groupMeasure (tokensOf (now (rows .entry)) text) .commas) × (r .width ≡ groupMeasure (tokensOf (now (rows .entry)) text) .width)) ⌝ }
-    ensures too_many { λ r. ⌜ (1048560 < length (now (rows .entry)) → (r .commas ≡ 0) × (r .width ≡ 0)) ⌝ }
+    ensures { λ r. ⌜ r ≡ groupAnswer (now (rows .entry)) ⌝ }
 {
     if MOST_BYTES < rows.len() {
         return GroupMeasure {
@@ -202,9 +211,10 @@ pub fn next_has_comment(rows: &[u8]) -> bool
     false
 }
 
-// Behind the last row of the kind; no token of the kind stands from there on.
+// Behind the last row of the kind, or 0. No token of the kind stands from there on (proofs/Lacks.antt:
+// none-behind).
 pub fn behind_last(rows: &[u8], kind: u32) -> usize
-    ensures { λ r. ⌜ ((j : ℕ) → r ≤ 16 * j → lacks kind (rowsOf (drop (16 * j) (now (rows .entry)))) ≡ true) ⌝ }
+    ensures { λ r. ⌜ r ≡ behindLast kind (now (rows .entry)) ⌝ }
 {
     let mut at = rows.len() - rows.len() % ROW_BYTES;
     while ROW_BYTES <= at {
@@ -219,7 +229,7 @@ pub fn behind_last(rows: &[u8], kind: u32) -> usize
 
 // The width of all tokens together, as a list's width counts them: no list is wider.
 pub fn total_width(rows: &[u8]) -> usize
-    requires { ⌜ length (now rows) ≤ 1048560 ⌝ }
+    requires { ⌜ length (now rows) ≤ mostBytes ⌝ }
     ensures { λ r. ⌜ r ≡ widthRows (rowsOf (now (rows .entry))) ⌝ }
 {
     let mut width = 0;
@@ -281,9 +291,13 @@ struct Reached {
 // The measure until it is wider than the limit; one that is not is whole, and goes on from the end of the rows.
 fn until_wide(rows: &[u8], span: Span, limit: usize) -> Reached
     requires { ⌜ limit < 2 ^ 32 ⌝ }
-    ensures left { λ r. ⌜ measureRows span start (rowsOf (now (rows .entry))) ≡ measureRows span (measureOf (r .m)) (rowsOf (drop (r .at) (now (rows .entry)))) ⌝ }
-    ensures whole { λ r. ⌜ (r .m .width ≤ limit → measureRows span start (rowsOf (now (rows .entry))) ≡ measureOf (r .m)) ⌝ }
-    ensures few { λ r. ⌜ (r .m .parens ≤ r .at) × (r .m .brackets ≤ r .at) × (r .at ≤ length (now (rows .entry))) ⌝ }
+    ensures left { λ r. ⌜
+        measureRows span start (rowsOf (now (rows .entry)))
+        ≡ measureRows span (measureOf (r .m)) (rowsOf (drop (r .at) (now (rows .entry)))) ⌝ }
+    ensures whole { λ r. ⌜
+        (r .m .width ≤ limit → measureRows span start (rowsOf (now (rows .entry))) ≡ measureOf (r .m)) ⌝ }
+    ensures few { λ r. ⌜
+        (r .m .parens ≤ r .at) × (r .m .brackets ≤ r .at) × (r .at ≤ length (now (rows .entry))) ⌝ }
 {
     let mut m = Measure::new();
     let mut at = 0;
@@ -318,7 +332,9 @@ fn comma_ahead(
 ) -> bool
     requires depths { ⌜ (own ≤ from) × (other ≤ from) × (from ≤ length (now rows)) ⌝ }
     requires kinds { ⌜ GroupKinds opener closer «other_opener» «other_closer» ⌝ }
-    ensures { λ r. ⌜ r ≡ commaAhead opener closer «other_opener» «other_closer» own other (rowsOf (drop from (now (rows .entry)))) ⌝ }
+    ensures { λ r. ⌜
+        r ≡ commaAhead opener closer «other_opener» «other_closer» own other
+        (rowsOf (drop from (now (rows .entry)))) ⌝ }
 {
     let mut own = own;
     let mut other = other;
@@ -371,7 +387,7 @@ fn least_rows(depth: usize) -> usize
 
 // The whole measure.
 fn measure_rows(rows: &[u8], span: Span) -> Measure
-    requires { ⌜ length (now rows) ≤ 1048560 ⌝ }
+    requires { ⌜ length (now rows) ≤ mostBytes ⌝ }
     ensures exact { λ r. ⌜ measureOf r ≡ measureRows span start (rowsOf (now (rows .entry))) ⌝ }
     ensures few { λ r. ⌜ r .commas ≤ length (now (rows .entry)) ⌝ }
 {
@@ -392,7 +408,7 @@ fn measure_rows(rows: &[u8], span: Span) -> Measure
 
 // The group that the first token opens.
 fn group(rows: &[u8]) -> Span
-    ensures { λ r. ⌜ r ≡ groupOf (opensParenRows (rowsOf (now (rows .entry)))) ⌝ }
+    ensures { λ r. ⌜ r ≡ groupOf (opensParen (rowSizes (rowsOf (now (rows .entry))))) ⌝ }
 {
     if opens_paren(rows) {
         return Span::Paren;
@@ -401,7 +417,7 @@ fn group(rows: &[u8]) -> Span
 }
 
 fn opens_paren(rows: &[u8]) -> bool
-    ensures { λ r. ⌜ r ≡ opensParenRows (rowsOf (now (rows .entry))) ⌝ }
+    ensures { λ r. ⌜ r ≡ opensParen (rowSizes (rowsOf (now (rows .entry)))) ⌝ }
 {
     let mut at = 0;
     while ROW_BYTES <= rows.len() - at {
@@ -442,10 +458,10 @@ fn trails(rows: &[u8], at: usize) -> bool
 fn ends_line(kind: u32) -> bool
     ensures { λ r. ⌜ r ≡ endsLine kind ⌝ }
 {
-    if kind == kinds::NEWLINE {
-        return true;
+    match kind {
+        kinds::NEWLINE | kinds::EOF => true,
+        _ => false,
     }
-    kind == kinds::EOF
 }
 
 fn is_comment(row: Row) -> bool
@@ -454,5 +470,9 @@ fn is_comment(row: Row) -> bool
     if row.what != kinds::LEADING {
         return false;
     }
-    row.kind < kinds::BLANK_LINE
+    let kind = row.kind;
+    match kind {
+        kinds::LINE_COMMENT | kinds::DOC_COMMENT | kinds::BLOCK_COMMENT => true,
+        _ => false,
+    }
 }

@@ -6,8 +6,8 @@ ghost use mathlib.Core.Bool.{_&&_};
 ghost use Prim.Native.Nat.{_-_, _^_, _<_};
 ghost use lib.Dec.{eqb};
 ghost use Rattle.rows.specs.Kinds.{Comma};
-ghost use Rattle.lookahead.specs.Measure.{more};
-ghost use Rattle.lookahead.specs.Scan.{depthAfter, isLast, isTop, stopsAt, topIn, measureOf, counts, breaks, breaksSignature, breaksList, endsGroup, Room};
+ghost use Rattle.lookahead.specs.Measure.{depthAfter};
+ghost use Rattle.lookahead.specs.Scan.{more, isLast, isTop, stopsAt, topIn, measureOf, counts, breaks, breaksSignature, breaksList, endsGroup, Room};
 
 // What is measured: a signature's parameters, or a group by its opening kind.
 pub enum Span {
@@ -99,7 +99,8 @@ impl Measure {
 
     fn commas_after(self, span: Span, kind: u32) -> usize
         requires { ⌜ self .commas < 2 ^ 63 ⌝ }
-        ensures { λ r. ⌜ r ≡ more (eqb kind Comma && topIn span (self .parens) (self .brackets)) (self .commas) ⌝ }
+        ensures { λ r. ⌜
+            r ≡ more (eqb kind Comma && topIn span (self .parens) (self .brackets)) (self .commas) ⌝ }
     {
         if kind != kinds::COMMA {
             return self.commas;

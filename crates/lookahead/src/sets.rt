@@ -14,9 +14,6 @@ pub const CALLED: u64 = 0x40_00a0;
 // those that are called, Array, Map, Set, Result
 pub const INDEXED: u64 = 0x3_c040_00a0;
 
-// Identifier, the literals, RightParen, RightBracket, Null
-pub const VALUES: u64 = 0x3fc0_00a0;
-
 pub fn member(mask: u64, kind: u32) -> bool
     ensures { λ r. ⌜ r ≡ member mask kind ⌝ }
 {

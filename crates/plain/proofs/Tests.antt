@@ -5,7 +5,7 @@ use mathlib.Core.Path.{_≡_, refl, sym, _∙_}
 use Prim.Native.Nat.{ℕ, _≤_, _<_}
 use native.Mathlib.Omega.{arith}
 use lib.Dec.{eqb, leb}
-use borrow.Author.Tests.{eqb-true, eqb-false, ne-eqb, leb-true, leb-false, le-leb}
+use borrow.Author.Tests.{eqb-true, eqb-false, ne-eqb, le-leb}
 use Rattle.report.proofs.Logic.{split, impossible}
 use Rattle.report.proofs.Below.{agree-below}
 use Rattle.rows.specs.Kinds.{Eof, Newline, LeftBrace, RightBrace, Comma, Dot, DotDot, ColonColon, Hash, Bang, BangHash, Minus, Else}
@@ -30,11 +30,11 @@ tight-none k n =
 pub tight-low : (k : ℕ) → k < Dot → false ≡ tightBefore k
 tight-low k h = sym (tight-none k (λ j l m e. omega arith))
 
-pub tight-high : (k : ℕ) → Dot ≤ k → leb k Minus ≡ tightBefore k
-tight-high k h =
-    split (leb k Minus)
-    (λ e. rw (le-leb Dot k h) at (agree-below 19 (λ j. leb Dot j && leb j Minus) tightBefore refl k (omega (arith, leb-true k Minus e))))
-    (λ e. rw e (sym (tight-none k (λ j l m q. omega (arith, leb-false k Minus e)))))
+pub tight-high : (k : ℕ) → Minus < k → false ≡ tightBefore k
+tight-high k h = sym (tight-none k (λ j l m e. omega arith))
+
+pub tight-between : (k : ℕ) → Dot ≤ k → k ≤ Minus → true ≡ tightBefore k
+tight-between k h l = rw (le-leb Dot k h) at (agree-below 19 (leb Dot) tightBefore refl k (omega arith))
 
 -- ---- whether a written token fits
 

@@ -203,17 +203,21 @@ fn dots_digit(kind: u32, first: u8) -> bool
     is_digit(first)
 }
 
-// Dot, DotDot, ColonColon, Hash, Bang, BangHash, Minus: the kinds from Dot to Minus.
 fn tight_before(kind: u32) -> bool
     ensures { λ r. ⌜ r ≡ tightBefore kind ⌝ }
 {
-    if kind < kinds::DOT {
-        return false;
+    match kind {
+        kinds::DOT
+        | kinds::DOT_DOT
+        | kinds::COLON_COLON
+        | kinds::HASH
+        | kinds::BANG
+        | kinds::BANG_HASH
+        | kinds::MINUS => true,
+        _ => false,
     }
-    kind <= kinds::MINUS
 }
 
-// Dot, DotDot, ColonColon, Colon: the kinds from Dot to ColonColon, and Colon.
 fn tight_behind(kind: u32) -> bool
     ensures { λ r. ⌜ r ≡ tightBehind kind ⌝ }
 {

@@ -1,6 +1,6 @@
 -- `lookahead::behind_last` meets its contract. Assumes nothing.
 use borrow.Author.Needs.{needs}
-use Rattle.lookahead.proofs.Lacks.{Clear, clear-start, clear-more, clear-all}
+use Rattle.lookahead.proofs.Lacks.{Clear, clear-start, clear-more, clear-found, clear-all}
 use Rattle.lookahead.proofs.behind_last.Statement.{statement}
 use Rattle.lookahead.proofs.behind_last.Tie as tie
 
@@ -20,7 +20,7 @@ row-at-requires : tie.Need-row-at-requires Inv-loop μ-loop
 row-at-requires c κs = search needs
 
 returns : tie.Need-returns Inv-loop μ-loop
-returns c = c .before .before .before .before .loop .inv .clear
+returns c = clear-found (c .before .before .before .before .loop .inv) (search needs) (c .before .before .row-at .ensures) (c .if1 .taken)
 
 loop-less : tie.Need-loop-less Inv-loop μ-loop
 loop-less c = search needs

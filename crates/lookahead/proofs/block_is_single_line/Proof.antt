@@ -6,7 +6,7 @@ use lib.ListN.{length}
 use borrow.Author.Needs.{needs}
 use Rattle.rows.specs.Row.{rowsOf}
 use Rattle.lookahead.proofs.Looking.{Ahead, restOfBlock, block-start, block-trivia, block-passed, block-opened, block-ended, block-closed, block-less, block-other, block-over, block-said}
-use Rattle.lookahead.specs.Scan.{singleLineRows}
+use Rattle.lookahead.proofs.Tokens.{singleLineRows}
 use Rattle.lookahead.proofs.block_is_single_line.Statement.{statement}
 use Rattle.lookahead.proofs.block_is_single_line.Tie as tie
 

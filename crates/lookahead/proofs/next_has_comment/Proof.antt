@@ -5,7 +5,7 @@ use lib.ListN.{length}
 use borrow.Author.Needs.{needs}
 use Rattle.rows.specs.Row.{rowsOf}
 use Rattle.lookahead.proofs.Looking.{Ahead, comment-start, comment-token, comment-seen, comment-more, comment-none, comment-said}
-use Rattle.lookahead.specs.Scan.{commentAhead}
+use Rattle.lookahead.proofs.Tokens.{commentAhead}
 use Rattle.lookahead.proofs.next_has_comment.Statement.{statement}
 use Rattle.lookahead.proofs.next_has_comment.Tie as tie
 

@@ -3,13 +3,12 @@ use Prim.Native.Nat.{_-_}
 use lib.ListN.{length}
 use borrow.Author.Needs.{needs}
 use Rattle.rows.specs.Row.{rowsOf}
-use Rattle.lookahead.proofs.Looking.{Ahead, opens-start, opens-first, opens-more, opens-none}
-use Rattle.lookahead.specs.Scan.{opensParenRows}
+use Rattle.lookahead.proofs.Looking.{Ahead, opens, opens-start, opens-first, opens-more, opens-none}
 use Rattle.lookahead.proofs.opens_paren.Statement.{statement}
 use Rattle.lookahead.proofs.opens_paren.Tie as tie
 
 abbrev Inv-loop : tie.InvT-loop
-Inv-loop rows at₀ at = Ahead rows (opensParenRows (rowsOf rows)) opensParenRows at
+Inv-loop rows at₀ at = Ahead rows (opens (rowsOf rows)) opens at
 
 abbrev μ-loop : tie.MeasureT-loop
 μ-loop rows at₀ at = length rows - at

@@ -15,7 +15,7 @@ decide-requires : tie.Need-decide-requires
 decide-requires c κs = search needs
 
 returns : tie.Need-returns
-returns c = λ text β. list-said (c .before .before .before .args .rows .now) text β (c .before .before .before .args .list-width) (c .decide .ensures ∙ ap (λ s. breaksAt s (c .before .before .before .args .list-width) (measureRows s start (rowsOf (c .before .before .before .args .rows .now)))) (c .before .group .ensures))
+returns c = list-said (c .before .before .before .args .rows .now) (c .before .before .before .args .list-width) (c .decide .ensures ∙ ap (λ s. breaksAt s (c .before .before .before .args .list-width) (measureRows s start (rowsOf (c .before .before .before .args .rows .now)))) (c .before .group .ensures))
 
 pub should-break-list-spec : {M : Type 1} → statement M
 should-break-list-spec = tie.close (tie.spec group-requires decide-requires returns)

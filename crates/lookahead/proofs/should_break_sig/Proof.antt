@@ -8,7 +8,7 @@ decide-requires : tie.Need-decide-requires
 decide-requires c κs = search needs
 
 returns : tie.Need-returns
-returns c = λ text β. sig-said (c .before .before .args .rows .now) text β (c .before .before .args .fn-sig-width) (c .decide .ensures)
+returns c = sig-said (c .before .before .args .rows .now) (c .before .before .args .fn-sig-width) (c .decide .ensures)
 
 pub should-break-sig-spec : {M : Type 1} → statement M
 should-break-sig-spec = tie.close (tie.spec decide-requires returns)

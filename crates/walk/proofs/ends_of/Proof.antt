@@ -1,6 +1,7 @@
 -- `walk::ends_of` meets its contract. Assumes nothing.
 use native.Mathlib.Omega.{arith}
 use borrow.Author.Needs.{needs}
+use Rattle.lookahead.proofs.Lacks.{none-behind}
 use Rattle.lookahead.proofs.Narrow.{width-part}
 use Rattle.walk.proofs.ends_of.Statement.{statement}
 use Rattle.walk.proofs.ends_of.Tie as tie
@@ -12,13 +13,13 @@ behind-last-requires-2 : tie.Need-behind-last-requires-2
 behind-last-requires-2 c κs = search needs
 
 returns : tie.Need-returns
-returns c = record { commas = c .before .before .behind-last .ensures; braces = c .before .behind-last2 .ensures; width = λ j h. absurd (omega arith) }
+returns c = record { commas = none-behind _ _ (c .before .before .behind-last .ensures); braces = none-behind _ _ (c .before .behind-last2 .ensures); width = λ j h. absurd (omega arith) }
 
 total-width-requires : tie.Need-total-width-requires
 total-width-requires c κs = c .before .before .before .before .pre
 
 returns-2 : tie.Need-returns-2
-returns-2 c = record { commas = c .before .before .before .behind-last .ensures; braces = c .before .before .behind-last2 .ensures; width = λ j h. rw (c .total-width .ensures) (width-part j (c .before .before .before .before .before .args .rows .now)) }
+returns-2 c = record { commas = none-behind _ _ (c .before .before .before .behind-last .ensures); braces = none-behind _ _ (c .before .before .behind-last2 .ensures); width = λ j h. rw (c .total-width .ensures) (width-part j (c .before .before .before .before .before .args .rows .now)) }
 
 pub ends-of-spec : {M : Type 1} → statement M
 ends-of-spec = tie.close (tie.spec behind-last-requires behind-last-requires-2 returns total-width-requires returns-2)

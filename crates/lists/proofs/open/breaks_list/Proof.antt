@@ -7,6 +7,7 @@ use borrow.Author.Tests.{eq-eqb, ne-eqb}
 use Rattle.lookahead.specs.Measure.{shouldBreakList}
 use Rattle.lookahead.proofs.Lacks.{no-comma}
 use Rattle.lookahead.proofs.Narrow.{narrow}
+use Rattle.lookahead.proofs.Sizes.{list-tokens}
 use Rattle.fields.proofs.Looked.{looked, part-is}
 use Rattle.lists.proofs.open.breaks_list.Statement.{statement}
 use Rattle.lists.proofs.open.breaks_list.Tie as tie
@@ -33,7 +34,7 @@ should-break-list-requires : tie.Need-should-break-list-requires
 should-break-list-requires c κs = search needs
 
 returns-3 : tie.Need-returns-3
-returns-3 c = λ text t ts σ. rw (eq-eqb _ _ (c .before .before .before .before .before .before .if1 .taken), c .before .before .before .before .before .if2 .left) (looked σ (shouldBreakList (c .before .before .before .before .before .before .before .before .before .args .f .options .«list_width»)) (part-is (c .before .before .before .before .before .before .before .before .before .args .token .lead) (c .before .before .before .before .before .before .before .before .before .args .rows .now)) (c .should-break-list .ensures text))
+returns-3 c = λ text t ts σ. rw (eq-eqb _ _ (c .before .before .before .before .before .before .if1 .taken), c .before .before .before .before .before .if2 .left) (looked σ (shouldBreakList (c .before .before .before .before .before .before .before .before .before .args .f .options .«list_width»)) (part-is (c .before .before .before .before .before .before .before .before .before .args .token .lead) (c .before .before .before .before .before .before .before .before .before .args .rows .now)) (list-tokens _ text _ (c .should-break-list .ensures)))
 
 returns-4 : tie.Need-returns-4
 returns-4 c = λ text t ts σ. rw (ne-eqb _ _ (c .if1 .left))

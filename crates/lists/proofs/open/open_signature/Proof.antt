@@ -2,6 +2,7 @@
 use mathlib.Core.Path.{refl}
 use borrow.Author.Needs.{needs}
 use Rattle.lookahead.specs.Measure.{shouldBreakSig}
+use Rattle.lookahead.proofs.Sizes.{sig-tokens}
 use Rattle.fields.proofs.Does.{updated, told}
 use Rattle.fields.proofs.Due.{now, yes, after}
 use Rattle.lists.proofs.Signature.{signature-kept}
@@ -32,10 +33,10 @@ same-length : tie.Need-same-length
 same-length c = search needs
 
 returns : tie.Need-returns
-returns c = λ s text t ts σ. after (updated refl refl refl nothing) (yes (λ n. (told (looked σ (shouldBreakSig (c .before .before .before .before .before .before .before .before .before .before .args .f .options .«fn_sig_width»)) (part-is (c .before .before .before .before .before .before .before .before .before .before .args .token .lead) (c .before .before .before .before .before .before .before .before .before .before .args .rows .now)) (c .before .before .before .before .before .should-break-sig .ensures text)) (c .before .before .before .before .if1 .taken))) (now refl (c .before .before .break-signature .ensures s) (updated refl refl refl nothing)))
+returns c = λ s text t ts σ. after (updated refl refl refl nothing) (yes (λ n. (told (looked σ (shouldBreakSig (c .before .before .before .before .before .before .before .before .before .before .args .f .options .«fn_sig_width»)) (part-is (c .before .before .before .before .before .before .before .before .before .before .args .token .lead) (c .before .before .before .before .before .before .before .before .before .before .args .rows .now)) (sig-tokens _ text _ (c .before .before .before .before .before .should-break-sig .ensures))) (c .before .before .before .before .if1 .taken))) (now refl (c .before .before .break-signature .ensures s) (updated refl refl refl nothing)))
 
 returns-2 : tie.Need-returns-2
-returns-2 c = λ s text t ts σ. signature-kept σ (told (looked σ (shouldBreakSig (c .before .before .before .before .before .before .before .before .args .f .options .«fn_sig_width»)) (part-is (c .before .before .before .before .before .before .before .before .args .token .lead) (c .before .before .before .before .before .before .before .before .args .rows .now)) (c .before .before .before .should-break-sig .ensures text)) (c .before .before .if1 .left)) refl (updated refl refl refl nothing)
+returns-2 c = λ s text t ts σ. signature-kept σ (told (looked σ (shouldBreakSig (c .before .before .before .before .before .before .before .before .args .f .options .«fn_sig_width»)) (part-is (c .before .before .before .before .before .before .before .before .args .token .lead) (c .before .before .before .before .before .before .before .before .args .rows .now)) (sig-tokens _ text _ (c .before .before .before .should-break-sig .ensures))) (c .before .before .if1 .left)) refl (updated refl refl refl nothing)
 
 pub open-signature-spec : {M : Type 1} → statement M
 open-signature-spec =
