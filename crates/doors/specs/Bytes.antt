@@ -1,9 +1,8 @@
--- A report, and its 24 bytes (document 01, 'Around the call').
+-- A report's 24 bytes (document 01, 'Around the call').
 -- Assumes nothing.
 use mathlib.Core.List.{List, [], _∷_, _++_}
 use Prim.Native.Nat.{ℕ, zero, suc, _/_, _%_}
 use Rattle.report.specs.Report.{Report}
-use Rattle.doors.specs.declared.fill.Report.{}
 
 -- The n lowest bytes of a number, the lowest first.
 unfoldable pub littleEndian : ℕ → ℕ → List ℕ
@@ -13,7 +12,3 @@ littleEndian (suc n) x = x % 256 ∷ littleEndian n (x / 256)
 -- Three little-endian eight-byte numbers.
 unfoldable pub reportBytes : Report → List ℕ
 reportBytes r = littleEndian 8 (r .first) ++ littleEndian 8 (r .second) ++ littleEndian 8 (r .third)
-
--- the report that a `Report` of the code is
-abbrev pub reportOf : Rattle.doors.specs.declared.fill.Report.Report → Report
-reportOf r = record { refusal = r .refusal; first = r .first; second = r .second; third = r .third }

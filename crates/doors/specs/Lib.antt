@@ -1,2 +1,3 @@
 pub mod Bytes
 pub mod Door
+pub mod Steps

@@ -4,7 +4,7 @@ use crate::fill::refuse;
 use crate::fill::success;
 use crate::refusals;
 ghost use mathlib.Core.Path.{_≡_};
-ghost use Rattle.doors.specs.Bytes.{reportOf};
+ghost use Rattle.doors.specs.Steps.{reportOf};
 ghost use Rattle.format_tokens.specs.Answer.{reported as layoutReported};
 ghost use Rattle.sheet.specs.Answer.{reported as sheetReported};
 ghost use Rattle.pieces.specs.Answer.{reported as piecesReported};

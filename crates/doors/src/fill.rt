@@ -4,7 +4,8 @@ ghost use Prim.Native.Nat.{_+_, _≤_};
 ghost use lib.ListN.{length};
 ghost use lib.Seq.{sets};
 ghost use Rattle.report.specs.Report.{success, refuse};
-ghost use Rattle.doors.specs.Bytes.{littleEndian, reportBytes, reportOf};
+ghost use Rattle.doors.specs.Bytes.{littleEndian, reportBytes};
+ghost use Rattle.doors.specs.Steps.{reportOf};
 
 // The refusal or 0, and the report's three numbers.
 pub struct Report {

@@ -11,6 +11,7 @@ use lib.Dec.{eqb, leb, ltb}
 use lib.ListN.{length, take, drop, length-append, length-take, length-drop, take-append-drop, drop-of-length-le}
 use lib.Seq.{take-all, drop-at}
 use borrow.Author.Tests.{eqb-true, leb-true, leb-false, lt-ltb, le-ltb, ltb-false}
+use Rattle.report.specs.Bytes.{lineFeed}
 use Rattle.report.specs.Report.{Report, success, refuse, accepted, zeroed, option, raggedRows, badRow, deep, full}
 use Rattle.report.proofs.Logic.{split, or-cases}
 use Rattle.push_token.specs.Layout.{Layout, layout}
@@ -19,7 +20,7 @@ use Rattle.format_tokens.specs.declared.Answer.{Answer}
 use Rattle.format_tokens.specs.declared.Answer.the-variants.{Text, BadOption, RaggedRows, BadRow, Deep, Full}
 use Rattle.format_tokens.specs.Answer.{reported}
 use Rattle.format_tokens.proofs.Answer.{the-type}
-use Rattle.format_source.specs.Source.{lineFeed, firstLine, isShebang, shebang, beforeWalk, putFirst, behind, layoutSource}
+use Rattle.format_source.specs.Source.{firstLine, isShebang, shebang, beforeWalk, putFirst, behind, layoutSource}
 use Rattle.format_source.proofs.Lines.{line-first}
 
 -- an answer and an output, as a definition has them
@@ -40,22 +41,22 @@ no-text (Deep i) h = refl
 no-text (Full i) h = refl
 
 module _ (line : List ℕ) (l : Layout) (out : List ℕ) where
-  with-feed : length (line ++ lineFeed ∷ []) ≡ length line + 1
-  with-feed = length-append line (lineFeed ∷ [])
+  with-feed : length (line ++ lineFeed) ≡ length line + 1
+  with-feed = length-append line lineFeed
 
-  pub no-room : {m : List ℕ} → length out ≤ length line → m ≡ zeroed out → Meets (putFirst (line ++ lineFeed ∷ []) l out) (refuse full 0) m
-  no-room h z = rw (lt-ltb (length out) (length (line ++ lineFeed ∷ [])) (rw with-feed (omega arith))) (record { answer = refl; output = z })
+  pub no-room : {m : List ℕ} → length out ≤ length line → m ≡ zeroed out → Meets (putFirst (line ++ lineFeed) l out) (refuse full 0) m
+  no-room h z = rw (lt-ltb (length out) (length (line ++ lineFeed)) (rw with-feed (omega arith))) (record { answer = refl; output = z })
 
-  pub refused : {m : List ℕ} → length line < length out → accepted (l .report) ≡ false → m ≡ zeroed out → Meets (putFirst (line ++ lineFeed ∷ []) l out) (l .report) m
-  refused h e z = rw (le-ltb (length out) (length (line ++ lineFeed ∷ [])) (rw with-feed (omega arith)), e) (record { answer = refl; output = z })
+  pub refused : {m : List ℕ} → length line < length out → accepted (l .report) ≡ false → m ≡ zeroed out → Meets (putFirst (line ++ lineFeed) l out) (l .report) m
+  refused h e z = rw (le-ltb (length out) (length (line ++ lineFeed)) (rw with-feed (omega arith)), e) (record { answer = refl; output = z })
 
-  pub text-behind : {n k p : ℕ} {m : List ℕ} → length line < length out → l .report ≡ success n k p → m ≡ (line ++ lineFeed ∷ []) ++ l .out
-      → Meets (putFirst (line ++ lineFeed ∷ []) l out) (success (length line + 1 + n) k 0) m
-  text-behind h e z = rw (le-ltb (length out) (length (line ++ lineFeed ∷ [])) (rw with-feed (omega arith)), e, with-feed) (record { answer = refl; output = z })
+  pub text-behind : {n k p : ℕ} {m : List ℕ} → length line < length out → l .report ≡ success n k p → m ≡ (line ++ lineFeed) ++ l .out
+      → Meets (putFirst (line ++ lineFeed) l out) (success (length line + 1 + n) k 0) m
+  text-behind h e z = rw (le-ltb (length out) (length (line ++ lineFeed)) (rw with-feed (omega arith)), e, with-feed) (record { answer = refl; output = z })
 
 -- ---- behind any line, or none
 
-of-checks : (r : Report) → beforeWalk r ≡ true → (0 < r .refusal) × (r .refusal < deep)
+pub of-checks : (r : Report) → beforeWalk r ≡ true → (0 < r .refusal) × (r .refusal < deep)
 of-checks r e =
     or-cases (eqb (r .refusal) option) _ e (λ a. let q = eqb-true (r .refusal) option a in (omega arith, omega arith))
     (λ d. or-cases (eqb (r .refusal) raggedRows) _ d (λ a. let q = eqb-true (r .refusal) raggedRows a in (omega arith, omega arith))
@@ -143,14 +144,14 @@ lent-begun line rows text out {a} {r} {ys} e μ =
 
 -- the shebang line, as the code takes it from the source
 module _ (source : List ℕ) {n : ℕ} (e : n ≡ length (shebang source)) (some : n ≡ 0 → ⊥) where
-  from-source : take (n - 1) source ++ lineFeed ∷ [] ≡ shebang source
+  from-source : take (n - 1) source ++ lineFeed ≡ shebang source
   from-source =
       split (isShebang (firstLine source))
       (λ t. let q : n - 1 ≡ length (firstLine source) = let w = rw (t, length-append) at e in omega arith in rw (q, t, line-first source))
       (λ t. absurd (some (rw t at e)))
 
   length-from-source : length (take (n - 1) source) + 1 ≡ n
-  length-from-source = sym (length-append (take (n - 1) source) (lineFeed ∷ [])) ∙ ap length from-source ∙ sym e
+  length-from-source = sym (length-append (take (n - 1) source) lineFeed) ∙ ap length from-source ∙ sym e
 
   pub within-source : n - 1 ≤ length source
   within-source = let t = length-take (n - 1) source in let l = length-from-source in omega arith
@@ -176,6 +177,6 @@ module _ (source rows text out : List ℕ) {n a : ℕ} (e : n ≡ length (sheban
     text-fits z = rw (length-from-source source e some, e) (begun-fits (shebang source) rows text out begins z)
 
     pub with-line : {r′ : Report} {m : List ℕ} → beforeWalk r ≡ false
-        → Meets (putFirst (take (n - 1) source ++ lineFeed ∷ []) (record { report = r; out = drop (length (take (n - 1) source) + 1) after }) after) r′ m → Meets (layoutSource source rows text out) r′ m
+        → Meets (putFirst (take (n - 1) source ++ lineFeed) (record { report = r; out = drop (length (take (n - 1) source) + 1) after }) after) r′ m → Meets (layoutSource source rows text out) r′ m
     unfolding layoutSource
     with-line t κ = begun-put (shebang source) rows text out begins (omega arith) t (rw (from-source source e some, length-from-source source e some, e) at κ)

@@ -1,2 +1,3 @@
 pub mod Lines
 pub mod Behind
+pub mod Demand3

@@ -11,7 +11,8 @@ use lib.ListN.{length, take, drop, set, getD, length-set, drop-of-length-le}
 use lib.Seq.{drop-cons, take-length, append-snoc, set-append-seam, paste-suc}
 use borrow.Author.Tests.{eq-eqb, ne-eqb, eqb-true}
 use Rattle.report.proofs.Logic.{split}
-use Rattle.format_source.specs.Source.{lineFeed, firstLine, isShebang}
+use Rattle.report.specs.Bytes.{byte, lineFeed}
+use Rattle.format_source.specs.Source.{firstLine, isShebang}
 
 -- ---- the line's end
 
@@ -20,16 +21,16 @@ abbrev pub EndsBehind : List ℕ → ℕ → Type 0
 EndsBehind s i = length (firstLine s) ≡ i + length (firstLine (drop i s))
 
 module _ (s : List ℕ) (i : ℕ) where
-  pub ends-at : EndsBehind s i → i < length s → getD s i 0 ≡ lineFeed → i ≡ length (firstLine s)
+  pub ends-at : EndsBehind s i → i < length s → getD s i 0 ≡ byte "\n" → i ≡ length (firstLine s)
   unfolding firstLine
   ends-at e h b =
-      let q : length (firstLine (drop i s)) ≡ 0 = rw (drop-cons s i 0 h, eq-eqb (getD s i 0) lineFeed b) in
+      let q : length (firstLine (drop i s)) ≡ 0 = rw (drop-cons s i 0 h, eq-eqb (getD s i 0) (byte "\n") b) in
       omega arith
 
-  pub ends-later : EndsBehind s i → i < length s → (getD s i 0 ≡ lineFeed → ⊥) → EndsBehind s (i + 1)
+  pub ends-later : EndsBehind s i → i < length s → (getD s i 0 ≡ byte "\n" → ⊥) → EndsBehind s (i + 1)
   unfolding firstLine
   ends-later e h b =
-      let q : length (firstLine (drop i s)) ≡ suc (length (firstLine (drop (i + 1) s))) = rw (add-one i, drop-cons s i 0 h, ne-eqb (getD s i 0) lineFeed b) in
+      let q : length (firstLine (drop i s)) ≡ suc (length (firstLine (drop (i + 1) s))) = rw (add-one i, drop-cons s i 0 h, ne-eqb (getD s i 0) (byte "\n") b) in
       omega arith
 
   pub ends-last : EndsBehind s i → i ≡ length s → length s ≡ length (firstLine s)
@@ -41,29 +42,29 @@ module _ (s : List ℕ) (i : ℕ) where
 pub line-within : (s : List ℕ) → length (firstLine s) ≤ length s
 unfolding firstLine
 line-within [] = omega arith
-line-within (b ∷ s) = split (eqb b lineFeed) (λ e. rw e (omega arith)) (λ e. let h = line-within s in rw e (omega arith))
+line-within (b ∷ s) = split (eqb b (byte "\n")) (λ e. rw e (omega arith)) (λ e. let h = line-within s in rw e (omega arith))
 
 pub line-first : (s : List ℕ) → take (length (firstLine s)) s ≡ firstLine s
 unfolding firstLine
 line-first [] = refl
-line-first (b ∷ s) = split (eqb b lineFeed) (λ e. rw e) (λ e. rw e (ap (λ t. b ∷ t) (line-first s)))
+line-first (b ∷ s) = split (eqb b (byte "\n")) (λ e. rw e) (λ e. rw e (ap (λ t. b ∷ t) (line-first s)))
 
 -- ---- the shebang: its bytes are no line feeds, so the source's own bytes tell it
 
 third : (s : List ℕ) → eqb (getD (firstLine s) 0 0) 91 ≡ eqb (getD s 0 0) 91
 unfolding firstLine
 third [] = refl
-third (b ∷ s) = split (eqb b lineFeed) (λ e. rw (e, eqb-true b lineFeed e)) (λ e. rw e)
+third (b ∷ s) = split (eqb b (byte "\n")) (λ e. rw (e, eqb-true b (byte "\n") e)) (λ e. rw e)
 
 second : (s : List ℕ) → (eqb (getD (firstLine s) 0 0) 33 && not (eqb (getD (firstLine s) 1 0) 91)) ≡ (eqb (getD s 0 0) 33 && not (eqb (getD s 1 0) 91))
 unfolding firstLine
 second [] = refl
-second (b ∷ s) = split (eqb b lineFeed) (λ e. rw (e, eqb-true b lineFeed e)) (λ e. rw (e, third s))
+second (b ∷ s) = split (eqb b (byte "\n")) (λ e. rw (e, eqb-true b (byte "\n") e)) (λ e. rw (e, third s))
 
 pub shebang-bytes : (s : List ℕ) → isShebang (firstLine s) ≡ isShebang s
 unfolding firstLine
 shebang-bytes [] = refl
-shebang-bytes (b ∷ s) = split (eqb b lineFeed) (λ e. rw (e, eqb-true b lineFeed e)) (λ e. rw (e, second s))
+shebang-bytes (b ∷ s) = split (eqb b (byte "\n")) (λ e. rw (e, eqb-true b (byte "\n") e)) (λ e. rw (e, second s))
 
 pub too-short : (s : List ℕ) → length s < 2 → isShebang s ≡ false
 too-short [] h = refl
@@ -91,7 +92,7 @@ copied-more {d} {s} {m} {i} κ h = record {
 }
 
 -- and the line feed behind them
-pub copied-line : {d s m : List ℕ} {i : ℕ} → Copied d s m i → i ≡ length s → set m (length s) lineFeed ≡ (s ++ lineFeed ∷ []) ++ drop (length s + 1) d
+pub copied-line : {d s m : List ℕ} {i : ℕ} → Copied d s m i → i ≡ length s → set m (length s) (byte "\n") ≡ (s ++ lineFeed) ++ drop (length s + 1) d
 copied-line {d} {s} {m} {i} κ h =
-    rw (κ .copied, h, take-length s, add-one (length s), drop-cons d (length s) 0 (κ .room), set-append-seam s (getD d (length s) 0) (drop (suc (length s)) d) lineFeed)
-    (sym (append-snoc s lineFeed (drop (suc (length s)) d)))
+    rw (κ .copied, h, take-length s, add-one (length s), drop-cons d (length s) 0 (κ .room), set-append-seam s (getD d (length s) 0) (drop (suc (length s)) d) (byte "\n"))
+    (sym (append-snoc s (byte "\n") (drop (suc (length s)) d)))

@@ -6,24 +6,22 @@ use mathlib.Core.List.{List, [], _∷_, _++_}
 use Prim.Native.Nat.{ℕ, _+_}
 use lib.Dec.{eqb, ltb}
 use lib.ListN.{length, drop, getD}
+use Rattle.report.specs.Bytes.{byte, lineFeed}
 use Rattle.report.specs.Report.{Report, success, refuse, accepted, zeroed, option, raggedRows, badRow, full}
 use Rattle.push_token.specs.Layout.{Layout, layout}
-
-abbrev pub lineFeed : ℕ
-lineFeed = 10
 
 -- the bytes before the first line feed, or all of them
 unfoldable pub firstLine : List ℕ → List ℕ
 firstLine [] = []
-firstLine (b ∷ bs) = cond (eqb b lineFeed) [] (b ∷ firstLine bs)
+firstLine (b ∷ bs) = cond (eqb b (byte "\n")) [] (b ∷ firstLine bs)
 
--- It begins `#!` and not `#![`: 35, 33, 91. (Past a line's end this reads 0.)
+-- It begins `#!` and not `#![`. (Past a line's end this reads 0.)
 abbrev pub isShebang : List ℕ → Bool
-isShebang line = eqb (getD line 0 0) 35 && (eqb (getD line 1 0) 33 && not (eqb (getD line 2 0) 91))
+isShebang line = eqb (getD line 0 0) (byte "#") && (eqb (getD line 1 0) (byte "!") && not (eqb (getD line 2 0) (byte "[")))
 
 -- What comes first: that line and a line feed, or nothing.
 abbrev pub shebang : List ℕ → List ℕ
-shebang source = cond (isShebang (firstLine source)) (firstLine source ++ lineFeed ∷ []) []
+shebang source = cond (isShebang (firstLine source)) (firstLine source ++ lineFeed) []
 
 -- "Layout looks for 1, 2, 3 in that order and then writes nothing."
 abbrev pub beforeWalk : Report → Bool

@@ -2,12 +2,13 @@
 use format_tokens::Answer;
 use format_tokens::format_tokens_with;
 use report::clear_bytes;
-ghost use mathlib.Core.List.{[], _∷_, _++_};
+ghost use mathlib.Core.List.{_++_};
 ghost use mathlib.Core.Path.{_≡_};
 ghost use Prim.Native.Nat.{_+_, _-_, _≤_, _<_, min};
 ghost use lib.ListN.{length, drop};
+ghost use Rattle.report.specs.Bytes.{lineFeed};
 ghost use Rattle.format_tokens.specs.Answer.{reported};
-ghost use Rattle.format_source.specs.Source.{lineFeed, firstLine, isShebang, shebang, beforeWalk, putFirst, layoutSource};
+ghost use Rattle.format_source.specs.Source.{firstLine, isShebang, shebang, beforeWalk, putFirst, layoutSource};
 
 // Lays out the tokens that `rows` name in `text` with the default options: Allman, 4, 40, 40. Where the first line of
 // `source` begins `#!` and not `#![`, that line and a line feed come first: they count in the length, and plain is false.
@@ -96,8 +97,8 @@ fn before_walk(answer: Answer) -> bool
 // The line and a line feed put first into `out`, which has the layout behind them; `answer` is the layout's.
 fn put_first(line: &[u8], answer: Answer, out: &mut [u8]) -> Answer
     requires { ⌜ (reported answer .refusal ≡ 0 → reported answer .first ≤ length (now out) - (length (now line) + 1)) ⌝ }
-    ensures answer { λ r. ⌜ reported r ≡ putFirst (now (line .entry) ++ lineFeed ∷ []) (record { report = reported answer; out = drop (length (now (line .entry)) + 1) (now (out .entry)) }) (now (out .entry)) .report ⌝ }
-    ensures output { λ r. ⌜ now (out .exit) ≡ putFirst (now (line .entry) ++ lineFeed ∷ []) (record { report = reported answer; out = drop (length (now (line .entry)) + 1) (now (out .entry)) }) (now (out .entry)) .out ⌝ }
+    ensures answer { λ r. ⌜ reported r ≡ putFirst (now (line .entry) ++ lineFeed) (record { report = reported answer; out = drop (length (now (line .entry)) + 1) (now (out .entry)) }) (now (out .entry)) .report ⌝ }
+    ensures output { λ r. ⌜ now (out .exit) ≡ putFirst (now (line .entry) ++ lineFeed) (record { report = reported answer; out = drop (length (now (line .entry)) + 1) (now (out .entry)) }) (now (out .entry)) .out ⌝ }
 {
     let start = line.len() + 1;
     if out.len() < start {
@@ -116,7 +117,7 @@ fn put_first(line: &[u8], answer: Answer, out: &mut [u8]) -> Answer
 // Writes the line and a line feed into the first places of `out`.
 fn put_line(line: &[u8], out: &mut [u8])
     requires { ⌜ length (now line) < length (now out) ⌝ }
-    ensures { λ r. ⌜ now (out .exit) ≡ (now (line .entry) ++ lineFeed ∷ []) ++ drop (length (now (line .entry)) + 1) (now (out .entry)) ⌝ }
+    ensures { λ r. ⌜ now (out .exit) ≡ (now (line .entry) ++ lineFeed) ++ drop (length (now (line .entry)) + 1) (now (out .entry)) ⌝ }
 {
     let end = line.len();
     for i in 0..end {

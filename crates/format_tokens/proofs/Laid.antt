@@ -27,7 +27,7 @@ use Rattle.fields.specs.Pen.{on}
 use Rattle.walk.specs.declared.Walked.{Walked}
 use Rattle.walk.specs.declared.Walked.the-variants.{Finished, Deep, Full}
 use Rattle.walk.specs.Walk.{Walks, walkedOf, Laid}
-use Rattle.format_tokens.specs.Answer.{afterChecks}
+use Rattle.format_tokens.specs.Steps.{afterChecks}
 
 -- ---- the checks
 

@@ -32,7 +32,8 @@ ghost use Rattle.push_token.specs.Plain.{plain};
 ghost use Rattle.push_token.specs.Layout.{layout};
 ghost use Rattle.fields.specs.Pen.{optionsOf};
 ghost use Rattle.walk.specs.Walk.{Walks, Fresh};
-ghost use Rattle.format_tokens.specs.Answer.{reported, afterChecks};
+ghost use Rattle.format_tokens.specs.Answer.{reported};
+ghost use Rattle.format_tokens.specs.Steps.{afterChecks};
 
 // What a layout answers: length, inserted commas and plain, or a refusal with its place.
 pub enum Answer {

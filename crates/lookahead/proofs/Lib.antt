@@ -10,3 +10,4 @@ pub mod Looking
 pub mod Lacks
 pub mod Narrow
 pub mod Said
+pub mod Reported

@@ -15,7 +15,7 @@ ghost use Prim.Native.Nat.{ℕ, _^_, _≤_, _<_};
 ghost use lib.ListN.{length, drop};
 ghost use Rattle.rows.specs.Row.{rowsOf};
 ghost use Rattle.rows.specs.Token.{tokensOf};
-ghost use Rattle.rows.specs.Answer.{rowOf};
+ghost use Rattle.rows.specs.Bounds.{rowOf};
 ghost use Rattle.lookahead.specs.Space.{needsSpace, isValueKind};
 ghost use Rattle.lookahead.specs.Answer.{reported, spaceReport, mostBytes, sigAnswer, groupAnswer};
 ghost use Rattle.lookahead.specs.Measure.{start, rowSizes, opensParen, sigMeasure, groupMeasure, sigBreaks, listBreaks, blockIsSingleLine, nextHasComment};

@@ -11,7 +11,8 @@ use Rattle.pieces.specs.Answer.{reported, answerFrom, readAnswer}
 use Rattle.pieces.specs.Reading.{Reading, done, refused, piece, reading, readFrom}
 use Rattle.pieces.specs.Next.{next}
 use Rattle.pieces.proofs.Resume.{First, next-first}
-use Rattle.piece_reader.specs.Reader.{endOf, pieceEnd, counted, countFrom, countAnswer}
+use Rattle.piece_reader.specs.Reader.{endOf, countFrom, countAnswer}
+use Rattle.piece_reader.specs.Steps.{pieceEnd, counted}
 
 -- n pieces were counted, and the text is read from `at` on
 pub record Counts (text : List ℕ) (at n : ℕ) : Type 0 where

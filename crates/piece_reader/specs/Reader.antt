@@ -4,8 +4,6 @@ use mathlib.Core.List.{List}
 use Prim.Native.Nat.{ℕ, suc}
 use denote.Ref.{now}
 use Rattle.report.specs.Report.{Report, success, refuse, unreadable}
-use Rattle.pieces.specs.declared.Answer.{Answer}
-use Rattle.pieces.specs.declared.Answer.the-variants as answer
 use Rattle.pieces.specs.declared.Next.{Next}
 use Rattle.pieces.specs.declared.Next.the-variants.{Piece, End, Unreadable}
 use Rattle.pieces.specs.Reading.{Reading, done, refused, piece, reading, readFrom}
@@ -22,17 +20,8 @@ endOf at (Piece s e) = e
 endOf at End = at
 endOf at (Unreadable i) = at
 
-abbrev pub pieceEnd : List ℕ → ℕ → ℕ
-pieceEnd text at = endOf at (next (readFrom text at))
-
 abbrev pub advanced : PieceReader → PieceReader
-advanced r = record { text = r .text; at = pieceEnd (now (r .text)) (r .at) }
-
--- the answer where n pieces were read, and no piece is next
-abbrev pub counted : ℕ → Next → Answer
-counted n (Piece s e) = answer.Pieces n
-counted n End = answer.Pieces n
-counted n (Unreadable i) = answer.Unreadable i
+advanced r = record { text = r .text; at = endOf (r .at) (found r) }
 
 -- the number of pieces, n of them counted already; or refusal 9
 unfoldable pub countFrom : ℕ → Reading → Report

@@ -4,7 +4,8 @@ use pieces::Next;
 use pieces::next_piece;
 ghost use mathlib.Core.Path.{_≡_};
 ghost use Rattle.pieces.specs.Answer.{reported};
-ghost use Rattle.piece_reader.specs.Reader.{found, advanced, pieceEnd, counted, countAnswer};
+ghost use Rattle.piece_reader.specs.Reader.{found, advanced, countAnswer};
+ghost use Rattle.piece_reader.specs.Steps.{pieceEnd, counted};
 
 // Counts the pieces of `text`, or says where it is unreadable.
 pub fn count_pieces(text: &[u8]) -> Answer

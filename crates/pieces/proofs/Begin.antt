@@ -10,11 +10,12 @@ use Rattle.pieces.specs.declared.Next.{Next}
 use Rattle.pieces.specs.declared.Next.the-variants.{Piece, End, Unreadable}
 use Rattle.pieces.specs.declared.runs.QuoteEnd.{QuoteEnd}
 use Rattle.pieces.specs.declared.runs.QuoteEnd.the-variants.{At, Never}
-use Rattle.pieces.specs.Class.{class, isGap}
+use Rattle.pieces.specs.Class.{class}
 use Rattle.pieces.specs.Reading.{Kind, closed, quoted, Mode, between, Begun, opens, begin, read, readFrom}
-use Rattle.pieces.specs.Next.{next, Begins, quotedNext}
-use Rattle.pieces.specs.Sets.{runLength}
+use Rattle.pieces.specs.Next.{next}
+use Rattle.pieces.specs.Sets.{runLength, isGap}
 use Rattle.pieces.specs.Ends.{EndsAt, QuoteEnds}
+use Rattle.pieces.specs.Steps.{Begins, quotedNext}
 use Rattle.pieces.proofs.Scan.{begins, at-end, ends-here, gaps-passed, run-stops, starts-nothing}
 
 module _ (text : List ℕ) (i : ℕ) (β : Begins text i) where

@@ -4,9 +4,9 @@ use mathlib.Core.List.{List}
 use mathlib.Core.Path.{_≡_, refl, _∙_}
 use Prim.Native.Nat.{ℕ, _+_, _<_}
 use lib.ListN.{getD, drop}
-use Rattle.pieces.specs.Class.{class, isGap, isWord, isOperator}
+use Rattle.pieces.specs.Class.{class, isWord, isOperator}
 use Rattle.pieces.specs.Reading.{word, operator}
-use Rattle.pieces.specs.Sets.{runLength}
+use Rattle.pieces.specs.Sets.{runLength, isGap}
 use Rattle.pieces.specs.Ends.{EndsAt}
 use Rattle.pieces.proofs.Sets.{gapSet, wordSet, operatorSet, gaps, words, operators}
 use Rattle.pieces.proofs.Scan.{run-agree, run-ends}

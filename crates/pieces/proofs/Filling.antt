@@ -17,7 +17,8 @@ use Rattle.pieces.specs.declared.Next.the-variants.{Piece, End}
 use Rattle.pieces.specs.declared.Next.the-variants
 use Rattle.pieces.specs.Reading.{Reading, done, refused, piece, reading, readFrom}
 use Rattle.pieces.specs.Next.{next}
-use Rattle.pieces.specs.Answer.{reported, fits, answerFrom, numbers, put, putFirst, readAnswer, readSlots}
+use Rattle.pieces.specs.Answer.{reported, fits, answerFrom, numbers, readAnswer, readSlots}
+use Rattle.pieces.specs.Steps.{put}
 use Rattle.pieces.proofs.Resume.{First, next-first, next-done, next-refused}
 
 -- at the loop's head: n pieces stand in the slice xs, which was xs₀, and the text is read from `at` on

@@ -12,3 +12,4 @@ pub mod Sets
 pub mod Striking
 pub mod Whole
 pub mod Written
+pub mod Reported

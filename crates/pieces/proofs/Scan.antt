@@ -13,9 +13,9 @@ use lib.Seq.{drop-cons, drop-drop, getD-drop}
 use Rattle.report.proofs.Logic.{split, and-left, and-right}
 use Rattle.pieces.specs.declared.bytes.Class.{Class}
 use Rattle.pieces.specs.declared.bytes.Class.the-variants.{Gap}
-use Rattle.pieces.specs.Class.{class, isGap, isWord, isOperator}
+use Rattle.pieces.specs.Class.{class, isWord, isOperator}
 use Rattle.pieces.specs.Reading.{Reading, done, refused, piece, Kind, word, operator, Mode, between, inside, Joined, ends, takes, keep, join, Begun, nothing, opens, begin, flush, peek, afterBegin, read, readFrom}
-use Rattle.pieces.specs.Sets.{runLength, all}
+use Rattle.pieces.specs.Sets.{runLength, all, isGap}
 use Rattle.pieces.specs.Ends.{EndsAt, joinAt}
 use Rattle.pieces.proofs.Sets.{gap-of}
 

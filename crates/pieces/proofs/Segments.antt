@@ -8,10 +8,10 @@ use lib.ListN.{length, length-append}
 use lib.Seq.{slice, take-at, drop-at}
 use Rattle.pieces.specs.declared.bytes.Class.the-variants.{Gap}
 use Rattle.pieces.specs.Class.{class}
-use Rattle.pieces.specs.Reading.{Reading, done, piece, Mode, between, inside, join, flush, peek, read, reading, ReadsWhole}
+use Rattle.pieces.specs.Reading.{Reading, done, piece, Mode, between, inside, join, flush, peek, read, reading}
 use Rattle.pieces.specs.Answer.{numbers, cut}
 use Rattle.pieces.proofs.Scan.{any-start}
-use Rattle.pieces.proofs.Whole.{Left, clear, leftBy, Apart, Rests, rests-between, rests-inside, rests-gap, rests-apart, past, past-length, Lexeme, lexeme, parts}
+use Rattle.pieces.proofs.Whole.{Left, clear, leftBy, Apart, Rests, ReadsWhole, rests-between, rests-inside, rests-gap, rests-apart, past, past-length, Lexeme, lexeme, parts}
 
 pub data Seg : Type 0 where
   blank lex : List ℕ → Seg

@@ -5,8 +5,8 @@ use Prim.Native.Nat.{ℕ, _<_}
 use Rattle.report.proofs.Below.{agree-below}
 use Rattle.pieces.specs.declared.bytes.Class.{Class}
 use Rattle.pieces.specs.declared.bytes.Class.the-variants.{Gap, Single, Quote, Word, Operator, Unclassed}
-use Rattle.pieces.specs.Class.{class, isGap, isSingle, isQuote, isWord, isOperator}
-use Rattle.pieces.specs.Sets.{member}
+use Rattle.pieces.specs.Class.{class, isWord, isOperator}
+use Rattle.pieces.specs.Sets.{member, isGap, isSingle, isQuote}
 
 -- the sets, as the code has them
 abbrev pub gapSet : ℕ → Bool

@@ -1,17 +1,18 @@
 -- A lexeme that reads as one piece goes on doing so before whatever does not join it. Assumes nothing.
-use mathlib.Core.Bool.{Bool, true, false, cond, _&&_}
+use mathlib.Core.Bool.{Bool, true, false, cond, _&&_, _||_}
 use mathlib.Core.List.{List, [], _∷_, _++_, append-nil}
 use mathlib.Core.Path.{_≡_, refl, sym, ap, _∙_}
 use Prim.Native.Nat.{ℕ, suc, _+_, _≤_, _<_}
 use native.Mathlib.Omega.{arith}
 use lib.Dec.{eqb}
 use lib.ListN.{length}
-use Rattle.report.proofs.Logic.{split}
+use borrow.Author.Tests.{eqb-true}
+use Rattle.report.proofs.Logic.{impossible, split}
 use Rattle.pieces.specs.declared.bytes.Class.{Class}
 use Rattle.pieces.specs.declared.bytes.Class.the-variants.{Gap, Single, Quote, Word, Operator, Unclassed}
 use Rattle.pieces.specs.Class.{class, digit, isWord, isOperator}
 use Rattle.pieces.specs.Reading.{Reading, done, refused, piece, Kind, closed, word, number, operator, quoted, escaped, Mode, between, inside, Joined, ends, takes, Begun, nothing, blank, opens}
-use Rattle.pieces.specs.Reading.{keep, digits, inQuote, join, begin, flush, peek, read, reading, ReadsWhole}
+use Rattle.pieces.specs.Reading.{keep, digits, inQuote, join, begin, flush, peek, read, reading}
 use Rattle.pieces.proofs.Sets.{operator-of}
 use Rattle.pieces.proofs.Resume.{flushed, starts-after}
 
@@ -40,8 +41,8 @@ leftBy w = leaves (class (peek w)) (peek w)
 -- a run begun with a digit does not take w's first byte, whatever stands behind w
 abbrev pub Undigit : List ℕ → Type 0
 Undigit [] = Unit {0}
-Undigit (b ∷ []) = digits number (class b) b 48 ≡ ends
-Undigit (b ∷ c ∷ t) = digits number (class b) b c ≡ ends
+Undigit (b ∷ []) = digits number b 48 ≡ ends
+Undigit (b ∷ c ∷ t) = digits number b c ≡ ends
 
 -- w is not taken into what is left open, whatever stands behind it
 abbrev pub Apart : Left → List ℕ → Type 0
@@ -53,34 +54,20 @@ Apart afterOperator w = isOperator (class (peek w)) ≡ false
 
 -- ---- the byte behind: where the text ends it counts as 0, at which the fewest bytes are taken; a digit lets the most be taken
 
-keep-least : (k : Kind) (x d : Bool) {l : Kind} → keep (x && false) k ≡ takes l → keep (x && d) k ≡ takes l
-keep-least k true d e = cc
-keep-least k false d e = e
+keep-least : (k : Kind) (w x d : Bool) {l : Kind} → keep (w || (x && false)) k ≡ takes l → keep (w || (x && d)) k ≡ takes l
+keep-least k true x d e = e
+keep-least k false true d e = cc
+keep-least k false false d e = e
 
-keep-most : (k : Kind) (x d : Bool) → keep (x && true) k ≡ ends → keep (x && d) k ≡ ends
-keep-most k true d e = cc
-keep-most k false d e = refl
-
-digits-least : (k : Kind) (c : Class) (b p : ℕ) {l : Kind} → digits k c b 0 ≡ takes l → digits k c b p ≡ takes l
-digits-least k Gap b p e = e
-digits-least k Single b p e = e
-digits-least k Quote b p e = e
-digits-least k Word b p e = e
-digits-least k Operator b p e = keep-least k (eqb b 46) (digit p) e
-digits-least k Unclassed b p e = e
-
-digits-most : (k : Kind) (c : Class) (b p : ℕ) → digits k c b 48 ≡ ends → digits k c b p ≡ ends
-digits-most k Gap b p e = e
-digits-most k Single b p e = e
-digits-most k Quote b p e = e
-digits-most k Word b p e = e
-digits-most k Operator b p e = keep-most k (eqb b 46) (digit p) e
-digits-most k Unclassed b p e = e
+keep-most : (k : Kind) (w x d : Bool) → keep (w || (x && true)) k ≡ ends → keep (w || (x && d)) k ≡ ends
+keep-most k true x d e = e
+keep-most k false true d e = cc
+keep-most k false false d e = refl
 
 least : (k : Kind) (b p : ℕ) {l : Kind} → join (inside k) b 0 ≡ takes l → join (inside k) b p ≡ takes l
 least closed b p e = e
 least word b p e = e
-least number b p e = digits-least number (class b) b p e
+least number b p e = keep-least number (isWord (class b)) (eqb b 46) (digit p) e
 least operator b p e = e
 least (quoted q) b p e = e
 least (escaped q) b p e = e
@@ -89,9 +76,14 @@ joined : (k : Kind) (b : ℕ) (t r : List ℕ) {l : Kind} → join (inside k) b 
 joined k b [] r e = least k b (peek r) e
 joined k b (c ∷ t) r e = e
 
-undigit : (b : ℕ) (t r : List ℕ) → Undigit (b ∷ t) → digits number (class b) b (peek (t ++ r)) ≡ ends
-undigit b [] r a = digits-most number (class b) b (peek r) a
+undigit : (b : ℕ) (t r : List ℕ) → Undigit (b ∷ t) → digits number b (peek (t ++ r)) ≡ ends
+undigit b [] r a = keep-most number (isWord (class b)) (eqb b 46) (digit (peek r)) a
 undigit b (c ∷ t) r a = a
+
+-- a dot is an operator byte
+pub undotted : (b : ℕ) → isOperator (class b) ≡ false → eqb b 46 ≡ false
+unfolding class
+undotted b e = split (eqb b 46) (λ q. impossible (rw (eqb-true b 46 q) at e)) (λ q. q)
 
 -- ---- a mode that stands at the end of a lexeme
 
@@ -120,7 +112,7 @@ pub rests-gap : {m : Mode} {l : Left} → Rests m l → (b p : ℕ) → class b 
 rests-gap rests-between b p e = refl
 rests-gap (rests-inside {k = closed} d) b p e = refl
 rests-gap (rests-inside {k = word} d) b p e = rw e
-rests-gap (rests-inside {k = number} d) b p e = rw e
+rests-gap (rests-inside {k = number} d) b p e = rw (e, undotted b (rw e))
 rests-gap (rests-inside {k = operator} d) b p e = rw e
 rests-gap (rests-inside {k = quoted q} d) b p e = unsolid 0 (d 0 0 done)
 rests-gap (rests-inside {k = escaped q} d) b p e = unsolid 0 (d 0 0 done)
@@ -140,14 +132,6 @@ left-keep : (x : Bool) (k : Kind) {l : Kind} → keep x k ≡ takes l → leftOf
 left-keep true k e = cc
 left-keep false k e = cc
 
-left-digits : (c : Class) (b p : ℕ) (k : Kind) {l : Kind} → digits k c b p ≡ takes l → leftOf l ≡ leftOf k
-left-digits Gap b p k e = cc
-left-digits Single b p k e = cc
-left-digits Quote b p k e = cc
-left-digits Word b p k e = cc
-left-digits Operator b p k e = left-keep (eqb b 46 && digit p) k e
-left-digits Unclassed b p k e = cc
-
 left-quote : (x y : Bool) (q : ℕ) → leftOf (cond x closed (cond y (escaped q) (quoted q))) ≡ shut
 left-quote true y q = refl
 left-quote false true q = refl
@@ -156,7 +140,7 @@ left-quote false false q = refl
 left-join : (k : Kind) (b p : ℕ) {l : Kind} → join (inside k) b p ≡ takes l → leftOf l ≡ leftOf k
 left-join closed b p e = cc
 left-join word b p e = left-keep (isWord (class b)) word e
-left-join number b p e = left-digits (class b) b p number e
+left-join number b p e = left-keep (isWord (class b) || (eqb b 46 && digit p)) number e
 left-join operator b p e = left-keep (isOperator (class b)) operator e
 left-join (quoted q) b p e = cc (left-quote (eqb b q) (eqb b 92) q)
 left-join (escaped q) b p e = cc
@@ -174,6 +158,10 @@ left-begin Operator b e = cc
 left-begin Unclassed b e = cc
 
 -- ---- a whole lexeme
+
+-- the lexeme w reads as one piece that is the whole of it
+abbrev pub ReadsWhole : List ℕ → Type 0
+ReadsWhole w = reading w ≡ piece 0 (length w) done
 
 -- the index behind w
 abbrev pub past : ℕ → List ℕ → ℕ

@@ -9,14 +9,14 @@ use native.Mathlib.Omega.{arith}
 use lib.Dec.{T, leb}
 use lib.ListN.{length, drop, length-append}
 use borrow.Author.Tests.{le-leb}
-use Rattle.report.specs.Report.{Report, success}
+use Rattle.report.specs.Report.{Report, success, putFirst}
 use Rattle.pieces.specs.declared.bytes.Class.{Class}
 use Rattle.pieces.specs.declared.bytes.Class.the-variants.{Single}
 use Rattle.pieces.specs.Class.{class, isWord, isOperator}
-use Rattle.pieces.specs.Reading.{Reading, done, refused, piece, peek, read, reading, ReadsWhole}
-use Rattle.pieces.specs.Answer.{fits, answerFrom, numbers, putFirst, readAnswer, readSlots, cut}
+use Rattle.pieces.specs.Reading.{Reading, done, refused, piece, peek, read, reading}
+use Rattle.pieces.specs.Answer.{fits, answerFrom, numbers, readAnswer, readSlots, cut}
 use Rattle.pieces.specs.Commas.{closer, struck, Inserted, none, same, more}
-use Rattle.pieces.proofs.Whole.{Left, clear, shut, afterWord, afterNumber, afterOperator, leftBy, Apart, past, past-length}
+use Rattle.pieces.proofs.Whole.{Left, clear, shut, afterWord, afterNumber, afterOperator, leftBy, Apart, ReadsWhole, undotted, past, past-length}
 use Rattle.pieces.proofs.Segments.{Seg, blank, lex, flatten, lexemes, Gaps, afterGap, Separated, end, gap, then, spans, reading-segs, reads-back, separated-append}
 use Rattle.pieces.proofs.Striking.{struck-inserted, length-inserted, inserted-append}
 
@@ -35,7 +35,7 @@ pub apart-single : (l : Left) (b : ℕ) → class b ≡ Single → Apart l (b �
 apart-single clear b e = tt
 apart-single shut b e = tt
 apart-single afterWord b e = rw e
-apart-single afterNumber b e = rw e
+apart-single afterNumber b e = rw (e, undotted b (rw e))
 apart-single afterOperator b e = rw e
 
 flatten-append : (s t : List Seg) → flatten (s ++ t) ≡ flatten s ++ flatten t

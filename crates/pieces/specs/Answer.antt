@@ -1,12 +1,12 @@
 -- What reading a text into a lent slice answers, and the slice after it (document 01, refusals 9 and 10).
 -- Assumes nothing.
 use mathlib.Core.Bool.{Bool, true, false, cond, _&&_}
-use mathlib.Core.List.{List, [], _∷_, _++_}
+use mathlib.Core.List.{List, [], _∷_}
 use Prim.Native.Nat.{ℕ, zero, suc, _+_, _*_}
 use lib.Dec.{leb}
-use lib.ListN.{length, drop, set}
+use lib.ListN.{length}
 use lib.Seq.{slice}
-use Rattle.report.specs.Report.{Report, success, refuse, accepted, zeroed, unreadable, piecesFull}
+use Rattle.report.specs.Report.{Report, success, refuse, accepted, zeroed, putFirst, unreadable, piecesFull}
 use Rattle.pieces.specs.declared.Answer.{Answer}
 use Rattle.pieces.specs.declared.Answer.the-variants.{Pieces, Unreadable, PiecesFull}
 use Rattle.pieces.specs.Reading.{Reading, done, refused, piece, reading}
@@ -32,14 +32,6 @@ unfoldable pub numbers : Reading → List ℕ
 numbers done = []
 numbers (refused i) = []
 numbers (piece s e r) = s ∷ e ∷ numbers r
-
--- the piece from s to e behind n others
-abbrev pub put : List ℕ → ℕ → ℕ → ℕ → List ℕ
-put xs n s e = set (set xs (2 * n) s) (2 * n + 1) e
-
--- xs with the numbers ns put first
-abbrev pub putFirst : List ℕ → List ℕ → List ℕ
-putFirst ns xs = ns ++ drop (length ns) xs
 
 -- The answer to a text, given space for so many numbers.
 unfoldable pub readAnswer : List ℕ → ℕ → Report

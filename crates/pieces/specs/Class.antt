@@ -23,55 +23,26 @@ digit b = within (byte "0") (byte "9") b
 abbrev pub wordByte : ℕ → Bool
 wordByte b = within (byte "A") (byte "Z") b || within (byte "a") (byte "z") b || digit b || eqb b (byte "_") || within 128 255 b
 
--- ( ) [ ] { } , ; ?
-abbrev pub singleByte : ℕ → Bool
-singleByte b = among (bytes "()[]{},;?") b
-
 -- An operator byte is any other of 33–126.
 unfoldable pub class : ℕ → Class
 class b =
     cond (among (bytes "\n ") b) Gap
-    (cond (singleByte b) Single
+    (cond (among (bytes "()[]{},;?") b) Single
     (cond (among (bytes "\"'") b) Quote
     (cond (wordByte b) Word
     (cond (within 33 126 b) Operator Unclassed))))
 
-abbrev pub isGap : Class → Bool
-isGap Gap = true
-isGap Single = false
-isGap Quote = false
-isGap Word = false
-isGap Operator = false
-isGap Unclassed = false
-
-abbrev pub isSingle : Class → Bool
-isSingle Gap = false
-isSingle Single = true
-isSingle Quote = false
-isSingle Word = false
-isSingle Operator = false
-isSingle Unclassed = false
-
-abbrev pub isQuote : Class → Bool
-isQuote Gap = false
-isQuote Single = false
-isQuote Quote = true
-isQuote Word = false
-isQuote Operator = false
-isQuote Unclassed = false
+-- a number for each class, by which it is told from the others
+abbrev pub rank : Class → ℕ
+rank Gap = 0
+rank Single = 1
+rank Quote = 2
+rank Word = 3
+rank Operator = 4
+rank Unclassed = 5
 
 abbrev pub isWord : Class → Bool
-isWord Gap = false
-isWord Single = false
-isWord Quote = false
-isWord Word = true
-isWord Operator = false
-isWord Unclassed = false
+isWord c = eqb (rank c) (rank Word)
 
 abbrev pub isOperator : Class → Bool
-isOperator Gap = false
-isOperator Single = false
-isOperator Quote = false
-isOperator Word = false
-isOperator Operator = true
-isOperator Unclassed = false
+isOperator c = eqb (rank c) (rank Operator)

@@ -4,6 +4,7 @@ use mathlib.Core.Bool.{Bool, true, false, cond, _||_, _&&_}
 use mathlib.Core.List.{List, [], _∷_}
 use Prim.Native.Nat.{ℕ, suc}
 use lib.Dec.{T, eqb}
+use Rattle.report.specs.Bytes.{byte, bytes}
 
 -- the one byte c; the comma, `]` and `}` are known by their bytes
 abbrev pub isByte : ℕ → List ℕ → Bool
@@ -12,16 +13,16 @@ isByte c (b ∷ []) = eqb b c
 isByte c (b ∷ d ∷ t) = false
 
 abbrev pub comma : List ℕ → Bool
-comma w = isByte 44 w
+comma w = isByte (byte ",") w
 
 abbrev pub closer : List ℕ → Bool
-closer w = isByte 93 w || isByte 125 w
+closer w = isByte (byte "]") w || isByte (byte "}") w
 
 -- `Inserted xs ys n`: ys is xs with n commas inserted, at most one for each `]` or `}`, directly before it.
 pub data Inserted : List (List ℕ) → List (List ℕ) → ℕ → Type 0 where
   none : Inserted [] [] 0
   same : {w : List ℕ} {xs ys : List (List ℕ)} {n : ℕ} → Inserted xs ys n → Inserted (w ∷ xs) (w ∷ ys) n
-  more : {w : List ℕ} {xs ys : List (List ℕ)} {n : ℕ} → T (closer w) → Inserted xs ys n → Inserted (w ∷ xs) ((44 ∷ []) ∷ w ∷ ys) (suc n)
+  more : {w : List ℕ} {xs ys : List (List ℕ)} {n : ℕ} → T (closer w) → Inserted xs ys n → Inserted (w ∷ xs) (bytes "," ∷ w ∷ ys) (suc n)
 
 -- Only commas, or nothing, stand before a first `]` or `}`.
 abbrev pub closes : List (List ℕ) → Bool

@@ -6,6 +6,7 @@ use mathlib.Core.List.{List}
 use Prim.Native.Nat.{ℕ, _+_}
 use lib.Dec.{eqb}
 use lib.ListN.{drop, getD}
+use Rattle.report.specs.Bytes.{byte}
 use Rattle.pieces.specs.declared.runs.QuoteEnd.{QuoteEnd}
 use Rattle.pieces.specs.declared.runs.QuoteEnd.the-variants.{At, Never}
 use Rattle.pieces.specs.Reading.{Kind, quoted, inside, Joined, ends, takes, join, piece, refused, read, readFrom}
@@ -20,7 +21,7 @@ QuoteEnds text q from Never = (s : ℕ) → read (drop from text) (inside (quote
 
 -- a byte that a quote opened by q passes over alone: neither q nor a backslash
 abbrev pub ordinary : ℕ → ℕ → Bool
-ordinary q b = not (eqb b q) && not (eqb b 92)
+ordinary q b = not (eqb b q) && not (eqb b (byte "\\"))
 
 abbrev pub taken : Joined → Bool
 taken ends = false

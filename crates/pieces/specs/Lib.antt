@@ -5,4 +5,5 @@ pub mod Answer
 pub mod Commas
 pub mod Sets
 pub mod Ends
+pub mod Steps
 pub mod Eight

@@ -1,12 +1,12 @@
 -- Reading back (document 01): a text read into pieces, byte by byte.
 -- An open piece takes the next byte in (`join`), or ends before it, and the byte begins anew (`begin`).
 -- Assumes nothing.
-use mathlib.Core.Bool.{Bool, true, false, cond, _&&_}
+use mathlib.Core.Bool.{Bool, true, false, cond, _&&_, _||_}
 use mathlib.Core.List.{List, [], _∷_}
-use mathlib.Core.Path.{_≡_}
 use Prim.Native.Nat.{ℕ, suc}
 use lib.Dec.{eqb}
-use lib.ListN.{length, drop}
+use lib.ListN.{drop}
+use Rattle.report.specs.Bytes.{byte}
 use Rattle.pieces.specs.declared.bytes.Class.{Class}
 use Rattle.pieces.specs.declared.bytes.Class.the-variants.{Gap, Single, Quote, Word, Operator, Unclassed}
 use Rattle.pieces.specs.Class.{class, digit, isWord, isOperator}
@@ -49,24 +49,19 @@ keep true k = takes k
 keep false k = ends
 
 -- A run begun with a digit, which goes on as k: word bytes, and a `.` that a digit follows.
-abbrev pub digits : Kind → Class → ℕ → ℕ → Joined
-digits k Gap b behind = ends
-digits k Single b behind = ends
-digits k Quote b behind = ends
-digits k Word b behind = takes k
-digits k Operator b behind = keep (eqb b 46 && digit behind) k
-digits k Unclassed b behind = ends
+abbrev pub digits : Kind → ℕ → ℕ → Joined
+digits k b behind = keep (isWord (class b) || (eqb b (byte ".") && digit behind)) k
 
 -- A quote runs to the next equal quote; a backslash takes the byte behind it along.
 abbrev pub inQuote : ℕ → ℕ → Kind
-inQuote q b = cond (eqb b q) closed (cond (eqb b 92) (escaped q) (quoted q))
+inQuote q b = cond (eqb b q) closed (cond (eqb b (byte "\\")) (escaped q) (quoted q))
 
 -- The byte b, with the byte behind it (0 at the text's end), at an open piece.
 abbrev pub join : Mode → ℕ → ℕ → Joined
 join between b behind = ends
 join (inside closed) b behind = ends
 join (inside word) b behind = keep (isWord (class b)) word
-join (inside number) b behind = digits number (class b) b behind
+join (inside number) b behind = digits number b behind
 join (inside operator) b behind = keep (isOperator (class b)) operator
 join (inside (quoted q)) b behind = takes (inQuote q b)
 join (inside (escaped q)) b behind = takes (quoted q)
@@ -116,7 +111,3 @@ reading text = read text between 0 0
 -- The reading from an index on, where a piece may begin.
 abbrev pub readFrom : List ℕ → ℕ → Reading
 readFrom text i = read (drop i text) between i i
-
--- The lexeme w reads as one piece that is the whole of it.
-abbrev pub ReadsWhole : List ℕ → Type 0
-ReadsWhole w = reading w ≡ piece 0 (length w) done

@@ -4,6 +4,9 @@ use mathlib.Core.Bool.{Bool, true, false, cond, _&&_}
 use mathlib.Core.List.{List, [], _∷_}
 use Prim.Native.Nat.{ℕ, zero, suc, _-_, _/_, _%_, _^_}
 use lib.Dec.{eqb, ltb}
+use Rattle.pieces.specs.declared.bytes.Class.{Class}
+use Rattle.pieces.specs.declared.bytes.Class.the-variants.{Gap, Single, Quote}
+use Rattle.pieces.specs.Class.{rank}
 
 abbrev pub bit : ℕ → ℕ → Bool
 bit n k = eqb (n / 2 ^ k % 2) 1
@@ -21,3 +24,14 @@ runLength f (b ∷ t) = cond (f b) (suc (runLength f t)) zero
 abbrev pub all : (ℕ → Bool) → List ℕ → Bool
 all f [] = true
 all f (b ∷ w) = f b && all f w
+
+-- ---- the classes whose tests only the code cites
+
+abbrev pub isGap : Class → Bool
+isGap c = eqb (rank c) (rank Gap)
+
+abbrev pub isSingle : Class → Bool
+isSingle c = eqb (rank c) (rank Single)
+
+abbrev pub isQuote : Class → Bool
+isQuote c = eqb (rank c) (rank Quote)

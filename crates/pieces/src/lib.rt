@@ -4,10 +4,10 @@ ghost use mathlib.Core.Path.{_≡_};
 ghost use mathlib.Core.Bool.{cond};
 ghost use Prim.Native.Nat.{_*_, _+_, _≤_, _<_};
 ghost use lib.ListN.{length, getD};
-ghost use Rattle.pieces.specs.Class.{class, isGap};
 ghost use Rattle.pieces.specs.Reading.{readFrom};
-ghost use Rattle.pieces.specs.Next.{next, Begins, quotedNext};
-ghost use Rattle.pieces.specs.Answer.{reported, readAnswer, readSlots, fits, put};
+ghost use Rattle.pieces.specs.Next.{next};
+ghost use Rattle.pieces.specs.Answer.{reported, readAnswer, readSlots, fits};
+ghost use Rattle.pieces.specs.Steps.{Begins, quotedNext, put};
 
 mod bytes;
 pub mod eights;

@@ -5,9 +5,9 @@ ghost use mathlib.Core.Path.{_≡_};
 ghost use mathlib.Core.Bool.{cond};
 ghost use Prim.Native.Nat.{_+_, _≤_, _<_};
 ghost use lib.ListN.{take, drop, length};
-ghost use Rattle.pieces.specs.Class.{class, digit, isGap};
+ghost use Rattle.pieces.specs.Class.{class, digit};
 ghost use Rattle.pieces.specs.Reading.{word, number, operator};
-ghost use Rattle.pieces.specs.Sets.{member, runLength, all};
+ghost use Rattle.pieces.specs.Sets.{member, runLength, all, isGap};
 ghost use Rattle.pieces.specs.Ends.{EndsAt, QuoteEnds, taken, joinAt, ordinary};
 
 // Where a quote ends: behind the quote that closes it, or never.

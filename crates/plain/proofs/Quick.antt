@@ -9,9 +9,9 @@ use lib.ListN.{length, getD, take, drop}
 use borrow.Author.Tests.{eqb-true, eq-eqb}
 use Rattle.report.proofs.Logic.{and-right}
 use Rattle.report.proofs.Below.{agree-below}
-use Rattle.pieces.specs.Class.{class, digit, isQuote, isWord, isOperator}
+use Rattle.pieces.specs.Class.{class, digit, isWord, isOperator}
 use Rattle.pieces.specs.Reading.{Kind, word, number, quoted, between, opens, begin}
-use Rattle.pieces.specs.Sets.{runLength}
+use Rattle.pieces.specs.Sets.{runLength, isQuote}
 use Rattle.pieces.specs.Ends.{EndsAt, ordinary}
 use Rattle.pieces.proofs.Sets.{quote-of, word-of}
 use Rattle.pieces.proofs.Scan.{begins, at-end, reaches-start, run-stop, run-all}

@@ -12,8 +12,8 @@ use Rattle.rows.specs.Token.{Token}
 use Rattle.pieces.specs.declared.bytes.Class.{Class}
 use Rattle.pieces.specs.declared.bytes.Class.the-variants.{Gap, Single, Quote, Word, Operator, Unclassed}
 use Rattle.pieces.specs.Class.{class, digit, isWord, isOperator}
-use Rattle.pieces.specs.Reading.{Reading, done, refused, piece, peek, read, reading, ReadsWhole}
-use Rattle.pieces.proofs.Whole.{Left, clear, shut, afterWord, afterNumber, afterOperator, leaves, leftBy, Undigit, Apart, Operators, whole-operators}
+use Rattle.pieces.specs.Reading.{Reading, done, refused, piece, peek, read, reading}
+use Rattle.pieces.proofs.Whole.{Left, clear, shut, afterWord, afterNumber, afterOperator, leaves, leftBy, Undigit, Apart, ReadsWhole, Operators, whole-operators}
 use Rattle.pieces.proofs.Written.{apart-single}
 use Rattle.report.proofs.Logic.{impossible, impossible′, and-left, and-right, or-cases, or-left, or-right, split}
 use Rattle.push_token.specs.Emit.{spaceAfter}

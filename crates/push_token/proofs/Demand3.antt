@@ -18,7 +18,7 @@ use Rattle.pieces.proofs.Written.{Written, written-answer, written-pieces, writ
 use Rattle.push_token.specs.Act.{State}
 use Rattle.push_token.specs.Plain.{plain}
 use Rattle.push_token.specs.Layout.{Ended, finished, stopped, lay, Layout, bit, laidOut, unless, layout}
-use Rattle.push_token.specs.Demand3.{lexemesOf, lexemes, commasOf, IsPlain, textOf, ReadsBack, FirstHalf, SecondHalf}
+use Rattle.push_token.specs.Demand3.{lexemesOf, lexemes, commasOf, IsPlain, textOf, FirstHalf, SecondHalf}
 use Rattle.push_token.proofs.Walk.{Holds, lay-holds}
 
 -- the text of a layout holds the lexemes xs with the answer's commas

@@ -11,9 +11,8 @@ use Rattle.rows.specs.Token.{Token}
 use Rattle.lookahead.specs.Measure.{singleLineFrom}
 use Rattle.pieces.specs.declared.bytes.Class.the-variants.{Gap, Single}
 use Rattle.pieces.specs.Class.{class}
-use Rattle.pieces.specs.Reading.{ReadsWhole}
 use Rattle.pieces.specs.Commas.{closer}
-use Rattle.pieces.proofs.Whole.{Left, clear, leftBy, Apart}
+use Rattle.pieces.proofs.Whole.{Left, clear, leftBy, Apart, ReadsWhole}
 use Rattle.pieces.proofs.Segments.{Gaps, afterGap}
 use Rattle.pieces.proofs.Written.{Written, apart-single, written-gap, written-lexeme, written-comma}
 use Rattle.report.proofs.Logic.{either}

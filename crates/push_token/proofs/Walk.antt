@@ -19,7 +19,7 @@ use Rattle.push_token.specs.Emit.{isSome}
 use Rattle.push_token.specs.PushToken.{turn, begun}
 use Rattle.push_token.specs.Plain.{isMute, plain}
 use Rattle.push_token.specs.Layout.{Ended, finished, stopped, checked, layFrom, lay}
-use Rattle.push_token.specs.Demand3.{whenWritten, lexemesOf}
+use Rattle.push_token.specs.Demand3.{lexemesOf}
 use Rattle.push_token.proofs.PlainScan.{Seen, unseen, see, fits, plainFrom, plain-scan}
 use Rattle.push_token.proofs.Inv.{free, Wrote, Kept, Inv}
 use Rattle.push_token.proofs.Turn.{own, turn-keeps}

@@ -9,14 +9,15 @@ use types.Run.{OneOf, miss}
 use Rattle.report.specs.Report.{Report, accepted}
 use Rattle.pieces.specs.Answer.{readAnswer, readSlots}
 use Rattle.push_token.specs.Layout.{Layout, layout}
-use Rattle.push_token.specs.Demand3.{lexemes, textOf, ReadsBack}
+use Rattle.push_token.specs.Demand3.{lexemes, textOf, ReadsBack, FirstHalfOf}
 use Rattle.push_token.proofs.Laid.{layout-fits}
 use Rattle.push_token.proofs.Demand3.{first-half}
 use Rattle.format_tokens.specs.declared.Answer.{Answer}
 use Rattle.format_tokens.specs.declared.Answer.the-variants.{Text, BadOption, RaggedRows, BadRow, Deep, Full}
 use Rattle.format_tokens.specs.Answer.{reported}
 use Rattle.format_tokens.proofs.Answer.{the-type}
-use Rattle.read_back.specs.ReadBack.{seen, Fits, readBackAnswer, readBackSlots, CameBack, FirstHalfOf}
+use Rattle.read_back.specs.ReadBack.{seen, readBackAnswer, readBackSlots}
+use Rattle.read_back.specs.Steps.{Fits}
 
 -- ---- the layout's answer, as the code tells its cases apart
 
@@ -43,7 +44,7 @@ module _ (l : Layout) (e : l .report .refusal ≡ 0) where
   unfolding readBackSlots
   text-slots space = rw e
 
-  came-back : {xs : List (List ℕ)} {read : Report} (space : List ℕ) {slots : List ℕ} → read ≡ readBackAnswer l (length space) → slots ≡ readBackSlots l space → ReadsBack l xs space → CameBack xs l read slots
+  came-back : {xs : List (List ℕ)} {read : Report} (space : List ℕ) {slots : List ℕ} → read ≡ readBackAnswer l (length space) → slots ≡ readBackSlots l space → ReadsBack xs l (readAnswer (textOf l) (length space)) (readSlots (textOf l) space) → ReadsBack xs l read slots
   came-back space a s β = record { answer = a ∙ text-answer (length space) ∙ β .answer; pieces = rw (s ∙ text-slots space) (β .pieces) }
 
 -- ---- the call: its answer and its output are the layout's

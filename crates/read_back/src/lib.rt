@@ -4,10 +4,11 @@ use pieces::read_pieces;
 ghost use mathlib.Core.Path.{_≡_};
 ghost use lib.ListN.{length};
 ghost use Rattle.push_token.specs.Layout.{layout};
-ghost use Rattle.push_token.specs.Demand3.{lexemes};
+ghost use Rattle.push_token.specs.Demand3.{lexemes, FirstHalfOf};
 ghost use Rattle.format_tokens.specs.Answer as Laid;
 ghost use Rattle.pieces.specs.Answer as Read;
-ghost use Rattle.read_back.specs.ReadBack.{seen, readBackAnswer, readBackSlots, Fits, FirstHalfOf};
+ghost use Rattle.read_back.specs.ReadBack.{seen, readBackAnswer, readBackSlots};
+ghost use Rattle.read_back.specs.Steps.{Fits};
 
 // What the layout answers, and what reading its text answers: after a refusal nothing is read, and `read` is `Pieces(0)`.
 pub struct ReadBack {

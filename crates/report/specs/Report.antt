@@ -1,10 +1,10 @@
 -- Document 01's table of refusals, and what a call answers in its terms.
 -- Assumes nothing.
 use mathlib.Core.Bool.{Bool}
-use mathlib.Core.List.{List}
+use mathlib.Core.List.{List, _++_}
 use Prim.Native.Nat.{ℕ}
 use lib.Dec.{eqb}
-use lib.ListN.{length, replicate}
+use lib.ListN.{length, drop, replicate}
 
 -- The refusals' numbers, under the table's names.
 abbrev pub option : ℕ
@@ -59,3 +59,7 @@ accepted r = eqb (r .refusal) 0
 -- A lent slice after a refusal that changes it: every place is 0.
 abbrev pub zeroed : List ℕ → List ℕ
 zeroed xs = replicate (length xs) 0
+
+-- A lent slice xs with the result ns put first; what lies past it is unchanged.
+abbrev pub putFirst : List ℕ → List ℕ → List ℕ
+putFirst ns xs = ns ++ drop (length ns) xs

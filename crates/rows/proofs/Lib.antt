@@ -2,3 +2,4 @@ pub mod RowList
 pub mod Checking
 pub mod Sound
 pub mod Passed
+pub mod Reported

@@ -1,14 +1,13 @@
 -- What is answered before a layout: refusals 1, 2 and 3 in that order (document 01's table).
 -- Assumes nothing.
-use mathlib.Core.Bool.{Bool, true, false, cond}
+use mathlib.Core.Bool.{cond}
 use mathlib.Core.List.{List}
 use mathlib.Core.Option.{Option, none, some}
 use Prim.Native.Nat.{ℕ}
 use Rattle.report.specs.Report.{Report, success, refuse, option, raggedRows, badRow}
 use Rattle.rows.specs.declared.Checked.{Checked}
 use Rattle.rows.specs.declared.Checked.the-variants.{Good, BadOption, Ragged, BadRow}
-use Rattle.rows.specs.declared.Row.{}
-use Rattle.rows.specs.Row.{Row, rowsOf}
+use Rattle.rows.specs.Row.{rowsOf}
 use Rattle.rows.specs.Options.{badOption}
 use Rattle.rows.specs.Checks.{ragged, atStart, badFrom}
 
@@ -35,9 +34,3 @@ rowsReport rows size = cond (ragged rows) (refuse raggedRows 0) (eachRowReport r
 -- Refusals 1, 2 and 3 in that order: the options, the rows and the text's size.
 unfoldable pub checkReport : ℕ → ℕ → ℕ → ℕ → List ℕ → ℕ → Report
 checkReport style indent signature list rows size = refuseOr option (badOption style indent signature list) (rowsReport rows size)
-
--- ---- rows in code
-
--- the row that a `Row` of the code is
-abbrev pub rowOf : Rattle.rows.specs.declared.Row.Row → Row
-rowOf r = record { what = r .what; kind = r .kind; start = r .start; end = r .end }

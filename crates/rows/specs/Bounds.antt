@@ -1,9 +1,14 @@
--- Rows whose bytes lie in a text: what those who walk checked rows go by.
+-- Rows in code, and rows whose bytes lie in a text: what those who walk checked rows go by.
 -- Assumes nothing.
 use mathlib.Core.List.{List, [], _∷_}
 use Prim.Native.Nat.{ℕ, _≤_}
 use lib.ListN.{length}
+use Rattle.rows.specs.declared.Row.{}
 use Rattle.rows.specs.Row.{Row}
+
+-- the row that a `Row` of the code is
+abbrev pub rowOf : Rattle.rows.specs.declared.Row.Row → Row
+rowOf r = record { what = r .what; kind = r .kind; start = r .start; end = r .end }
 
 pub record Inside (text : List ℕ) (r : Row) : Type 0 where
   pub ordered : r .start ≤ r .end

@@ -1,4 +1,4 @@
--- `FormatOptions`, with document 01's bounds and defaults, and refusal 1.
+-- `FormatOptions`, with document 01's bounds, and refusal 1.
 -- Assumes nothing.
 use mathlib.Core.Bool.{Bool, true, false, cond}
 use mathlib.Core.Option.{Option, none, some}
@@ -13,9 +13,6 @@ pub record Options : Type 0 where
   pub indentWidth : ℕ
   pub fnSigWidth : ℕ
   pub listWidth : ℕ
-
-abbrev pub defaults : Options
-defaults = record { braceStyle = Allman; indentWidth = 4; fnSigWidth = 40; listWidth = 40 }
 
 -- style 0 is SameLine, 1 Allman
 abbrev pub optionsOf : ℕ → ℕ → ℕ → ℕ → Options

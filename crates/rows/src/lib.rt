@@ -7,7 +7,8 @@ ghost use lib.Dec.{ltb};
 ghost use lib.ListN.{length};
 ghost use Rattle.rows.specs.Row.{number, rowAt, rowsOf};
 ghost use Rattle.rows.specs.Checks.{mayTrail, badRow, atStart, after, badFrom};
-ghost use Rattle.rows.specs.Answer.{reported, checkReport, rowsReport, eachRowReport, rowOf};
+ghost use Rattle.rows.specs.Bounds.{rowOf};
+ghost use Rattle.rows.specs.Answer.{reported, checkReport, rowsReport, eachRowReport};
 
 pub mod kinds;
 

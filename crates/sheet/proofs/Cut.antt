@@ -10,18 +10,19 @@ use lib.ListN.{length, getD, drop, drop-of-length-le}
 use lib.Seq.{drop-cons}
 use borrow.Author.Tests.{ne-eqb}
 use Rattle.report.proofs.Logic.{split}
-use Rattle.sheet.specs.Line.{lineFeed, putBefore, lines}
+use Rattle.report.specs.Bytes.{byte}
+use Rattle.sheet.specs.Line.{putBefore, lines}
 use Rattle.sheet.specs.Steps.{firstLine, behindLine, lineAt, behindAt}
 
 -- the lines of a sheet that has a byte
 lines-first : (b : ℕ) (t : List ℕ) → lines (b ∷ t) ≡ firstLine (b ∷ t) ∷ lines (behindLine (b ∷ t))
 unfolding lines
-lines-first b [] = split (eqb b lineFeed) (λ e. rw e) (λ e. rw e)
-lines-first b (c ∷ t) = split (eqb b lineFeed) (λ e. rw e) (λ e. rw e (ap (putBefore b) (lines-first c t)))
+lines-first b [] = split (eqb b (byte "\n")) (λ e. rw e) (λ e. rw e)
+lines-first b (c ∷ t) = split (eqb b (byte "\n")) (λ e. rw e) (λ e. rw e (ap (putBefore b) (lines-first c t)))
 
 pub line-short : (s : List ℕ) → length (firstLine s) ≤ length s
 line-short [] = omega arith
-line-short (b ∷ t) = split (eqb b lineFeed) (λ e. rw e (omega arith)) (λ e. rw e (let h = line-short t in omega arith))
+line-short (b ∷ t) = split (eqb b (byte "\n")) (λ e. rw e (omega arith)) (λ e. rw e (let h = line-short t in omega arith))
 
 module _ (sheet : List ℕ) (i : ℕ) where
   pub line-none : length sheet ≤ i → lineAt sheet i ≡ []
@@ -34,7 +35,7 @@ module _ (sheet : List ℕ) (i : ℕ) where
     pub lines-at : lines (drop i sheet) ≡ lineAt sheet i ∷ lines (behindAt sheet i)
     lines-at = rw here (lines-first (getD sheet i 0) (drop (i + 1) sheet))
 
-    pub line-here : lineAt sheet i ≡ getD sheet i 0 ∷ cond (eqb (getD sheet i 0) lineFeed) [] (lineAt sheet (i + 1))
+    pub line-here : lineAt sheet i ≡ getD sheet i 0 ∷ cond (eqb (getD sheet i 0) (byte "\n")) [] (lineAt sheet (i + 1))
     line-here = rw here
 
     pub line-more : (getD sheet i 0 ≡ 10 → ⊥) → lineAt sheet i ≡ getD sheet i 0 ∷ lineAt sheet (i + 1)

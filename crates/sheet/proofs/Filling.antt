@@ -8,7 +8,7 @@ use lib.Dec.{leb}
 use lib.ListN.{length, drop, length-append, length-drop, drop-of-length-le}
 use lib.Seq.{sets, sets-eq, take-at, drop-append-add, drop-drop}
 use borrow.Author.Tests.{leb-true}
-use Rattle.report.specs.Report.{refuse, zeroed, badLine, sheetFull}
+use Rattle.report.specs.Report.{refuse, zeroed, putFirst, badLine, sheetFull}
 use Rattle.report.proofs.Logic.{and-left, and-right}
 use Rattle.sheet.specs.declared.Answer.{Answer}
 use Rattle.sheet.specs.declared.Answer.the-variants.{Read, NoNames, BadLine, SheetFull}
@@ -16,7 +16,7 @@ use Rattle.sheet.specs.declared.Step.{Step}
 use Rattle.sheet.specs.declared.Step.the-variants.{Row, Bad, Full}
 use Rattle.sheet.specs.Line.{names, begins, lines, bad, lineOf}
 use Rattle.sheet.specs.Row.{rowBytes}
-use Rattle.sheet.specs.Answer.{reported, Reading, done, refused, fits, readLine, readLines, reading, answerOf, sheetAnswer, putFirst, rowsOf, textsOf, sheetRows, sheetText}
+use Rattle.sheet.specs.Answer.{reported, Reading, done, refused, fits, readLine, readLines, reading, answerOf, sheetAnswer, rowsOf, textsOf, sheetRows, sheetText}
 use Rattle.sheet.specs.Steps.{lineAt, behindAt, Stored, Unfit, StepAt}
 use Rattle.sheet.proofs.Cut.{lines-at}
 

@@ -6,3 +6,4 @@ pub mod Scanning
 pub mod Stepping
 pub mod Filling
 pub mod Written
+pub mod Reported

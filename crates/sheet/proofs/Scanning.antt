@@ -6,7 +6,7 @@ use Prim.Native.Nat.{ℕ, _+_, _≤_, _<_}
 use native.Mathlib.Omega.{arith}
 use lib.ListN.{length, getD}
 use borrow.Author.Tests.{ne-eqb}
-use Rattle.sheet.specs.Line.{Text, wrong, bytes, withByte, textOf}
+use Rattle.sheet.specs.Line.{Text, wrong, right, withByte, textOf}
 use Rattle.sheet.specs.Steps.{lineAt, behindAt, Writes, EscapeAt, Texted}
 use Rattle.sheet.proofs.Cut.{line-none, line-here, line-more, behind-more, behind-feed}
 use Rattle.sheet.proofs.Writing.{writes-none, writes-then}
@@ -19,7 +19,7 @@ bytes-then : (bs : List ℕ) (b : ℕ) (t : Text) → withBytes bs (withByte b t
 bytes-then [] b t = refl
 bytes-then (c ∷ bs) b t = rw (bytes-then bs b t)
 
-bytes-end : (bs : List ℕ) → withBytes bs (bytes []) ≡ bytes bs
+bytes-end : (bs : List ℕ) → withBytes bs (right []) ≡ right bs
 bytes-end [] = refl
 bytes-end (b ∷ bs) = rw (bytes-end bs)
 

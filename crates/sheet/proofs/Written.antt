@@ -1,21 +1,41 @@
--- The lines that keep their form are those of a row with what 0–2 and kind 0–34. Assumes nothing.
-use mathlib.Core.Bool.{Bool, true, false}
+-- The lines that keep the form of specs/Line.antt are those written here, with what 0–2 and kind 0–34, and each reads as its row.
+-- Assumes nothing.
+use mathlib.Core.Bool.{Bool, true, false, cond}
 use mathlib.Core.List.{List, [], _∷_, _++_}
 use mathlib.Core.Path.{_≡_, refl, ap, _∙_}
 use Prim.Native.Nat.{ℕ, _+_, _-_, _*_, _/_, _%_, _≤_, _<_}
 use native.Mathlib.Omega.{arith}
 use lib.Dec.{eqb, leb, ltb}
 use borrow.Author.Tests.{eqb-true, ne-eqb, le-leb, leb-true, lt-ltb, le-ltb, ltb-true, ltb-false}
+use Rattle.report.specs.Bytes.{byte, bytes, lineFeed, space}
 use Rattle.report.proofs.Logic.{split}
 use Rattle.report.proofs.Below.{below}
-use Rattle.sheet.specs.Line.{bad, row, Text, wrong, bytes, withByte, textOf, rowOf, spaceAndText, isDigit, isSecond, kindFrom, kindAndText, spaceAndKind, whatOf, lineOf}
+use Rattle.sheet.specs.Line.{bad, row, Text, wrong, right, withByte, textOf, rowOf, spaceAndText, isDigit, isSecond, kindFrom, kindAndText, spaceAndKind, whatOf, lineOf}
 use Rattle.sheet.specs.Steps.{firstLine}
-use Rattle.sheet.specs.Written.{whatByte, decimal, escaped, written}
 use Rattle.sheet.proofs.Form.{digit-low, digit-high, second-digit, second-some, second-small, digit-solid, what-solid}
+
+-- ---- a row as a line of a sheet (document 01, 'Around the call')
+
+-- what 0, 1, 2 as `L`, `T`, `R`
+abbrev pub whatByte : ℕ → ℕ
+whatByte what = cond (eqb what 0) (byte "L") (cond (eqb what 1) (byte "T") (byte "R"))
+
+-- a number below 100 in decimal without leading zeros
+abbrev pub decimal : ℕ → List ℕ
+decimal k = cond (ltb k 10) ((byte "0" + k) ∷ []) ((byte "0" + k / 10) ∷ (byte "0" + k % 10) ∷ [])
+
+-- byte 10 as `\n`, a backslash as `\\`
+abbrev pub escaped : List ℕ → List ℕ
+escaped [] = []
+escaped (b ∷ t) = cond (eqb b (byte "\n")) (bytes "\\n" ++ escaped t) (cond (eqb b (byte "\\")) (bytes "\\\\" ++ escaped t) (b ∷ escaped t))
+
+-- The line of a row.
+abbrev pub written : ℕ → ℕ → List ℕ → List ℕ
+written what kind bs = whatByte what ∷ space ++ (decimal kind ++ (space ++ (escaped bs ++ lineFeed)))
 
 -- ---- a written line reads as its row
 
-text-read : (bs : List ℕ) → textOf false (escaped bs ++ (10 ∷ [])) ≡ bytes bs
+text-read : (bs : List ℕ) → textOf false (escaped bs ++ (10 ∷ [])) ≡ right bs
 unfolding textOf
 text-read [] = refl
 text-read (b ∷ t) =
@@ -51,12 +71,12 @@ impossible-row e = let z : _≡_ {A = ℕ} 0 1 = cc in absurd (omega arith)
 -- a text of one byte more
 record Longer (b : ℕ) (x : Text) (bs : List ℕ) : Type 0 where
   cs : List ℕ
-  rest : x ≡ bytes cs
+  rest : x ≡ right cs
   whole : bs ≡ b ∷ cs
 
-longer : (b : ℕ) (x : Text) {bs : List ℕ} → withByte b x ≡ bytes bs → Longer b x bs
+longer : (b : ℕ) (x : Text) {bs : List ℕ} → withByte b x ≡ right bs → Longer b x bs
 longer b wrong e = let z : _≡_ {A = ℕ} 0 1 = cc in absurd (omega arith)
-longer b (bytes cs) e = record { cs = cs; rest = refl; whole = cc }
+longer b (right cs) e = record { cs = cs; rest = refl; whole = cc }
 
 abbrev withBackslash : Bool → List ℕ → List ℕ
 withBackslash true l = 92 ∷ l
@@ -65,7 +85,7 @@ withBackslash false l = l
 plain-written : (b : ℕ) (cs : List ℕ) {l bs : List ℕ} → eqb b 10 ≡ false → eqb b 92 ≡ false → bs ≡ b ∷ cs → l ≡ escaped cs ++ (10 ∷ []) → b ∷ l ≡ escaped bs ++ (10 ∷ [])
 plain-written b cs q r e h = rw (e, q, r) (ap (λ l. b ∷ l) h)
 
-text-written : (s : List ℕ) (f : Bool) (bs : List ℕ) → textOf f (firstLine s) ≡ bytes bs → withBackslash f (firstLine s) ≡ escaped bs ++ (10 ∷ [])
+text-written : (s : List ℕ) (f : Bool) (bs : List ℕ) → textOf f (firstLine s) ≡ right bs → withBackslash f (firstLine s) ≡ escaped bs ++ (10 ∷ [])
 unfolding textOf
 text-written [] false bs e = let z : _≡_ {A = ℕ} 0 1 = cc in absurd (omega arith)
 text-written [] true bs e = let z : _≡_ {A = ℕ} 0 1 = cc in absurd (omega arith)
@@ -93,9 +113,9 @@ what-written b h =
 
 module _ {w k : ℕ} {bs : List ℕ} where
   -- what a row is made of
-  row-made : (what kind : ℕ) (x : Text) → rowOf what kind x ≡ row w k bs → (what ≡ w) × (kind ≡ k) × (x ≡ bytes bs)
+  row-made : (what kind : ℕ) (x : Text) → rowOf what kind x ≡ row w k bs → (what ≡ w) × (kind ≡ k) × (x ≡ right bs)
   row-made what kind wrong e = impossible-row e
-  row-made what kind (bytes cs) e = (cc, cc, cc)
+  row-made what kind (right cs) e = (cc, cc, cc)
 
   space-written : (what kind : ℕ) (s : List ℕ) → spaceAndText what kind (firstLine s) ≡ row w k bs → (what ≡ w) × (kind ≡ k) × (firstLine s ≡ 32 ∷ (escaped bs ++ (10 ∷ [])))
   space-written what kind [] e = impossible-row e

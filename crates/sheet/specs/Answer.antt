@@ -5,7 +5,7 @@ use mathlib.Core.List.{List, [], _∷_, _++_}
 use Prim.Native.Nat.{ℕ, _+_, _*_}
 use lib.Dec.{leb}
 use lib.ListN.{length, drop}
-use Rattle.report.specs.Report.{Report, success, refuse, zeroed, noNames, badLine, sheetFull}
+use Rattle.report.specs.Report.{Report, success, refuse, zeroed, putFirst, noNames, badLine, sheetFull}
 use Rattle.sheet.specs.declared.Answer.{Answer}
 use Rattle.sheet.specs.declared.Answer.the-variants.{Read, NoNames, BadLine, SheetFull}
 use Rattle.sheet.specs.Line.{names, begins, lines, Line, bad, row, lineOf}
@@ -52,10 +52,6 @@ answerOf (refused number line) = refuse number line
 -- The answer to a sheet.
 unfoldable pub sheetAnswer : List ℕ → ℕ → ℕ → Report
 sheetAnswer sheet rowSpace textSpace = cond (begins names sheet) (answerOf (reading sheet rowSpace textSpace)) (refuse noNames 0)
-
--- xs with the bytes bs put first
-abbrev pub putFirst : List ℕ → List ℕ → List ℕ
-putFirst bs xs = bs ++ drop (length bs) xs
 
 abbrev pub rowsOf : Reading → List ℕ → List ℕ
 rowsOf (done n rows text) xs = putFirst rows xs

@@ -2,4 +2,3 @@ pub mod Line
 pub mod Row
 pub mod Answer
 pub mod Steps
-pub mod Written

@@ -7,24 +7,25 @@ use Prim.Native.Nat.{ℕ, _+_, _*_, _≤_, _<_}
 use lib.Dec.{eqb}
 use lib.ListN.{length, drop}
 use lib.Seq.{sets}
+use Rattle.report.specs.Bytes.{byte}
 use Rattle.sheet.specs.declared.Step.{Step}
 use Rattle.sheet.specs.declared.Step.the-variants as step
 use Rattle.sheet.specs.declared.line.Head.{Head}
 use Rattle.sheet.specs.declared.line.Head.the-variants as head
 use Rattle.sheet.specs.declared.line.Text.{Text}
 use Rattle.sheet.specs.declared.line.Text.the-variants as text-read
-use Rattle.sheet.specs.Line.{lineFeed, Line, bad, row, wrong, bytes, withByte, textOf, rowOf, lineOf}
+use Rattle.sheet.specs.Line.{Line, bad, row, wrong, right, withByte, textOf, rowOf, lineOf}
 use Rattle.sheet.specs.Row.{rowBytes}
 use Rattle.sheet.specs.Answer.{fits}
 
 -- the first line of the bytes, and what stands behind it
 abbrev pub firstLine : List ℕ → List ℕ
 firstLine [] = []
-firstLine (b ∷ t) = b ∷ cond (eqb b lineFeed) [] (firstLine t)
+firstLine (b ∷ t) = b ∷ cond (eqb b (byte "\n")) [] (firstLine t)
 
 abbrev pub behindLine : List ℕ → List ℕ
 behindLine [] = []
-behindLine (b ∷ t) = cond (eqb b lineFeed) t (behindLine t)
+behindLine (b ∷ t) = cond (eqb b (byte "\n")) t (behindLine t)
 
 -- the sheet's line from an index on
 abbrev pub lineAt : List ℕ → ℕ → List ℕ
@@ -60,7 +61,7 @@ pub record EscapeAt (sheet : List ℕ) (i b : ℕ) : Type 0 where
 -- The text from an index on has been written, and the next line starts at `next`.
 pub record Texted (sheet : List ℕ) (from : ℕ) (text : List ℕ) (len next end : ℕ) (text′ : List ℕ) : Type 0 where
   pub bs : List ℕ
-  pub says : textOf false (lineAt sheet from) ≡ bytes bs
+  pub says : textOf false (lineAt sheet from) ≡ right bs
   pub behind : behindAt sheet from ≡ drop next sheet
   pub after : from < next
   pub within : next ≤ length sheet

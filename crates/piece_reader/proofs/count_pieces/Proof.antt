@@ -49,7 +49,8 @@ use Rattle.pieces.proofs.Next.Laws as N′
 use Rattle.pieces.specs.declared.Answer.{Answer}
 use Rattle.pieces.specs.declared.Next.{Next}
 use Rattle.pieces.specs.Answer.{reported}
-use Rattle.piece_reader.specs.Reader.{found, pieceEnd, advanced, counted, countAnswer}
+use Rattle.piece_reader.specs.Reader.{found, advanced, countAnswer}
+use Rattle.piece_reader.specs.Steps.{pieceEnd, counted}
 use Rattle.piece_reader.specs.declared.PieceReader.{PieceReader}
 use Rattle.piece_reader.proofs.Counting.{Counts, start, end-within, more, over}
 use Rattle.piece_reader.proofs.Held.{reader, type, laws, told, tests}

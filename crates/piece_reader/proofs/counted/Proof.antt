@@ -1,7 +1,7 @@
 -- `piece_reader::counted` meets its contract. Assumes nothing.
 use mathlib.Core.Path.{sym, ap}
 use borrow.Author.Needs.{needs}
-use Rattle.piece_reader.specs.Reader.{counted}
+use Rattle.piece_reader.specs.Steps.{counted}
 use Rattle.piece_reader.proofs.counted.Statement.{statement}
 use Rattle.piece_reader.proofs.counted.Tie as tie
 

@@ -9,7 +9,7 @@ use borrow.Author.Needs.{needs}
 use Rattle.rows.specs.Kinds.{Leading, TokenRow, Trailing, BlankLine}
 use Rattle.rows.specs.Row.{Row}
 use Rattle.rows.specs.Checks.{topKind, mayTrail, after}
-use Rattle.rows.specs.Answer.{rowOf}
+use Rattle.rows.specs.Bounds.{rowOf}
 use Rattle.rows.proofs.Sound.{misnamed, token-bad}
 use Rattle.rows.proofs.is_bad.Statement.{statement}
 use Rattle.rows.proofs.is_bad.Tie as tie

@@ -1,7 +1,7 @@
 -- `doors::fill::put_report` meets its contract. Assumes nothing.
 use mathlib.Core.Path.{refl, _∙_}
 use borrow.Author.Needs.{needs}
-use Rattle.doors.specs.Bytes.{reportOf}
+use Rattle.doors.specs.Steps.{reportOf}
 use Rattle.doors.proofs.Bytes.{report-stored}
 use Rattle.doors.proofs.fill.put_report.Statement.{statement}
 use Rattle.doors.proofs.fill.put_report.Tie as tie

@@ -2,7 +2,7 @@
 use mathlib.Core.Path.{refl}
 use borrow.Author.Needs.{needs}
 use Rattle.push_token.specs.Act.{run}
-use Rattle.rows.specs.Answer.{rowOf}
+use Rattle.rows.specs.Bounds.{rowOf}
 use Rattle.fields.proofs.Comments.{blank-row, lead-comment}
 use Rattle.fields.proofs.Does.{does-then}
 use Rattle.sink.proofs.Sink.{andThen}

@@ -1,7 +1,7 @@
 -- `fields::Fields::push_trail` meets its contract. Assumes nothing.
 use mathlib.Core.Path.{refl}
 use borrow.Author.Needs.{needs}
-use Rattle.rows.specs.Answer.{rowOf}
+use Rattle.rows.specs.Bounds.{rowOf}
 use Rattle.fields.proofs.Comments.{blank-row, trail-comment}
 use Rattle.fields.proofs.Does.{stays}
 use Rattle.fields.proofs.Fields.push_trail.Statement.{statement}

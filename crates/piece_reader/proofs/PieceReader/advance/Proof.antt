@@ -36,7 +36,7 @@ use denote.Triple.Spec.{Meets, tripleOf}
 use denote.Triple.Table.{entered, cited}
 use denote.Triple.Walked.{says, Stays, stay-dropped, walkOf, goes-dropped, ends-at, walked, walk-meets}
 use denote.Exit.{yes}
-use Rattle.piece_reader.specs.Reader.{pieceEnd}
+use Rattle.piece_reader.specs.Steps.{pieceEnd}
 use Rattle.piece_reader.specs.declared.PieceReader.{PieceReader}
 use Rattle.piece_reader.proofs.Held.{reader, type, laws, apart, told}
 use Rattle.piece_reader.proofs.PieceReader.Laws.{lowered, the-copy}

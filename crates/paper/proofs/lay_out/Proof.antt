@@ -1,9 +1,9 @@
--- `layout::lay_out` meets its contract. Assumes nothing.
+-- `paper::lay_out` meets its contract. Assumes nothing.
 use mathlib.Core.Path.{sym}
 use lib.Seq.{length-take-le}
 use borrow.Author.Needs.{needs}
-use Rattle.layout.proofs.lay_out.Statement.{statement}
-use Rattle.layout.proofs.lay_out.Tie as tie
+use Rattle.paper.proofs.lay_out.Statement.{statement}
+use Rattle.paper.proofs.lay_out.Tie as tie
 
 returns : tie.Need-returns
 returns c = search needs

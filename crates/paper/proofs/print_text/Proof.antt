@@ -1,9 +1,9 @@
--- `layout::print_text` meets its contract. Assumes nothing.
+-- `paper::print_text` meets its contract. Assumes nothing.
 use mathlib.Core.Path.{sym}
 use lib.Seq.{length-take-le}
 use borrow.Author.Needs.{needs}
-use Rattle.layout.proofs.print_text.Statement.{statement}
-use Rattle.layout.proofs.print_text.Tie as tie
+use Rattle.paper.proofs.print_text.Statement.{statement}
+use Rattle.paper.proofs.print_text.Tie as tie
 
 returns : tie.Need-returns
 returns c = search needs

@@ -1,0 +1,74 @@
+// Sheets on paper (document 01): what the program `layout` does with a sheet on standard input.
+use format_tokens::Answer;
+use format_tokens::format_tokens_with;
+use libc::STDIN_FILENO;
+use libc::STDOUT_FILENO;
+
+// Reads a sheet, lays it out with the default options and writes the answer and the text.
+pub fn lay_out_sheet() {
+    let mut sheet = io::large_buffer();
+    let mut rows = io::large_buffer();
+    let mut text = io::large_buffer();
+    let mut out = io::large_buffer();
+    run(&mut sheet, &mut rows, &mut text, &mut out);
+}
+
+fn run(sheet: &mut [u8], rows: &mut [u8], text: &mut [u8], out: &mut [u8]) {
+    let size = io::read_full(STDIN_FILENO, sheet);
+    if sheet.len() < size {
+        return;
+    }
+    match sheet::read_sheet(&sheet[..size], rows, text) {
+        sheet::Answer::Read(count, text_bytes) => lay_out(rows, count, text, text_bytes, out),
+        sheet::Answer::NoNames => print_refusal(6, 0),
+        sheet::Answer::BadLine(line) => print_refusal(7, line as u64),
+        sheet::Answer::SheetFull(line) => print_refusal(8, line as u64),
+    }
+}
+
+// The sheet's rows and text, by the default options: Allman, 4, 40, 40. The sheet reader's counts lie in its slices.
+fn lay_out(rows: &[u8], count: usize, text: &[u8], text_bytes: usize, out: &mut [u8]) {
+    if rows.len() / 16 < count {
+        return;
+    }
+    if text.len() < text_bytes {
+        return;
+    }
+    let answer = format_tokens_with(1, 4, 40, 40, &rows[..16 * count], &text[..text_bytes], out);
+    print_answer(answer, out);
+}
+
+fn print_answer(answer: Answer, out: &[u8]) {
+    match answer {
+        Answer::Text(length, commas, plain) => print_text(length, commas, plain, out),
+        Answer::BadOption(place) => print_refusal(1, place as u64),
+        Answer::RaggedRows => print_refusal(2, 0),
+        Answer::BadRow(place) => print_refusal(3, place as u64),
+        Answer::Deep(place) => print_refusal(4, place as u64),
+        Answer::Full(place) => print_refusal(5, place as u64),
+    }
+}
+
+fn print_text(length: usize, commas: usize, plain: bool, out: &[u8]) {
+    if out.len() < length {
+        return;
+    }
+    io::write_all(STDOUT_FILENO, b"length commas plain\n");
+    io::print_decimal(STDOUT_FILENO, length as u64);
+    io::write_all(STDOUT_FILENO, b" ");
+    io::print_decimal(STDOUT_FILENO, commas as u64);
+    if plain {
+        io::write_all(STDOUT_FILENO, b" 1\n");
+    } else {
+        io::write_all(STDOUT_FILENO, b" 0\n");
+    }
+    io::write_all(STDOUT_FILENO, &out[..length]);
+}
+
+fn print_refusal(refusal: u64, place: u64) {
+    io::write_all(STDOUT_FILENO, b"refusal place\n");
+    io::print_decimal(STDOUT_FILENO, refusal);
+    io::write_all(STDOUT_FILENO, b" ");
+    io::print_decimal(STDOUT_FILENO, place);
+    io::write_all(STDOUT_FILENO, b"\n");
+}

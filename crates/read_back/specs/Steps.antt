@@ -1,0 +1,11 @@
+-- What laying out promises to reading back.
+-- Assumes nothing.
+use mathlib.Core.Path.{_≡_}
+use Prim.Native.Nat.{_≤_}
+use lib.ListN.{length}
+use Rattle.push_token.specs.Layout.{Layout}
+use Rattle.push_token.specs.Demand3.{lengthOf}
+
+-- the text, where there is one, lies in the output
+abbrev pub Fits : Layout → Type 0
+Fits l = l .report .refusal ≡ 0 → lengthOf l ≤ length (l .out)
