@@ -1,24 +1,21 @@
 -- The layout's answer, from the checks and the walk. Assumes nothing.
-use mathlib.Core.Bool.{Bool, true, false, cond, _||_}
+use mathlib.Core.Bool.{Bool, true, _||_}
 use mathlib.Core.List.{List, _++_}
-use mathlib.Core.Option.{Option, none, some}
 use mathlib.Core.Path.{_≡_, refl, sym, ap, subst, _∙_}
 use Prim.Native.Nat.{ℕ}
 use native.Mathlib.Omega.{arith}
 use lib.Dec.{eqb}
 use lib.ListN.{length, drop, replicate}
-use borrow.Author.Tests.{eqb-true}
-use Rattle.report.specs.Report.{Report, success, refuse, zeroed, option, raggedRows, badRow, deep, full}
+use borrow.Author.Tests.{eqb-true, ne-eqb}
+use Rattle.report.specs.Report.{Report, success, refuse, zeroed, deep, full}
 use Rattle.report.proofs.Logic.{split}
-use Rattle.rows.specs.Row.{rowsOf}
-use Rattle.rows.specs.Options.{optionsOf, badOption, orElse}
-use Rattle.rows.specs.Checks.{ragged, atStart, badFrom}
-use Rattle.rows.specs.Answer.{refuseOr, eachRowReport, rowsReport, checkReport}
+use Rattle.rows.specs.Options.{optionsOf}
+use Rattle.rows.specs.Answer.{eachRowReport, rowsReport, checkReport}
 use Rattle.rows.specs.Token.{tokensOf}
 use Rattle.rows.proofs.Passed.{Passed, whole-rows, few-rows}
 use Rattle.push_token.specs.Act.{State}
 use Rattle.push_token.specs.Plain.{plain}
-use Rattle.push_token.specs.Layout.{bit, Ended, finished, stopped, lay, laidOut, unless, layout}
+use Rattle.push_token.specs.Layout.{bit, Ended, finished, stopped, lay, laidOut, layout}
 use Rattle.push_token.proofs.Laid.{sane, lay-sane}
 use Rattle.fields.specs.declared.Fields.{Fields}
 use Rattle.fields.specs.declared.Options as Declared
@@ -27,28 +24,19 @@ use Rattle.fields.specs.Pen.{on}
 use Rattle.walk.specs.declared.Walked.{Walked}
 use Rattle.walk.specs.declared.Walked.the-variants.{Finished, Deep, Full}
 use Rattle.walk.specs.Walk.{Walks, walkedOf, Laid}
-use Rattle.format_tokens.specs.Steps.{afterChecks}
+use Rattle.format_tokens.specs.Steps.{walkedLayout}
 
 -- ---- the checks
 
 module _ (style indent signature list : ℕ) (rows text out : List ℕ) where
   pub refused-layout : (checkReport style indent signature list rows (length text) .refusal ≡ 0 → ⊥)
       → layout style indent signature list rows text out ≡ record { report = checkReport style indent signature list rows (length text); out = out }
-  unfolding layout checkReport rowsReport eachRowReport
-  refused-layout n = options (badOption style indent signature list) (ragged rows) (badFrom (length text) atStart 0 (rowsOf rows)) n
-    where
-      options : (a : Option ℕ) (b : Bool) (c : Option ℕ)
-          → (refuseOr option a (cond b (refuse raggedRows 0) (refuseOr badRow c (success 0 0 0))) .refusal ≡ 0 → ⊥)
-          → unless option a out (unless raggedRows (orElse b 0 none) out (unless badRow c out (afterChecks (optionsOf style indent signature list) rows text out)))
-          ≡ record { report = refuseOr option a (cond b (refuse raggedRows 0) (refuseOr badRow c (success 0 0 0))); out = out }
-      options (some i) b c n = refl
-      options none true c n = refl
-      options none false (some i) n = refl
-      options none false none n = absurd (n refl)
+  unfolding layout
+  refused-layout n = rw (ne-eqb (checkReport style indent signature list rows (length text) .refusal) 0 n)
 
   module _ (π : Passed style indent signature list rows (length text)) where
-    pub passed-layout : layout style indent signature list rows text out ≡ afterChecks (optionsOf style indent signature list) rows text out
-    unfolding layout
+    pub passed-layout : layout style indent signature list rows text out ≡ walkedLayout (optionsOf style indent signature list) rows text out
+    unfolding layout checkReport rowsReport eachRowReport
     passed-layout = rw (π .options, π .even, π .each)
 
     pub passed-walks : Walks rows text

@@ -9,5 +9,5 @@ use Rattle.push_token.specs.Plain.{plain}
 use Rattle.push_token.specs.Layout.{Layout, lay, laidOut}
 
 -- the layout of rows that refusals 1, 2 and 3 let pass
-abbrev pub afterChecks : Options → List ℕ → List ℕ → List ℕ → Layout
-afterChecks o rows text out = laidOut (lay o (length out) (tokensOf rows text)) (plain (tokensOf rows text)) out
+abbrev pub walkedLayout : Options → List ℕ → List ℕ → List ℕ → Layout
+walkedLayout o rows text out = laidOut (lay o (length out) (tokensOf rows text)) (plain (tokensOf rows text)) out

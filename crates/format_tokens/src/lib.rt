@@ -33,7 +33,7 @@ ghost use Rattle.push_token.specs.Layout.{layout};
 ghost use Rattle.fields.specs.Pen.{optionsOf};
 ghost use Rattle.walk.specs.Walk.{Walks, Fresh};
 ghost use Rattle.format_tokens.specs.Answer.{reported};
-ghost use Rattle.format_tokens.specs.Steps.{afterChecks};
+ghost use Rattle.format_tokens.specs.Steps.{walkedLayout};
 
 // What a layout answers: length, inserted commas and plain, or a refusal with its place.
 pub enum Answer {
@@ -97,8 +97,8 @@ fn is_plain(rows: &[u8], text: &[u8]) -> bool
 fn lay_out(options: Options, rows: &[u8], text: &[u8], out: &mut [u8], mark: bool) -> Answer
     requires { ⌜ Walks (now rows) (now text) ⌝ }
     requires { ⌜ mark ≡ plain (tokensOf (now rows) (now text)) ⌝ }
-    ensures answer { λ r. ⌜ reported r ≡ afterChecks (optionsOf options) (now (rows .entry)) (now (text .entry)) (now (out .entry)) .report ⌝ }
-    ensures output { λ r. ⌜ now (out .exit) ≡ afterChecks (optionsOf options) (now (rows .entry)) (now (text .entry)) (now (out .entry)) .out ⌝ }
+    ensures answer { λ r. ⌜ reported r ≡ walkedLayout (optionsOf options) (now (rows .entry)) (now (text .entry)) (now (out .entry)) .report ⌝ }
+    ensures output { λ r. ⌜ now (out .exit) ≡ walkedLayout (optionsOf options) (now (rows .entry)) (now (text .entry)) (now (out .entry)) .out ⌝ }
 {
     let mut stack = [0; 64];
     match walk(formatter(options), out, &mut stack, rows, text, mark) {

@@ -13,6 +13,7 @@ use Rattle.rows.specs.Kinds.{TokenRow, Trailing, LineComment, Newline, LeftBrac
 use Rattle.rows.specs.Row.{firstRows, rowsOf}
 use Rattle.rows.specs.Options.{badOption}
 use Rattle.rows.specs.Checks.{badFrom}
+use Rattle.rows.specs.Answer.{eachRowReport, rowsReport, checkReport}
 use Rattle.rows.specs.Token.{trailingOf, tokensFrom, tokensOf}
 use Rattle.lookahead.specs.Measure.{anyComment, singleLineFrom, measureFrom, shouldBreakSig, shouldBreakList}
 use Rattle.pieces.specs.Class.{class}
@@ -145,7 +146,7 @@ cases =
     case 40 0 (name "x" ∷ openBracket ∷ name "a" ∷ comma ∷ name "b" ∷ comma ∷ newline ∷ newline ∷ closeBracket ∷ []) (shown "x[/____a,/____b,//,]") 1 1 ∷ []
 
 pub paper : laidAll cases ≡ comeAll cases
-unfolding badOption badFrom firstRows rowsOf trailingOf tokensFrom tokensOf class read anyComment singleLineFrom measureFrom shouldBreakSig shouldBreakList run leadingTrivia trailingTrivia openBlockMultiline endsWithTwoFeeds newlineArm rightBraceArm emptyRecord leftBraceArm leftParenArm leftBracketArm rightParenArm rightBracketArm commaArm elseArm every everyPair hasItsLexeme readsWhole noBraceAfterComma noEmptyRecord plain layFrom layout
+unfolding badOption badFrom eachRowReport rowsReport checkReport firstRows rowsOf trailingOf tokensFrom tokensOf class read anyComment singleLineFrom measureFrom shouldBreakSig shouldBreakList run leadingTrivia trailingTrivia openBlockMultiline endsWithTwoFeeds newlineArm rightBraceArm emptyRecord leftBraceArm leftParenArm leftBracketArm rightParenArm rightBracketArm commaArm elseArm every everyPair hasItsLexeme readsWhole noBraceAfterComma noEmptyRecord plain layFrom layout
 paper = refl
 
 -- ---- others; the texts are those that the Rust wrote
@@ -183,5 +184,5 @@ moreCases =
     deepCase 65 (record { report = refuse deep 192; out = zeroed (output 400) }) ∷ []
 
 pub more : laidAll moreCases ≡ comeAll moreCases
-unfolding badOption badFrom firstRows rowsOf trailingOf tokensFrom tokensOf class read anyComment singleLineFrom measureFrom shouldBreakSig shouldBreakList run leadingTrivia trailingTrivia openBlockMultiline endsWithTwoFeeds newlineArm rightBraceArm emptyRecord leftBraceArm leftParenArm leftBracketArm rightParenArm rightBracketArm commaArm elseArm every everyPair hasItsLexeme readsWhole noBraceAfterComma noEmptyRecord plain layFrom layout
+unfolding badOption badFrom eachRowReport rowsReport checkReport firstRows rowsOf trailingOf tokensFrom tokensOf class read anyComment singleLineFrom measureFrom shouldBreakSig shouldBreakList run leadingTrivia trailingTrivia openBlockMultiline endsWithTwoFeeds newlineArm rightBraceArm emptyRecord leftBraceArm leftParenArm leftBracketArm rightParenArm rightBracketArm commaArm elseArm every everyPair hasItsLexeme readsWhole noBraceAfterComma noEmptyRecord plain layFrom layout
 more = refl

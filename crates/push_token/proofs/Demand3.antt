@@ -1,25 +1,24 @@
 -- Demand 3, both halves, over every layout call. Assumes nothing.
-use mathlib.Core.Bool.{Bool, true, false, cond}
-use mathlib.Core.List.{List, [], _∷_, _++_}
-use mathlib.Core.Option.{Option, none, some}
-use mathlib.Core.Path.{_≡_, refl, sym, ap, _∙_}
-use Prim.Native.Nat.{ℕ, suc, _+_, _*_, _≤_}
+use mathlib.Core.Bool.{Bool, true, false}
+use mathlib.Core.List.{List}
+use mathlib.Core.Path.{_≡_, refl}
+use Prim.Native.Nat.{ℕ}
 use native.Mathlib.Omega.{arith}
-use lib.ListN.{length, take, drop}
+use lib.ListN.{length, drop}
 use lib.Seq.{take-at}
-use Rattle.report.specs.Report.{Report, option, raggedRows, badRow, deep, full}
-use Rattle.rows.specs.Options.{Options, optionsOf, badOption, orElse}
-use Rattle.rows.specs.Row.{rowsOf}
-use Rattle.rows.specs.Checks
+use borrow.Author.Tests.{eqb-false}
+use Rattle.report.specs.Report.{Report, accepted}
+use Rattle.report.proofs.Logic.{split}
+use Rattle.rows.specs.Options.{Options, optionsOf}
+use Rattle.rows.specs.Answer.{checkReport}
 use Rattle.rows.specs.Token.{Token, tokensOf}
 use Rattle.pieces.specs.Commas.{struck}
 use Rattle.pieces.proofs.Whole.{Left}
 use Rattle.pieces.proofs.Written.{Written, written-answer, written-pieces, written-same}
-use Rattle.push_token.specs.Act.{State}
 use Rattle.push_token.specs.Plain.{plain}
-use Rattle.push_token.specs.Layout.{Ended, finished, stopped, lay, Layout, bit, laidOut, unless, layout}
+use Rattle.push_token.specs.Layout.{Ended, finished, stopped, lay, Layout, bit, laidOut, afterChecks, layout}
 use Rattle.push_token.specs.Demand3.{lexemesOf, lexemes, commasOf, IsPlain, textOf, FirstHalf, SecondHalf}
-use Rattle.push_token.proofs.Walk.{Holds, lay-holds}
+use Rattle.push_token.proofs.Walk.{lay-holds}
 
 -- the text of a layout holds the lexemes xs with the answer's commas
 record Shows (l : Layout) (xs : List (List ℕ)) : Type 0 where
@@ -37,18 +36,16 @@ laid-shows o ts size out (finished s) q p =
 laid-shows o ts size out (stopped n i) q p = absurd (omega (arith, p .1))
 
 -- a refusal bears no mark
-unless-shows : (n : ℕ) (d : Option ℕ) (out : List ℕ) (l : Layout) (xs : List (List ℕ)) → (IsPlain l → Shows l xs) → IsPlain (unless n d out l) → Shows (unless n d out l) xs
-unless-shows n none out l xs f p = f p
-unless-shows n (some i) out l xs f p = absurd (omega (arith, p .1))
+checks-show : (r : Report) (out : List ℕ) (l : Layout) (xs : List (List ℕ)) → (IsPlain l → Shows l xs) → IsPlain (afterChecks r out l) → Shows (afterChecks r out l) xs
+checks-show r out l xs f p =
+    split (accepted r) (λ e. rw e (f (rw e at p))) (λ e. let q = rw e at p in absurd (eqb-false (r .refusal) 0 e (q .0)))
 
 module _ (style indent signature list : ℕ) (rows text out : List ℕ) where
   layout-shows : IsPlain (layout style indent signature list rows text out) → Shows (layout style indent signature list rows text out) (lexemes rows text)
   unfolding layout
   layout-shows =
-      unless-shows option (badOption style indent signature list) out _ (lexemes rows text)
-      (unless-shows raggedRows (orElse (Checks.ragged rows) 0 none) out _ (lexemes rows text)
-      (unless-shows badRow (Checks.badFrom (length text) Checks.atStart 0 (rowsOf rows)) out _ (lexemes rows text)
-      (laid-shows (optionsOf style indent signature list) (tokensOf rows text) (length out) out _ refl)))
+      checks-show (checkReport style indent signature list rows (length text)) out _ (lexemes rows text)
+      (laid-shows (optionsOf style indent signature list) (tokensOf rows text) (length out) out _ refl)
 
 pub first-half : FirstHalf
 first-half style indent signature list rows text out space p small room =

@@ -1,24 +1,22 @@
 -- What every layout call keeps to: its output's length, a text that fits, and which refusals leave the output unchanged. Assumes nothing.
 use mathlib.Core.Bool.{Bool, true, _||_}
 use mathlib.Core.List.{List, [], _∷_}
-use mathlib.Core.Option.{Option, none, some}
 use mathlib.Core.Path.{_≡_, refl}
 use Prim.Native.Nat.{ℕ, _+_, _≤_, _<_}
 use native.Mathlib.Omega.{arith}
 use lib.Dec.{eqb, leb, ltb}
 use lib.ListN.{length, length-append, length-drop, length-replicate}
-use borrow.Author.Tests.{ltb-false, leb-true, le-leb, eqb-true}
-use Rattle.report.specs.Report.{option, raggedRows, badRow, deep, full}
+use borrow.Author.Tests.{ltb-false, leb-true, le-leb, eqb-true, eqb-false}
+use Rattle.report.specs.Report.{Report, accepted, deep, full}
 use Rattle.report.proofs.Logic.{split, or-cases}
-use Rattle.rows.specs.Options.{Options, optionsOf, badOption, orElse}
-use Rattle.rows.specs.Row.{rowsOf}
-use Rattle.rows.specs.Checks
+use Rattle.rows.specs.Options.{Options, optionsOf}
+use Rattle.rows.specs.Answer.{checkReport}
 use Rattle.rows.specs.Token.{Token, tokensOf}
 use Rattle.push_token.specs.Act.{State, run}
 use Rattle.push_token.specs.Emit.{isSome}
 use Rattle.push_token.specs.PushToken.{turn, begun}
 use Rattle.push_token.specs.Plain.{plain}
-use Rattle.push_token.specs.Layout.{Ended, finished, stopped, checked, andThen, layFrom, lay, Layout, laidOut, unless, layout}
+use Rattle.push_token.specs.Layout.{Ended, finished, stopped, checked, andThen, layFrom, lay, Layout, laidOut, afterChecks, layout}
 use Rattle.push_token.specs.Demand3.{lengthOf}
 
 -- ---- the walk ends with a text that fits, or with refusal 4 or 5
@@ -64,19 +62,19 @@ laid-kept (stopped n i) mark out h =
     of-walk : deep ≤ n → Kept (laidOut (stopped n i) mark out) out
     of-walk w = record { size = length-replicate (length out) 0; fits = λ e. absurd (omega arith); unchanged = λ a b. absurd (omega arith) }
 
-unless-kept : (n : ℕ) (d : Option ℕ) (out : List ℕ) (l : Layout) → 0 < n → Kept l out → Kept (unless n d out l) out
-unless-kept n none out l h κ = κ
-unless-kept n (some i) out l h κ = record { size = refl; fits = λ e. absurd (omega arith); unchanged = λ a b. refl }
+checks-kept : (r : Report) (out : List ℕ) (l : Layout) → Kept l out → Kept (afterChecks r out l) out
+checks-kept r out l κ =
+    split (accepted r)
+    (λ e. rw e κ)
+    (λ e. rw e (record { size = refl; fits = λ z. absurd (eqb-false (r .refusal) 0 e z); unchanged = λ a b. refl }))
 
 module _ (style indent signature list : ℕ) (rows text out : List ℕ) where
   kept : Kept (layout style indent signature list rows text out) out
   unfolding layout
   kept =
-      unless-kept option (badOption style indent signature list) out _ (omega arith)
-      (unless-kept raggedRows (orElse (Checks.ragged rows) 0 none) out _ (omega arith)
-      (unless-kept badRow (Checks.badFrom (length text) Checks.atStart 0 (rowsOf rows)) out _ (omega arith)
+      checks-kept (checkReport style indent signature list rows (length text)) out _
       (laid-kept (lay (optionsOf style indent signature list) (length out) (tokensOf rows text)) (plain (tokensOf rows text)) out
-      (lay-sane (optionsOf style indent signature list) (length out) (tokensOf rows text)))))
+      (lay-sane (optionsOf style indent signature list) (length out) (tokensOf rows text)))
 
   pub layout-size : length (layout style indent signature list rows text out .out) ≡ length out
   layout-size = kept .size

@@ -1,15 +1,13 @@
 -- The layout call: from options, rows, text and output to the answer and the output after it (document 01's table, refusals 1 to 5).
 -- Assumes nothing.
 use mathlib.Core.Bool.{Bool, cond}
-use mathlib.Core.List.{List, [], _∷_, _++_}
-use mathlib.Core.Option.{Option, none, some}
+use mathlib.Core.List.{List, [], _∷_}
 use Prim.Native.Nat.{ℕ, _+_}
 use lib.Dec.{ltb}
-use lib.ListN.{length, drop}
-use Rattle.report.specs.Report.{Report, success, refuse, zeroed, option, raggedRows, badRow, deep, full}
-use Rattle.rows.specs.Row.{rowsOf}
-use Rattle.rows.specs.Options.{Options, optionsOf, badOption, orElse}
-use Rattle.rows.specs.Checks
+use lib.ListN.{length}
+use Rattle.report.specs.Report.{Report, success, refuse, accepted, zeroed, putFirst, deep, full}
+use Rattle.rows.specs.Options.{Options, optionsOf}
+use Rattle.rows.specs.Answer.{checkReport}
 use Rattle.rows.specs.Token.{Token, tokensOf}
 use Rattle.push_token.specs.Act.{State, run}
 use Rattle.push_token.specs.Emit.{isSome}
@@ -50,17 +48,14 @@ bit b = cond b 1 0
 
 -- length, commas and plain, and the text put first; or a refusal, and the output zeroed
 abbrev pub laidOut : Ended → Bool → List ℕ → Layout
-laidOut (finished s) mark out = record { report = success (length (s .out)) (s .commas) (bit mark); out = s .out ++ drop (length (s .out)) out }
+laidOut (finished s) mark out = record { report = success (length (s .out)) (s .commas) (bit mark); out = putFirst (s .out) out }
 laidOut (stopped n i) mark out = record { report = refuse n i; out = zeroed out }
 
--- a refusal that leaves the output unchanged, or what comes after
-abbrev pub unless : ℕ → Option ℕ → List ℕ → Layout → Layout
-unless n none out next = next
-unless n (some place) out next = record { report = refuse n place; out = out }
+-- the layout l, unless the checks refuse: then that refusal, and the output unchanged
+abbrev pub afterChecks : Report → List ℕ → Layout → Layout
+afterChecks checks out l = cond (accepted checks) l (record { report = checks; out = out })
 
 unfoldable pub layout : ℕ → ℕ → ℕ → ℕ → List ℕ → List ℕ → List ℕ → Layout
 layout style indent signature list rows text out =
-    unless option (badOption style indent signature list) out
-    (unless raggedRows (orElse (Checks.ragged rows) 0 none) out
-    (unless badRow (Checks.badFrom (length text) Checks.atStart 0 (rowsOf rows)) out
-    (laidOut (lay (optionsOf style indent signature list) (length out) (tokensOf rows text)) (plain (tokensOf rows text)) out)))
+    afterChecks (checkReport style indent signature list rows (length text)) out
+    (laidOut (lay (optionsOf style indent signature list) (length out) (tokensOf rows text)) (plain (tokensOf rows text)) out)
