@@ -7,7 +7,7 @@ use native.Mathlib.Omega.{arith}
 use lib.Dec.{eqb}
 use lib.ListN.{length, drop, replicate}
 use borrow.Author.Tests.{eqb-true, ne-eqb}
-use Rattle.report.specs.Report.{Report, success, refuse, zeroed, deep, full}
+use Rattle.report.specs.Report.{Report, success, refuse, zeroed, deep, full, bit}
 use Rattle.report.proofs.Logic.{split}
 use Rattle.rows.specs.Options.{optionsOf}
 use Rattle.rows.specs.Answer.{eachRowReport, rowsReport, checkReport}
@@ -15,7 +15,7 @@ use Rattle.rows.specs.Token.{tokensOf}
 use Rattle.rows.proofs.Passed.{Passed, whole-rows, few-rows}
 use Rattle.push_token.specs.Act.{State}
 use Rattle.push_token.specs.Plain.{plain}
-use Rattle.push_token.specs.Layout.{bit, Ended, finished, stopped, lay, laidOut, layout}
+use Rattle.push_token.specs.Layout.{Ended, finished, stopped, lay, laidOut, layout}
 use Rattle.push_token.proofs.Laid.{sane, lay-sane}
 use Rattle.fields.specs.declared.Fields.{Fields}
 use Rattle.fields.specs.declared.Options as Declared

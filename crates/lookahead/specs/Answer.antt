@@ -1,11 +1,11 @@
 -- What `needs_space` (document 01, 'Spaces') and the two measures of rows answer.
 -- Assumes nothing.
-use mathlib.Core.Bool.{Bool, cond}
+use mathlib.Core.Bool.{cond}
 use mathlib.Core.List.{List, []}
 use Prim.Native.Nat.{ℕ}
 use lib.Dec.{ltb}
 use lib.ListN.{length}
-use Rattle.report.specs.Report.{Report, success, refuse, badRow}
+use Rattle.report.specs.Report.{Report, success, refuse, badRow, bit}
 use Rattle.rows.specs.Kinds.{Other}
 use Rattle.rows.specs.Row.{rowsOf}
 use Rattle.lookahead.specs.declared.Space.{Space}
@@ -17,13 +17,9 @@ use Rattle.lookahead.specs.Measure.{Sized, rowSizes, sigMeasure, params,
 
 -- ---- `needs_space`
 
--- 1 for a space, 0 for none
-abbrev pub spaces : Bool → ℕ
-spaces needed = cond needed 1 0
-
 -- Document 01's number and values for each answer of `needs_space`.
 abbrev pub reported : Space → Report
-reported (Needed b) = success (spaces b) 0 0
+reported (Needed b) = success (bit b) 0 0
 reported (BadRow place) = refuse badRow place
 
 -- A kind above 34 gives refusal 3, place 0 or 1 for the first such argument.
@@ -31,7 +27,7 @@ unfoldable pub spaceReport : ℕ → ℕ → Report
 spaceReport first second =
     cond (ltb Other first) (refuse badRow 0)
     (cond (ltb Other second) (refuse badRow 1)
-    (success (spaces (needsSpace first second)) 0 0))
+    (success (bit (needsSpace first second)) 0 0))
 
 -- ---- `sig_measure` and `group_measure`
 

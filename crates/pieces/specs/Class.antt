@@ -1,16 +1,11 @@
 -- Byte classes (document 01, 'Reading back').
 -- Assumes nothing.
-use mathlib.Core.Bool.{Bool, true, false, cond, _||_, _&&_}
-use mathlib.Core.List.{List, [], _∷_}
+use mathlib.Core.Bool.{Bool, cond, _||_, _&&_}
 use Prim.Native.Nat.{ℕ}
 use lib.Dec.{leb, eqb}
-use Rattle.report.specs.Bytes.{byte, bytes}
+use Rattle.report.specs.Bytes.{byte, bytes, oneOf}
 use Rattle.pieces.specs.declared.bytes.Class.{Class}
 use Rattle.pieces.specs.declared.bytes.Class.the-variants.{Gap, Single, Quote, Word, Operator, Unclassed}
-
-abbrev pub among : List ℕ → ℕ → Bool
-among [] b = false
-among (c ∷ cs) b = eqb b c || among cs b
 
 abbrev pub within : ℕ → ℕ → ℕ → Bool
 within low high b = leb low b && leb b high
@@ -26,9 +21,9 @@ wordByte b = within (byte "A") (byte "Z") b || within (byte "a") (byte "z") b ||
 -- An operator byte is any other of 33–126.
 unfoldable pub class : ℕ → Class
 class b =
-    cond (among (bytes "\n ") b) Gap
-    (cond (among (bytes "()[]{},;?") b) Single
-    (cond (among (bytes "\"'") b) Quote
+    cond (oneOf (bytes "\n ") b) Gap
+    (cond (oneOf (bytes "()[]{},;?") b) Single
+    (cond (oneOf (bytes "\"'") b) Quote
     (cond (wordByte b) Word
     (cond (within 33 126 b) Operator Unclassed))))
 

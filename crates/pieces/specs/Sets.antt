@@ -1,6 +1,6 @@
 -- Sets of bytes, and runs of bytes in a set: what the code's loops count.
 -- Assumes nothing.
-use mathlib.Core.Bool.{Bool, true, false, cond, _&&_}
+use mathlib.Core.Bool.{Bool, true, cond, _&&_}
 use mathlib.Core.List.{List, [], _∷_}
 use Prim.Native.Nat.{ℕ, zero, suc, _-_, _/_, _%_, _^_}
 use lib.Dec.{eqb, ltb}

@@ -6,7 +6,8 @@ use mathlib.Core.List.{List, [], _∷_}
 use mathlib.Core.Path.{_≡_}
 use Prim.Native.Nat.{ℕ}
 use lib.Dec.{eqb}
-use Rattle.rows.specs.Kinds.{TokenRow, Eof, Newline, LeftBrace, RightBrace, LeftParen, RightParen, LeftBracket, RightBracket, Comma, Dot, Record, oneOf}
+use Rattle.report.specs.Bytes.{oneOf}
+use Rattle.rows.specs.Kinds.{TokenRow, Eof, Newline, LeftBrace, RightBrace, LeftParen, RightParen, LeftBracket, RightBracket, Comma, Dot, Record}
 use Rattle.rows.specs.Row.{Row}
 use Rattle.rows.specs.Token.{bytesOf}
 use Rattle.pieces.specs.Class.{class, isWord}

@@ -5,7 +5,7 @@ use mathlib.Core.Path.{_≡_, refl}
 use Prim.Native.Nat.{ℕ}
 use lib.Dec.{eqb}
 use borrow.Author.Tests.{eqb-true}
-use Rattle.rows.specs.Kinds.{oneOf}
+use Rattle.report.specs.Bytes.{oneOf}
 use Rattle.report.proofs.Logic.{impossible′, or-cases, either}
 use Rattle.push_token.specs.Formatter.{Formatter}
 use Rattle.push_token.specs.Act.{State, state, Act, run, update, choose, _⨾_}

@@ -7,7 +7,7 @@ use native.Mathlib.Omega.{arith}
 use lib.ListN.{length, drop}
 use lib.Seq.{take-at}
 use borrow.Author.Tests.{eqb-false}
-use Rattle.report.specs.Report.{Report, accepted}
+use Rattle.report.specs.Report.{Report, accepted, bit}
 use Rattle.report.proofs.Logic.{split}
 use Rattle.rows.specs.Options.{Options, optionsOf}
 use Rattle.rows.specs.Answer.{checkReport}
@@ -16,7 +16,7 @@ use Rattle.pieces.specs.Commas.{struck}
 use Rattle.pieces.proofs.Whole.{Left}
 use Rattle.pieces.proofs.Written.{Written, written-answer, written-pieces, written-same}
 use Rattle.push_token.specs.Plain.{plain}
-use Rattle.push_token.specs.Layout.{Ended, finished, stopped, lay, Layout, bit, laidOut, afterChecks, layout}
+use Rattle.push_token.specs.Layout.{Ended, finished, stopped, lay, Layout, laidOut, afterChecks, layout}
 use Rattle.push_token.specs.Demand3.{lexemesOf, lexemes, commasOf, IsPlain, textOf, FirstHalf, SecondHalf}
 use Rattle.push_token.proofs.Walk.{lay-holds}
 

@@ -5,7 +5,7 @@ use mathlib.Core.List.{List, [], _∷_}
 use Prim.Native.Nat.{ℕ, _+_}
 use lib.Dec.{ltb}
 use lib.ListN.{length}
-use Rattle.report.specs.Report.{Report, success, refuse, accepted, zeroed, putFirst, deep, full}
+use Rattle.report.specs.Report.{Report, success, refuse, accepted, zeroed, putFirst, bit, deep, full}
 use Rattle.rows.specs.Options.{Options, optionsOf}
 use Rattle.rows.specs.Answer.{checkReport}
 use Rattle.rows.specs.Token.{Token, tokensOf}
@@ -42,9 +42,6 @@ lay o size ts = layFrom o size (finished begun) 0 ts
 pub record Layout : Type 0 where
   pub report : Report
   pub out : List ℕ
-
-abbrev pub bit : Bool → ℕ
-bit b = cond b 1 0
 
 -- length, commas and plain, and the text put first; or a refusal, and the output zeroed
 abbrev pub laidOut : Ended → Bool → List ℕ → Layout

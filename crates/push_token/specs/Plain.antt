@@ -7,8 +7,8 @@ use mathlib.Core.Option.{Option, none, some}
 use Prim.Native.Nat.{ℕ}
 use lib.Dec.{eqb}
 use lib.ListN.{length}
-use Rattle.report.specs.Bytes.{bytes}
-use Rattle.rows.specs.Kinds.{Eof, Newline, LeftBrace, RightBrace, LeftParen, RightParen, LeftBracket, RightBracket, Comma, Colon, Semicolon, Question, Dot, DotDot, ColonColon, Hash, Bang, BangHash, Minus, Else, Record, oneOf}
+use Rattle.report.specs.Bytes.{bytes, oneOf}
+use Rattle.rows.specs.Kinds.{Eof, Newline, LeftBrace, RightBrace, LeftParen, RightParen, LeftBracket, RightBracket, Comma, Colon, Semicolon, Question, Dot, DotDot, ColonColon, Hash, Bang, BangHash, Minus, Else, Record}
 use Rattle.rows.specs.Token.{Token}
 use Rattle.lookahead.specs.Measure.{bare}
 use Rattle.pieces.specs.Class.{class, digit, isOperator}
@@ -53,27 +53,20 @@ abbrev pub onlyOperators : List ℕ → Bool
 onlyOperators [] = true
 onlyOperators (b ∷ w) = operatorByte b && onlyOperators w
 
+-- kinds 2–16, 18 and 19, each with its lexeme
+abbrev pub fixed : List (ℕ × List ℕ)
+fixed =
+    (LeftBrace, bytes "{") ∷ (RightBrace, bytes "}") ∷ (LeftParen, bytes "(") ∷ (RightParen, bytes ")") ∷ (LeftBracket, bytes "[") ∷ (RightBracket, bytes "]") ∷
+    (Comma, bytes ",") ∷ (Colon, bytes ":") ∷ (Semicolon, bytes ";") ∷ (Question, bytes "?") ∷ (Dot, bytes ".") ∷ (DotDot, bytes "..") ∷ (ColonColon, bytes "::") ∷
+    (Hash, bytes "#") ∷ (Bang, bytes "!") ∷ (Minus, bytes "-") ∷ (Else, bytes "else") ∷ []
+
+-- by the first pair of the kind k, if there is one
+abbrev pub fitsFixed : List (ℕ × List ℕ) → ℕ → List ℕ → Bool
+fitsFixed [] k w = cond (eqb k BangHash) (onlyOperators w) true
+fitsFixed (p ∷ ps) k w = cond (eqb k (p .0)) (sameBytes w (p .1)) (fitsFixed ps k w)
+
 unfoldable pub hasItsLexeme : ℕ → List ℕ → Bool
-hasItsLexeme k w =
-    cond (eqb k LeftBrace) (sameBytes w (bytes "{"))
-    (cond (eqb k RightBrace) (sameBytes w (bytes "}"))
-    (cond (eqb k LeftParen) (sameBytes w (bytes "("))
-    (cond (eqb k RightParen) (sameBytes w (bytes ")"))
-    (cond (eqb k LeftBracket) (sameBytes w (bytes "["))
-    (cond (eqb k RightBracket) (sameBytes w (bytes "]"))
-    (cond (eqb k Comma) (sameBytes w (bytes ","))
-    (cond (eqb k Colon) (sameBytes w (bytes ":"))
-    (cond (eqb k Semicolon) (sameBytes w (bytes ";"))
-    (cond (eqb k Question) (sameBytes w (bytes "?"))
-    (cond (eqb k Dot) (sameBytes w (bytes "."))
-    (cond (eqb k DotDot) (sameBytes w (bytes ".."))
-    (cond (eqb k ColonColon) (sameBytes w (bytes "::"))
-    (cond (eqb k Hash) (sameBytes w (bytes "#"))
-    (cond (eqb k Bang) (sameBytes w (bytes "!"))
-    (cond (eqb k Minus) (sameBytes w (bytes "-"))
-    (cond (eqb k Else) (sameBytes w (bytes "else"))
-    (cond (eqb k BangHash) (onlyOperators w)
-    true)))))))))))))))))
+hasItsLexeme k w = fitsFixed fixed k w
 
 abbrev pub clause₂ : Token → Bool
 clause₂ t = hasItsLexeme (t .kind) (t .lexeme)

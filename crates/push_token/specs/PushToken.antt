@@ -1,9 +1,9 @@
 -- `push_token`, line 277 of format.rs: one token of the walk.
 -- Assumes nothing.
 use mathlib.Core.Bool.{Bool, false, not, _&&_, _||_}
-use mathlib.Core.List.{List, [], _∷_}
+use mathlib.Core.List.{List, []}
 use mathlib.Core.Option.{some}
-use Prim.Native.Nat.{ℕ, _+_}
+use Prim.Native.Nat.{ℕ}
 use lib.Dec.{eqb, leb}
 use lib.ListN.{length}
 use Rattle.rows.specs.Kinds.{Eof, Newline, LeftBrace, RightBrace, LeftParen, RightParen, LeftBracket, RightBracket, Comma, Else}
@@ -11,7 +11,7 @@ use Rattle.rows.specs.Options.{Options}
 use Rattle.rows.specs.Token.{Token}
 use Rattle.lookahead.specs.Measure.{isEmpty}
 use Rattle.push_token.specs.Formatter.{Formatter, new, setJustClosedInline, setInlineClose, setReturned, setSkipNext, setTooDeep}
-use Rattle.push_token.specs.Act.{State, state, Act, run, update, _⨾_, nothing, if}
+use Rattle.push_token.specs.Act.{State, state, Act, update, _⨾_, nothing, if}
 use Rattle.push_token.specs.Emit.{isSome, trackFnState, leadingTrivia, trailingTrivia}
 use Rattle.push_token.specs.Arms.{newlineArm, rightBraceArm, leftBraceArm, breaksList, atSignature, leftParenArm, leftBracketArm, rightParenArm, rightBracketArm, commaArm, elseArm, otherArm}
 

@@ -1,8 +1,10 @@
 -- Bytes by name, each as it is written in quotes.
 -- Assumes nothing.
+use mathlib.Core.Bool.{Bool, false, _||_}
 use mathlib.Core.List.{List, [], _∷_}
 use Prim.Native.Nat.{ℕ}
 use Prim.Native.Char.{Char, code}
+use lib.Dec.{eqb}
 use Prim.Native.String.{String, [] as empty, _∷_ as _before_}
 
 -- the byte of an ASCII character
@@ -14,6 +16,11 @@ abbrev pub bytes : String → List ℕ
 bytes empty = []
 bytes (c before s) = byte c ∷ bytes s
 
+-- k is one of the numbers listed, bytes or kinds
+abbrev pub oneOf : List ℕ → ℕ → Bool
+oneOf [] k = false
+oneOf (j ∷ js) k = eqb k j || oneOf js k
+
 -- ---- gaps
 
 abbrev pub lineFeed : List ℕ
@@ -22,7 +29,7 @@ lineFeed = bytes "\n"
 abbrev pub space : List ℕ
 space = bytes " "
 
--- ---- the lexemes of kinds 2 to 16, 18 and 19 (document 01, 'The plain mark')
+-- ---- what the layout writes by itself
 
 abbrev pub leftBrace : List ℕ
 leftBrace = bytes "{"

@@ -1,6 +1,6 @@
 -- Document 01's table of refusals, and what a call answers in its terms.
 -- Assumes nothing.
-use mathlib.Core.Bool.{Bool}
+use mathlib.Core.Bool.{Bool, cond}
 use mathlib.Core.List.{List, _++_}
 use Prim.Native.Nat.{ℕ}
 use lib.Dec.{eqb}
@@ -63,3 +63,7 @@ zeroed xs = replicate (length xs) 0
 -- A lent slice xs with the result ns put first; what lies past it is unchanged.
 abbrev pub putFirst : List ℕ → List ℕ → List ℕ
 putFirst ns xs = ns ++ drop (length ns) xs
+
+-- yes and no as a number of a report
+abbrev pub bit : Bool → ℕ
+bit b = cond b 1 0

@@ -1,8 +1,8 @@
 -- Refusals 2 and 3 (document 01's table): the rows, and each row in its place.
 -- Assumes nothing.
-use mathlib.Core.Bool.{Bool, true, false, cond, not, _&&_, _||_}
+use mathlib.Core.Bool.{Bool, false, cond, not, _&&_, _||_}
 use mathlib.Core.List.{List, [], _∷_}
-use mathlib.Core.Option.{Option, none, some}
+use mathlib.Core.Option.{Option, none}
 use Prim.Native.Nat.{ℕ, _+_, _-_, _/_, _%_}
 use lib.Dec.{eqb, ltb}
 use lib.ListN.{length}

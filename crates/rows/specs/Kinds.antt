@@ -1,9 +1,6 @@
 -- The kinds of rows, tokens and trivia by name (document 01, 'The rows arrive').
 -- Assumes nothing.
-use mathlib.Core.Bool.{Bool, false, _||_}
-use mathlib.Core.List.{List, [], _∷_}
 use Prim.Native.Nat.{ℕ}
-use lib.Dec.{eqb}
 
 -- ---- what a row is
 
@@ -137,8 +134,3 @@ Result = 33
 -- all others
 abbrev pub Other : ℕ
 Other = 34
-
--- k is one of the kinds listed
-abbrev pub oneOf : List ℕ → ℕ → Bool
-oneOf [] k = false
-oneOf (j ∷ js) k = eqb k j || oneOf js k
