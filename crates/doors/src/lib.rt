@@ -31,9 +31,15 @@ pub extern "C" fn rl_layout(
     out: &mut [u8],
     report: &mut [u8],
 ) -> u32
-    ensures refusal { λ r. ⌜ r ≡ doorRefusal (now (report .entry)) (layout style «indent_width» «signature_width» «list_width» (now (rows .entry)) (now (text .entry)) (now (out .entry)) .report) ⌝ }
-    ensures report { λ r. ⌜ now (report .exit) ≡ doorReport (now (report .entry)) (layout style «indent_width» «signature_width» «list_width» (now (rows .entry)) (now (text .entry)) (now (out .entry)) .report) ⌝ }
-    ensures out { λ r. ⌜ now (out .exit) ≡ doorSlice (now (report .entry)) (now (out .entry)) (layout style «indent_width» «signature_width» «list_width» (now (rows .entry)) (now (text .entry)) (now (out .entry)) .out) ⌝ }
+    ensures refusal { λ r. ⌜ r
+        ≡ doorRefusal (now (report .entry)) (layout style «indent_width» «signature_width» «list_width»
+        (now (rows .entry)) (now (text .entry)) (now (out .entry)) .report) ⌝ }
+    ensures report { λ r. ⌜ now (report .exit)
+        ≡ doorReport (now (report .entry)) (layout style «indent_width» «signature_width» «list_width»
+        (now (rows .entry)) (now (text .entry)) (now (out .entry)) .report) ⌝ }
+    ensures out { λ r. ⌜ now (out .exit)
+        ≡ doorSlice (now (report .entry)) (now (out .entry)) (layout style «indent_width» «signature_width»
+        «list_width» (now (rows .entry)) (now (text .entry)) (now (out .entry)) .out) ⌝ }
 {
     if report.len() != REPORT_BYTES {
         return refusals::REPORT;
@@ -59,9 +65,15 @@ pub extern "C" fn rl_layout_source(
     out: &mut [u8],
     report: &mut [u8],
 ) -> u32
-    ensures refusal { λ r. ⌜ r ≡ doorRefusal (now (report .entry)) (layoutSource (now (source .entry)) (now (rows .entry)) (now (text .entry)) (now (out .entry)) .report) ⌝ }
-    ensures report { λ r. ⌜ now (report .exit) ≡ doorReport (now (report .entry)) (layoutSource (now (source .entry)) (now (rows .entry)) (now (text .entry)) (now (out .entry)) .report) ⌝ }
-    ensures out { λ r. ⌜ now (out .exit) ≡ doorSlice (now (report .entry)) (now (out .entry)) (layoutSource (now (source .entry)) (now (rows .entry)) (now (text .entry)) (now (out .entry)) .out) ⌝ }
+    ensures refusal { λ r. ⌜ r
+        ≡ doorRefusal (now (report .entry)) (layoutSource (now (source .entry)) (now (rows .entry))
+        (now (text .entry)) (now (out .entry)) .report) ⌝ }
+    ensures report { λ r. ⌜ now (report .exit)
+        ≡ doorReport (now (report .entry)) (layoutSource (now (source .entry)) (now (rows .entry))
+        (now (text .entry)) (now (out .entry)) .report) ⌝ }
+    ensures out { λ r. ⌜ now (out .exit)
+        ≡ doorSlice (now (report .entry)) (now (out .entry)) (layoutSource (now (source .entry))
+        (now (rows .entry)) (now (text .entry)) (now (out .entry)) .out) ⌝ }
 {
     if report.len() != REPORT_BYTES {
         return refusals::REPORT;
@@ -78,10 +90,18 @@ pub extern "C" fn rl_read_sheet(
     text: &mut [u8],
     report: &mut [u8],
 ) -> u32
-    ensures refusal { λ r. ⌜ r ≡ doorRefusal (now (report .entry)) (sheetAnswer (now (sheet .entry)) (length (now (rows .entry))) (length (now (text .entry)))) ⌝ }
-    ensures report { λ r. ⌜ now (report .exit) ≡ doorReport (now (report .entry)) (sheetAnswer (now (sheet .entry)) (length (now (rows .entry))) (length (now (text .entry)))) ⌝ }
-    ensures rows { λ r. ⌜ now (rows .exit) ≡ doorSlice (now (report .entry)) (now (rows .entry)) (sheetRows (now (sheet .entry)) (now (rows .entry)) (now (text .entry))) ⌝ }
-    ensures text { λ r. ⌜ now (text .exit) ≡ doorSlice (now (report .entry)) (now (text .entry)) (sheetText (now (sheet .entry)) (now (rows .entry)) (now (text .entry))) ⌝ }
+    ensures refusal { λ r. ⌜ r
+        ≡ doorRefusal (now (report .entry))
+        (sheetAnswer (now (sheet .entry)) (length (now (rows .entry))) (length (now (text .entry)))) ⌝ }
+    ensures report { λ r. ⌜ now (report .exit)
+        ≡ doorReport (now (report .entry))
+        (sheetAnswer (now (sheet .entry)) (length (now (rows .entry))) (length (now (text .entry)))) ⌝ }
+    ensures rows { λ r. ⌜ now (rows .exit)
+        ≡ doorSlice (now (report .entry)) (now (rows .entry))
+        (sheetRows (now (sheet .entry)) (now (rows .entry)) (now (text .entry))) ⌝ }
+    ensures text { λ r. ⌜ now (text .exit)
+        ≡ doorSlice (now (report .entry)) (now (text .entry))
+        (sheetText (now (sheet .entry)) (now (rows .entry)) (now (text .entry))) ⌝ }
 {
     if report.len() != REPORT_BYTES {
         return refusals::REPORT;
@@ -93,9 +113,14 @@ pub extern "C" fn rl_read_sheet(
 // Reads `text` back into pieces, the start and the end of each. Reports the pieces, 0 and 0.
 #[no_mangle]
 pub extern "C" fn rl_read_pieces(text: &[u8], pieces: &mut [u32], report: &mut [u8]) -> u32
-    ensures refusal { λ r. ⌜ r ≡ doorRefusal (now (report .entry)) (readAnswer (now (text .entry)) (length (now (pieces .entry)))) ⌝ }
-    ensures report { λ r. ⌜ now (report .exit) ≡ doorReport (now (report .entry)) (readAnswer (now (text .entry)) (length (now (pieces .entry)))) ⌝ }
-    ensures pieces { λ r. ⌜ now (pieces .exit) ≡ doorSlice (now (report .entry)) (now (pieces .entry)) (readSlots (now (text .entry)) (now (pieces .entry))) ⌝ }
+    ensures refusal { λ r. ⌜ r
+        ≡ doorRefusal (now (report .entry))
+        (readAnswer (now (text .entry)) (length (now (pieces .entry)))) ⌝ }
+    ensures report { λ r. ⌜ now (report .exit)
+        ≡ doorReport (now (report .entry)) (readAnswer (now (text .entry)) (length (now (pieces .entry)))) ⌝ }
+    ensures pieces { λ r. ⌜ now (pieces .exit)
+        ≡ doorSlice (now (report .entry)) (now (pieces .entry))
+        (readSlots (now (text .entry)) (now (pieces .entry))) ⌝ }
 {
     if report.len() != REPORT_BYTES {
         return refusals::REPORT;
@@ -108,7 +133,8 @@ pub extern "C" fn rl_read_pieces(text: &[u8], pieces: &mut [u32], report: &mut [
 #[no_mangle]
 pub extern "C" fn rl_needs_space(first: u32, second: u32, report: &mut [u8]) -> u32
     ensures refusal { λ r. ⌜ r ≡ doorRefusal (now (report .entry)) (spaceReport first second) ⌝ }
-    ensures report { λ r. ⌜ now (report .exit) ≡ doorReport (now (report .entry)) (spaceReport first second) ⌝ }
+    ensures report { λ r. ⌜ now (report .exit)
+        ≡ doorReport (now (report .entry)) (spaceReport first second) ⌝ }
 {
     if report.len() != REPORT_BYTES {
         return refusals::REPORT;

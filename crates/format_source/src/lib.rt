@@ -14,8 +14,12 @@ ghost use Rattle.format_source.specs.Source.{firstLine, isShebang, sheba
 // `source` begins `#!` and not `#![`, that line and a line feed come first: they count in the length, and plain is false.
 // Where they don't fit `out`, the answer is Full(0); a Deep or Full of the layout has the token's index, as without them.
 pub fn format_source_with_shebang(source: &[u8], rows: &[u8], text: &[u8], out: &mut [u8]) -> Answer
-    ensures answer { λ r. ⌜ reported r ≡ layoutSource (now (source .entry)) (now (rows .entry)) (now (text .entry)) (now (out .entry)) .report ⌝ }
-    ensures output { λ r. ⌜ now (out .exit) ≡ layoutSource (now (source .entry)) (now (rows .entry)) (now (text .entry)) (now (out .entry)) .out ⌝ }
+    ensures answer { λ r. ⌜ reported r
+        ≡ layoutSource (now (source .entry)) (now (rows .entry)) (now (text .entry))
+        (now (out .entry)) .report ⌝ }
+    ensures output { λ r. ⌜ now (out .exit)
+        ≡ layoutSource (now (source .entry)) (now (rows .entry)) (now (text .entry))
+        (now (out .entry)) .out ⌝ }
 {
     let line = shebang_len(source);
     let room = smaller(line, out.len());
@@ -96,9 +100,16 @@ fn before_walk(answer: Answer) -> bool
 
 // The line and a line feed put first into `out`, which has the layout behind them; `answer` is the layout's.
 fn put_first(line: &[u8], answer: Answer, out: &mut [u8]) -> Answer
-    requires { ⌜ (reported answer .refusal ≡ 0 → reported answer .first ≤ length (now out) - (length (now line) + 1)) ⌝ }
-    ensures answer { λ r. ⌜ reported r ≡ putFirst (now (line .entry) ++ lineFeed) (record { report = reported answer; out = drop (length (now (line .entry)) + 1) (now (out .entry)) }) (now (out .entry)) .report ⌝ }
-    ensures output { λ r. ⌜ now (out .exit) ≡ putFirst (now (line .entry) ++ lineFeed) (record { report = reported answer; out = drop (length (now (line .entry)) + 1) (now (out .entry)) }) (now (out .entry)) .out ⌝ }
+    requires { ⌜ (reported answer .refusal ≡ 0
+        → reported answer .first ≤ length (now out) - (length (now line) + 1)) ⌝ }
+    ensures answer { λ r. ⌜ reported r
+        ≡ putFirst (now (line .entry) ++ lineFeed)
+        (record { report = reported answer; out = drop (length (now (line .entry)) + 1) (now (out .entry)) })
+        (now (out .entry)) .report ⌝ }
+    ensures output { λ r. ⌜ now (out .exit)
+        ≡ putFirst (now (line .entry) ++ lineFeed)
+        (record { report = reported answer; out = drop (length (now (line .entry)) + 1) (now (out .entry)) })
+        (now (out .entry)) .out ⌝ }
 {
     let start = line.len() + 1;
     if out.len() < start {
@@ -117,7 +128,8 @@ fn put_first(line: &[u8], answer: Answer, out: &mut [u8]) -> Answer
 // Writes the line and a line feed into the first places of `out`.
 fn put_line(line: &[u8], out: &mut [u8])
     requires { ⌜ length (now line) < length (now out) ⌝ }
-    ensures { λ r. ⌜ now (out .exit) ≡ (now (line .entry) ++ lineFeed) ++ drop (length (now (line .entry)) + 1) (now (out .entry)) ⌝ }
+    ensures { λ r. ⌜ now (out .exit)
+        ≡ (now (line .entry) ++ lineFeed) ++ drop (length (now (line .entry)) + 1) (now (out .entry)) ⌝ }
 {
     let end = line.len();
     for i in 0..end {

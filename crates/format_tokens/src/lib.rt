@@ -55,8 +55,12 @@ pub fn format_tokens_with(
     text: &[u8],
     out: &mut [u8],
 ) -> Answer
-    ensures answer { λ r. ⌜ reported r ≡ layout style «indent_width» «signature_width» «list_width» (now (rows .entry)) (now (text .entry)) (now (out .entry)) .report ⌝ }
-    ensures output { λ r. ⌜ now (out .exit) ≡ layout style «indent_width» «signature_width» «list_width» (now (rows .entry)) (now (text .entry)) (now (out .entry)) .out ⌝ }
+    ensures answer { λ r. ⌜ reported r
+        ≡ layout style «indent_width» «signature_width» «list_width» (now (rows .entry)) (now (text .entry))
+        (now (out .entry)) .report ⌝ }
+    ensures output { λ r. ⌜ now (out .exit)
+        ≡ layout style «indent_width» «signature_width» «list_width» (now (rows .entry)) (now (text .entry))
+        (now (out .entry)) .out ⌝ }
 {
     let mark = is_plain(rows, text);
     match check_unless(
@@ -83,8 +87,11 @@ pub fn format_tokens_with(
 
 // The plain mark of good rows, no for bad ones; too many rows are not looked at.
 fn is_plain(rows: &[u8], text: &[u8]) -> bool
-    ensures good { λ r. ⌜ (r ≡ true → badFrom (length (now (text .entry))) atStart 0 (rowsOf (now (rows .entry))) ≡ none) ⌝ }
-    ensures mark { λ r. ⌜ (length (now (rows .entry)) ≤ 1048560 → badFrom (length (now (text .entry))) atStart 0 (rowsOf (now (rows .entry))) ≡ none → r ≡ plain (tokensOf (now (rows .entry)) (now (text .entry)))) ⌝ }
+    ensures good { λ r. ⌜
+        (r ≡ true → badFrom (length (now (text .entry))) atStart 0 (rowsOf (now (rows .entry))) ≡ none) ⌝ }
+    ensures mark { λ r. ⌜ (length (now (rows .entry)) ≤ 1048560
+        → badFrom (length (now (text .entry))) atStart 0 (rowsOf (now (rows .entry))) ≡ none
+        → r ≡ plain (tokensOf (now (rows .entry)) (now (text .entry)))) ⌝ }
 {
     if MOST_ROWS < rows.len() / ROW_BYTES {
         return false;
@@ -97,8 +104,11 @@ fn is_plain(rows: &[u8], text: &[u8]) -> bool
 fn lay_out(options: Options, rows: &[u8], text: &[u8], out: &mut [u8], mark: bool) -> Answer
     requires { ⌜ Walks (now rows) (now text) ⌝ }
     requires { ⌜ mark ≡ plain (tokensOf (now rows) (now text)) ⌝ }
-    ensures answer { λ r. ⌜ reported r ≡ walkedLayout (optionsOf options) (now (rows .entry)) (now (text .entry)) (now (out .entry)) .report ⌝ }
-    ensures output { λ r. ⌜ now (out .exit) ≡ walkedLayout (optionsOf options) (now (rows .entry)) (now (text .entry)) (now (out .entry)) .out ⌝ }
+    ensures answer { λ r. ⌜ reported r
+        ≡ walkedLayout (optionsOf options) (now (rows .entry)) (now (text .entry))
+        (now (out .entry)) .report ⌝ }
+    ensures output { λ r. ⌜ now (out .exit)
+        ≡ walkedLayout (optionsOf options) (now (rows .entry)) (now (text .entry)) (now (out .entry)) .out ⌝ }
 {
     let mut stack = [0; 64];
     match walk(formatter(options), out, &mut stack, rows, text, mark) {
@@ -115,7 +125,8 @@ fn lay_out(options: Options, rows: &[u8], text: &[u8], out: &mut [u8], mark: boo
 }
 
 fn options_of(style: u32, indent_width: u32, signature_width: u32, list_width: u32) -> Options
-    ensures { λ r. ⌜ optionsOf r ≡ Rattle.rows.specs.Options.optionsOf style «indent_width» «signature_width» «list_width» ⌝ }
+    ensures { λ r. ⌜ optionsOf r
+        ≡ Rattle.rows.specs.Options.optionsOf style «indent_width» «signature_width» «list_width» ⌝ }
 {
     if style == 0 {
         return Options {

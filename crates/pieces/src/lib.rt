@@ -98,7 +98,8 @@ fn quoted(start: usize, end: runs::QuoteEnd) -> Next
 fn store(pieces: &mut [u32], n: usize, start: usize, end: usize) -> bool
     requires { ⌜ (start ≤ end) × (2 * n ≤ length (now pieces)) ⌝ }
     ensures fits { λ r. ⌜ r ≡ fits (length (now (pieces .entry))) n end ⌝ }
-    ensures put { λ r. ⌜ now (pieces .exit) ≡ cond r (put (now (pieces .entry)) n start end) (now (pieces .entry)) ⌝ }
+    ensures put { λ r. ⌜ now (pieces .exit)
+        ≡ cond r (put (now (pieces .entry)) n start end) (now (pieces .entry)) ⌝ }
 {
     if 4294967295 < end {
         return false;

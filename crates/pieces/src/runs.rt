@@ -79,7 +79,8 @@ fn is_ordinary(quote: u8, b: u8) -> bool
 
 // Behind as many of them as eights that are tested at once pass over.
 fn ordinary_eights(text: &[u8], from: usize, quote: u8) -> usize
-    ensures { λ r. ⌜ r + runLength (ordinary quote) (drop r (now (text .entry))) ≡ from + runLength (ordinary quote) (drop from (now (text .entry))) ⌝ }
+    ensures { λ r. ⌜ r + runLength (ordinary quote) (drop r (now (text .entry)))
+        ≡ from + runLength (ordinary quote) (drop from (now (text .entry))) ⌝ }
 {
     if text.len() < 8 {
         return from;

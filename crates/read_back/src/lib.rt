@@ -27,11 +27,21 @@ pub fn format_and_read_back(
     out: &mut [u8],
     pieces: &mut [u32],
 ) -> ReadBack
-    ensures laid { λ r. ⌜ Laid.reported (r .laid) ≡ layout style «indent_width» «signature_width» «list_width» (now (rows .entry)) (now (text .entry)) (now (out .entry)) .report ⌝ }
-    ensures output { λ r. ⌜ now (out .exit) ≡ layout style «indent_width» «signature_width» «list_width» (now (rows .entry)) (now (text .entry)) (now (out .entry)) .out ⌝ }
-    ensures read { λ r. ⌜ Read.reported (r .read) ≡ readBackAnswer (layout style «indent_width» «signature_width» «list_width» (now (rows .entry)) (now (text .entry)) (now (out .entry))) (length (now (pieces .entry))) ⌝ }
-    ensures slice { λ r. ⌜ now (pieces .exit) ≡ readBackSlots (layout style «indent_width» «signature_width» «list_width» (now (rows .entry)) (now (text .entry)) (now (out .entry))) (now (pieces .entry)) ⌝ }
-    ensures first_half { λ r. ⌜ FirstHalfOf (lexemes (now (rows .entry)) (now (text .entry))) (seen (r .laid) (now (out .exit))) (Read.reported (r .read)) (now (pieces .entry)) (now (pieces .exit)) ⌝ }
+    ensures laid { λ r. ⌜ Laid.reported (r .laid)
+        ≡ layout style «indent_width» «signature_width» «list_width» (now (rows .entry)) (now (text .entry))
+        (now (out .entry)) .report ⌝ }
+    ensures output { λ r. ⌜ now (out .exit)
+        ≡ layout style «indent_width» «signature_width» «list_width» (now (rows .entry)) (now (text .entry))
+        (now (out .entry)) .out ⌝ }
+    ensures read { λ r. ⌜ Read.reported (r .read)
+        ≡ readBackAnswer (layout style «indent_width» «signature_width» «list_width» (now (rows .entry))
+        (now (text .entry)) (now (out .entry))) (length (now (pieces .entry))) ⌝ }
+    ensures slice { λ r. ⌜ now (pieces .exit)
+        ≡ readBackSlots (layout style «indent_width» «signature_width» «list_width» (now (rows .entry))
+        (now (text .entry)) (now (out .entry))) (now (pieces .entry)) ⌝ }
+    ensures first_half { λ r. ⌜ FirstHalfOf (lexemes (now (rows .entry)) (now (text .entry)))
+        (seen (r .laid) (now (out .exit))) (Read.reported (r .read)) (now (pieces .entry))
+        (now (pieces .exit)) ⌝ }
 {
     let laid = format_tokens_with(
         style,
@@ -49,8 +59,10 @@ pub fn format_and_read_back(
 // Reads the text that a layout left in `out`; after a refusal, nothing.
 fn read_laid(laid: format_tokens::Answer, out: &[u8], pieces: &mut [u32]) -> pieces::Answer
     requires { ⌜ Fits (seen laid (now out)) ⌝ }
-    ensures answer { λ r. ⌜ Read.reported r ≡ readBackAnswer (seen laid (now (out .entry))) (length (now (pieces .entry))) ⌝ }
-    ensures slice { λ r. ⌜ now (pieces .exit) ≡ readBackSlots (seen laid (now (out .entry))) (now (pieces .entry)) ⌝ }
+    ensures answer { λ r. ⌜ Read.reported r
+        ≡ readBackAnswer (seen laid (now (out .entry))) (length (now (pieces .entry))) ⌝ }
+    ensures slice { λ r. ⌜ now (pieces .exit)
+        ≡ readBackSlots (seen laid (now (out .entry))) (now (pieces .entry)) ⌝ }
 {
     let format_tokens::Answer::Text(len, _, _) = laid else {
         return pieces::Answer::Pieces(0);

@@ -29,7 +29,9 @@ pub fn check(
     rows: &[u8],
     text: &[u8],
 ) -> Checked
-    ensures { λ r. ⌜ reported r ≡ checkReport style «indent_width» «signature_width» «list_width» (now (rows .entry)) (length (now (text .entry))) ⌝ }
+    ensures { λ r. ⌜ reported r
+        ≡ checkReport style «indent_width» «signature_width» «list_width» (now (rows .entry))
+        (length (now (text .entry))) ⌝ }
 {
     check_unless(
         style,
@@ -53,7 +55,9 @@ pub fn check_unless(
     good: bool,
 ) -> Checked
     requires { ⌜ (good ≡ true → badFrom (length (now text)) atStart 0 (rowsOf (now rows)) ≡ none) ⌝ }
-    ensures { λ r. ⌜ reported r ≡ checkReport style «indent_width» «signature_width» «list_width» (now (rows .entry)) (length (now (text .entry))) ⌝ }
+    ensures { λ r. ⌜ reported r
+        ≡ checkReport style «indent_width» «signature_width» «list_width» (now (rows .entry))
+        (length (now (text .entry))) ⌝ }
 {
     if 1 < style {
         return Checked::BadOption(0);

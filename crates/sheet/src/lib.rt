@@ -21,9 +21,12 @@ pub enum Answer {
 
 // Reads `sheet`: its rows go into `rows`, 16 bytes each, and their texts into `text`, one after another.
 pub fn read_sheet(sheet: &[u8], rows: &mut [u8], text: &mut [u8]) -> Answer
-    ensures answer { λ r. ⌜ reported r ≡ sheetAnswer (now (sheet .entry)) (length (now (rows .entry))) (length (now (text .entry))) ⌝ }
-    ensures rows { λ r. ⌜ now (rows .exit) ≡ sheetRows (now (sheet .entry)) (now (rows .entry)) (now (text .entry)) ⌝ }
-    ensures text { λ r. ⌜ now (text .exit) ≡ sheetText (now (sheet .entry)) (now (rows .entry)) (now (text .entry)) ⌝ }
+    ensures answer { λ r. ⌜ reported r
+        ≡ sheetAnswer (now (sheet .entry)) (length (now (rows .entry))) (length (now (text .entry))) ⌝ }
+    ensures rows { λ r. ⌜ now (rows .exit)
+        ≡ sheetRows (now (sheet .entry)) (now (rows .entry)) (now (text .entry)) ⌝ }
+    ensures text { λ r. ⌜ now (text .exit)
+        ≡ sheetText (now (sheet .entry)) (now (rows .entry)) (now (text .entry)) ⌝ }
 {
     if !begins(sheet, b"what kind text\n") {
         return Answer::NoNames;
@@ -93,7 +96,8 @@ fn read_line(
     len: usize,
 ) -> Step
     requires { ⌜ (at < length (now sheet)) × (16 * n ≤ length (now rows)) × (len ≤ length (now text)) ⌝ }
-    ensures { λ r. ⌜ StepAt (now (sheet .entry)) at (now (rows .entry)) n (now (text .entry)) len r (now (rows .exit)) (now (text .exit)) ⌝ }
+    ensures { λ r. ⌜ StepAt (now (sheet .entry)) at (now (rows .entry)) n (now (text .entry)) len r
+        (now (rows .exit)) (now (text .exit)) ⌝ }
 {
     let line::Head::Row(what, kind, from) = line::head_at(sheet, at) else {
         return Step::Bad;

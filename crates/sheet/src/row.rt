@@ -11,7 +11,8 @@ ghost use Rattle.sheet.specs.Row.{number, rowBytes};
 pub fn store(rows: &mut [u8], n: usize, what: u8, kind: u8, start: usize, end: usize) -> bool
     requires { ⌜ (start ≤ end) × (16 * n ≤ length (now rows)) ⌝ }
     ensures fits { λ r. ⌜ r ≡ leb (16 * n + 16) (length (now (rows .entry))) && leb end 4294967295 ⌝ }
-    ensures put { λ r. ⌜ now (rows .exit) ≡ cond r (sets (now (rows .entry)) (16 * n) (rowBytes what kind start end)) (now (rows .entry)) ⌝ }
+    ensures put { λ r. ⌜ now (rows .exit)
+        ≡ cond r (sets (now (rows .entry)) (16 * n) (rowBytes what kind start end)) (now (rows .entry)) ⌝ }
 {
     if 4294967295 < end {
         return false;
