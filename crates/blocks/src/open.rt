@@ -187,7 +187,8 @@ fn enter_record(mut f: Fields) -> Fields
 
 fn open_block_same_line(mut f: Fields, out: &mut [u8]) -> Fields
     requires { ⌜ f .indent < 4294967295 ⌝ }
-    ensures { λ r. ⌜ ((s : List ℕ) → Does (λ o. braced openSameLine) (on f s (now (out .entry))) (on r s (now (out .exit)))) ⌝ }
+    ensures { λ r. ⌜ ((s : List ℕ)
+        → Does (λ o. braced openSameLine) (on f s (now (out .entry))) (on r s (now (out .exit)))) ⌝ }
 {
     let len = f.len;
     let gapped = write_byte(out, len, b' ');
@@ -205,7 +206,8 @@ fn open_block_same_line(mut f: Fields, out: &mut [u8]) -> Fields
 fn open_block_allman(mut f: Fields, out: &mut [u8], index: u32) -> Fields
     requires { ⌜ f .indent < 4294967295 ⌝ }
     requires { ⌜ index < 4294967295 ⌝ }
-    ensures { λ r. ⌜ ((s : List ℕ) → Does (λ o. braced (openAllman o index)) (on f s (now (out .entry))) (on r s (now (out .exit)))) ⌝ }
+    ensures { λ r. ⌜ ((s : List ℕ)
+        → Does (λ o. braced (openAllman o index)) (on f s (now (out .entry))) (on r s (now (out .exit)))) ⌝ }
 {
     let len = f.len;
     let gapped = f.write_on_new_line(out, len);

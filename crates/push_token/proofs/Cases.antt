@@ -178,7 +178,7 @@ moreCases =
     -- a Newline counts in the width: x[/____a,/____b,/]
     case 40 8 (name "x" ∷ openBracket ∷ name "a" ∷ comma ∷ newline ∷ name "b" ∷ closeBracket ∷ []) (shown "x[/____a,/____b,/]") 1 1 ∷
     -- document 01: a record field `x: n,` with trailing comment c, Newline, `y: n`: after the line feed two slash bytes and then _c____y: n,
-    case 40 40 (R ∷ name "E" ∷ openBrace ∷ name "x" ∷ colon ∷ name "n" ∷ comma ∷ record { what = Trailing; kind = LineComment; named = bytes "c" } ∷ newline ∷ name "y" ∷ colon ∷ name "n" ∷ closeBrace ∷ []) (shown "R_E/{/____x:_n,/" ++ slashes ++ shown "_c____y:_n,/}") 1 0 ∷ 
+    case 40 40 (R ∷ name "E" ∷ openBrace ∷ name "x" ∷ colon ∷ name "n" ∷ comma ∷ record { what = Trailing; kind = LineComment; named = bytes "c" } ∷ newline ∷ name "y" ∷ colon ∷ name "n" ∷ closeBrace ∷ []) (shown "R_E/{/____x:_n,/" ++ slashes ++ shown "_c____y:_n,/}") 1 0 ∷
     -- 64 lists, each open in the one before, and a 65th, which is refused at its index
     deepCase 64 (says 400 (nestedText 64) 0 1) ∷
     deepCase 65 (record { report = refuse deep 192; out = zeroed (output 400) }) ∷ []

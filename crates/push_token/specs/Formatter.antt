@@ -1,4 +1,4 @@
--- The fields of `Formatter`, but for the options and the output; four more at the end hold what `push_token` has in a local or a result.
+-- The fields of `Formatter` (format.rs, 61), but for the options and the output; four more at the end hold what `push_token` has in a local or a result.
 -- Assumes nothing.
 use mathlib.Core.Bool.{Bool, true, false}
 use mathlib.Core.List.{List, []}
@@ -43,7 +43,7 @@ pub record Formatter : Type 0 where
   -- refusal 4: the index of the token that would push a 65th entry
   pub tooDeep : Option ℕ
 
--- `Formatter::new`
+-- `Formatter::new`, 95
 abbrev pub new : Formatter
 new = record { indent = 0; atLineStart = true; prev = none; prevMinusIsUnary = false; inlineDepth = 0; fnState = 0; sigBreakDepth = none; recordPending = false; inRecord = false; recordDepth = 0; justClosedInline = false; suppressNewlineAt = none; groupDepth = 0; breakStack = []; inlineClose = false; returned = false; skipNext = false; tooDeep = none }
 

@@ -16,7 +16,9 @@ ghost use Rattle.sink.specs.Comment.{commentHead, leadTail, trailHead, t
 pub fn write_lead(out: &mut [u8], len: usize, text: &[u8], row: Row) -> usize
     requires { ⌜ Inside (now text) (rowOf row) ⌝ }
     requires { ⌜ row .kind < 3 ⌝ }
-    ensures { λ r. ⌜ Writes (now (out .entry)) len (commentHead (row .kind) ++ (space ++ bytesOf (now (text .entry)) (rowOf row) ++ leadTail (row .kind))) (now (out .exit)) r ⌝ }
+    ensures { λ r. ⌜ Writes (now (out .entry)) len
+        (commentHead (row .kind) ++ (space ++ bytesOf (now (text .entry)) (rowOf row) ++ leadTail (row .kind)))
+        (now (out .exit)) r ⌝ }
 {
     let headed = write_head(out, len, row.kind);
     let spaced = write_byte(out, headed, b' ');
