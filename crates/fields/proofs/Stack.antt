@@ -6,12 +6,12 @@ use Prim.Native.Nat.{ℕ, zero, suc, _+_, _-_, _≤_, _<_}
 use native.Mathlib.Numerals.{add-one}
 use native.Mathlib.Omega.{arith}
 use lib.Dec.{eqb}
-use lib.ListN.{length, getD, set}
+use lib.ListN.{length, getD, set, drop}
 use lib.Seq.{getD-set-same, getD-set-other}
-use Rattle.push_token.specs.Arms.{topIs, rest}
+use Rattle.push_token.specs.Arms.{topIs}
 use Rattle.fields.specs.Pen.{topFirst}
 
-pub top-popped : (n : ℕ) (k : List ℕ) → topFirst (n - 1) k ≡ rest (topFirst n k)
+pub top-popped : (n : ℕ) (k : List ℕ) → topFirst (n - 1) k ≡ drop 1 (topFirst n k)
 unfolding topFirst
 top-popped zero k = refl
 top-popped (suc n) k = let e : suc n - 1 ≡ n = omega arith in rw e

@@ -9,7 +9,8 @@ use borrow.Author.Tests.{ne-eqb}
 use lib.Dec.{eqb}
 use lib.ListN.{length, take}
 use Rattle.push_token.specs.Emit.{isAt}
-use Rattle.push_token.specs.Arms.{isEmptyText, shallower}
+use Rattle.lookahead.specs.Measure.{isEmpty}
+use Rattle.push_token.specs.Arms.{shallower}
 use Rattle.fields.specs.Pen.{signatureOf}
 
 -- ---- the ways that meet, by which one the code came
@@ -19,7 +20,7 @@ by-way s f g = ⊎-elim f g s
 
 -- ---- the text so far
 
-pub empty-take : (n : ℕ) (l : List ℕ) → n ≤ length l → isEmptyText (take n l) ≡ eqb n 0
+pub empty-take : (n : ℕ) (l : List ℕ) → n ≤ length l → isEmpty (take n l) ≡ eqb n 0
 empty-take zero l h = refl
 empty-take (suc n) [] h = absurd (omega arith)
 empty-take (suc n) (x ∷ l) h = sym (ne-eqb (suc n) 0 (λ e. omega arith))

@@ -8,15 +8,15 @@ use lib.Dec.{eqb}
 use Rattle.rows.specs.Kinds.{LeftParen}
 use Rattle.rows.specs.Options.{Options}
 use Rattle.rows.specs.Token.{Token}
-use Rattle.lookahead.specs.Measure.{nextHasComment}
+use Rattle.lookahead.specs.Measure.{nextHasComment, isEmpty}
 use Rattle.push_token.specs.Formatter.{Formatter}
 use Rattle.push_token.specs.Act.{State, Act, if}
-use Rattle.push_token.specs.Arms.{inOneLineBlock, isEmptyText, endsWithTwoFeeds, breaksList, leftParenArm, leftBracketArm}
+use Rattle.push_token.specs.Arms.{inOneLineBlock, endsWithTwoFeeds, breaksList, leftParenArm, leftBracketArm}
 
 -- whether a Newline that is not suppressed is written, before the tokens ts
 abbrev pub feedsLine : List Token → State → Bool
 feedsLine ts s =
-    cond (isEmptyText (s .out) && nextHasComment ts) false
+    cond (isEmpty (s .out) && nextHasComment ts) false
     (cond (s .formatter .inRecord || inOneLineBlock (s .formatter)) false
     (cond (s .formatter .atLineStart) (not (endsWithTwoFeeds (s .out))) true))
 

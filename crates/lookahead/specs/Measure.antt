@@ -24,7 +24,7 @@ nextHasComment (t ∷ ts) = anyComment (t .leading)
 
 -- ---- `block_is_single_line` (format.rs 155)
 
-abbrev pub isEmpty : List Trivia → Bool
+abbrev pub isEmpty : {A : Type 0} → List A → Bool
 isEmpty [] = true
 isEmpty (t ∷ ts) = false
 

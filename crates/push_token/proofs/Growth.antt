@@ -7,7 +7,7 @@ use mathlib.Core.Path.{_≡_}
 use Prim.Native.Nat.{ℕ, _+_, _-_, _≤_, _<_}
 use native.Mathlib.Omega.{arith}
 use lib.Dec.{eqb, leb}
-use lib.ListN.{length}
+use lib.ListN.{length, drop}
 use borrow.Author.Tests.{leb-false}
 use Rattle.report.proofs.Logic.{impossible, or-right, split, either}
 use Rattle.rows.specs.Kinds.{LeftParen, LeftBracket}
@@ -16,7 +16,7 @@ use Rattle.rows.specs.Token.{Trivia, lineComment, docComment, blockComment, bla
 use Rattle.push_token.specs.Formatter.{Formatter}
 use Rattle.push_token.specs.Act.{State, Act, run, update, gap, lexeme, insert, comment, _⨾_, choose, nothing, if}
 use Rattle.push_token.specs.Emit.{trackFnState, leadingTrivia, trailingTrivia, openBlockMultiline, pushLexeme}
-use Rattle.push_token.specs.Arms.{groupOpened, rest, newlineArm, rightBraceArm, emptyRecord, openBlock, leftBraceArm, openList, breaksList, atSignature, deeper, leftParenArm, leftBracketArm, shallower, rightParenArm, rightBracketArm, commaArm, elseArm, otherArm}
+use Rattle.push_token.specs.Arms.{groupOpened, newlineArm, rightBraceArm, emptyRecord, openBlock, leftBraceArm, openList, breaksList, atSignature, deeper, leftParenArm, leftBracketArm, shallower, rightParenArm, rightBracketArm, commaArm, elseArm, otherArm}
 use Rattle.push_token.specs.PushToken.{arm, overflows, pushToken, turn}
 use Rattle.push_token.proofs.After.{After, chosen, inTurn, implied}
 
@@ -199,7 +199,7 @@ less-deep : (d : Option ℕ) (k : ℕ) → depth (shallower d) ≤ depth d + k
 less-deep none k = omega arith
 less-deep (some d) k = omega arith
 
-less-long : (xs : List ℕ) (k : ℕ) → length (rest xs) ≤ length xs + k
+less-long : (xs : List ℕ) (k : ℕ) → length (drop 1 xs) ≤ length xs + k
 less-long [] k = omega arith
 less-long (x ∷ xs) k = omega arith
 

@@ -6,11 +6,12 @@ use mathlib.Core.List.{List, [], _∷_, _++_}
 use mathlib.Core.Option.{Option, none, some}
 use Prim.Native.Nat.{ℕ, _+_, _-_}
 use lib.Dec.{eqb, ltb}
+use lib.ListN.{drop}
 use Rattle.report.specs.Bytes.{byte, bytes, lineFeed, space, leftBrace, rightBrace, leftParen, rightParen, rightBracket, comma, elseWord}
 use Rattle.rows.specs.Kinds.{Newline, LeftBrace, RightBrace, LeftParen, RightParen, RightBracket, Comma, Else, Record, Identifier}
 use Rattle.rows.specs.Options.{Options}
 use Rattle.rows.specs.Token.{Token}
-use Rattle.lookahead.specs.Measure.{nextHasComment, blockIsSingleLine, shouldBreakSig, shouldBreakList}
+use Rattle.lookahead.specs.Measure.{nextHasComment, isEmpty, blockIsSingleLine, shouldBreakSig, shouldBreakList}
 use Rattle.push_token.specs.Formatter.{Formatter, setAtLineStart, setPrev, setInlineDepth, setFnState, setSigBreakDepth, setRecordPending, setInRecord, setRecordDepth, setJustClosedInline, setSuppressNewlineAt, setGroupDepth, setBreakStack, setReturned, setSkipNext}
 use Rattle.push_token.specs.Act.{Act, update, gap, lexeme, insert, _⨾_, choose, nothing, if}
 use Rattle.push_token.specs.Emit.{isAt, prevIs, indentStr, indentOrSpace, onNewLine, endedBy, lineBegun, indented, dedented, openBlockMultiline, pushLexeme, emitTokenText}
@@ -40,21 +41,13 @@ groupOpened f = setGroupDepth (f .groupDepth + 1) f
 abbrev pub groupClosed : Formatter → Formatter
 groupClosed f = setGroupDepth (f .groupDepth - 1) f
 
-abbrev pub rest : List ℕ → List ℕ
-rest [] = []
-rest (e ∷ es) = es
-
 abbrev pub popped : Formatter → Formatter
-popped f = setBreakStack (rest (f .breakStack)) f
+popped f = setBreakStack (drop 1 (f .breakStack)) f
 
 abbrev pub pushed : Formatter → Formatter
 pushed f = setBreakStack (f .groupDepth ∷ f .breakStack) f
 
 -- ---- Newline, 320
-
-abbrev pub isEmptyText : List ℕ → Bool
-isEmptyText [] = true
-isEmptyText (b ∷ bs) = false
 
 -- `ends_with("\n\n")`
 unfoldable pub endsWithTwoFeeds : List ℕ → Bool
@@ -69,7 +62,7 @@ feedLine = gap (λ f. lineFeed) ⨾ update (λ f. setPrev (some Newline) (setAtL
 unfoldable pub newlineArm : ℕ → List Token → Act
 newlineArm i ts =
     if (λ f. isAt (f .suppressNewlineAt) i) (update (setSuppressNewlineAt none))
-    (choose (λ s. isEmptyText (s .out) && nextHasComment ts) nothing
+    (choose (λ s. isEmpty (s .out) && nextHasComment ts) nothing
     (if (λ f. f .inRecord || inOneLineBlock f) nothing
     (if (λ f. not (f .atLineStart)) feedLine
     (choose (λ s. not (endsWithTwoFeeds (s .out))) (gap (λ f. lineFeed) ⨾ update (setPrev (some Newline)))

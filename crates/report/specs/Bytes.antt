@@ -4,8 +4,8 @@ use mathlib.Core.Bool.{Bool, false, _||_}
 use mathlib.Core.List.{List, [], _∷_}
 use Prim.Native.Nat.{ℕ}
 use Prim.Native.Char.{Char, code}
-use lib.Dec.{eqb}
 use Prim.Native.String.{String, [] as empty, _∷_ as _before_}
+use lib.Dec.{eqb}
 
 -- the byte of an ASCII character
 abbrev pub byte : Char → ℕ
@@ -42,9 +42,6 @@ leftParen = bytes "("
 
 abbrev pub rightParen : List ℕ
 rightParen = bytes ")"
-
-abbrev pub leftBracket : List ℕ
-leftBracket = bytes "["
 
 abbrev pub rightBracket : List ℕ
 rightBracket = bytes "]"
