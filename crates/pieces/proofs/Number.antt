@@ -1,17 +1,18 @@
 -- A run that a digit began, a byte at a time. Assumes nothing.
-use mathlib.Core.Bool.{Bool, true, false, _&&_, _||_}
+use mathlib.Core.Bool.{Bool, true, false, cond, _&&_, _||_}
 use mathlib.Core.List.{List}
 use mathlib.Core.Path.{_≡_, refl, sym, ap, _∙_}
 use Prim.Native.Nat.{ℕ, _+_, _≤_}
 use lib.Dec.{eqb}
 use lib.ListN.{length, getD, List·getD-eq-default}
 use borrow.Author.Tests.{ne-eqb}
-use Rattle.pieces.specs.Class.{class, digit, isWord}
-use Rattle.pieces.specs.Reading.{number, Joined, ends, takes, keep, digits}
+use Rattle.report.specs.Bytes.{digit}
+use Rattle.pieces.specs.Class.{class, isWord}
+use Rattle.pieces.specs.Reading.{number, Joined, ends, takes, digits}
 use Rattle.pieces.specs.Ends.{taken, joinAt}
 
 -- what is taken goes on as a number
-keep-number : (x : Bool) → taken (keep x number) ≡ true → keep x number ≡ takes number
+keep-number : (x : Bool) → taken (cond x (takes number) ends) ≡ true → cond x (takes number) ends ≡ takes number
 keep-number true e = refl
 keep-number false e = cc
 
@@ -21,7 +22,7 @@ digits-word b p e = rw e
 digits-other : (b p : ℕ) → isWord (class b) ≡ false → (b ≡ 46 → ⊥) → false ≡ taken (digits number b p)
 digits-other b p e n = rw (e, ne-eqb b 46 n)
 
-taken-keep : (x : Bool) → x ≡ taken (keep x number)
+taken-keep : (x : Bool) → x ≡ taken (cond x (takes number) ends)
 taken-keep true = refl
 taken-keep false = refl
 

@@ -14,7 +14,7 @@ use Rattle.report.proofs.Logic.{split, and-left, and-right}
 use Rattle.pieces.specs.declared.bytes.Class.{Class}
 use Rattle.pieces.specs.declared.bytes.Class.the-variants.{Gap}
 use Rattle.pieces.specs.Class.{class, isWord, isOperator}
-use Rattle.pieces.specs.Reading.{Reading, done, refused, piece, Kind, word, operator, Mode, between, inside, Joined, ends, takes, keep, join, Begun, nothing, opens, begin, flush, peek, afterBegin, read, readFrom}
+use Rattle.pieces.specs.Reading.{Reading, done, refused, piece, Kind, word, operator, Mode, between, inside, Joined, ends, takes, join, Begun, nothing, opens, begin, flush, peek, afterBegin, read, readFrom}
 use Rattle.pieces.specs.Sets.{runLength, all, isGap}
 use Rattle.pieces.specs.Ends.{EndsAt, joinAt}
 use Rattle.pieces.proofs.Sets.{gap-of}
@@ -72,7 +72,7 @@ pub gaps-passed : (text : List ℕ) (i : ℕ) → readFrom text i ≡ readFrom t
 gaps-passed text i = gap-run (drop i text) i i ∙ rw drop-drop
 
 -- a kind that takes the bytes of a set
-module _ (k : Kind) (f : ℕ → Bool) (joins : (b p : ℕ) → join (inside k) b p ≡ keep (f b) k) (ended : (s i : ℕ) (r : Reading) → flush (inside k) s i r ≡ piece s i r) where
+module _ (k : Kind) (f : ℕ → Bool) (joins : (b p : ℕ) → join (inside k) b p ≡ cond (f b) (takes k) ends) (ended : (s i : ℕ) (r : Reading) → flush (inside k) s i r ≡ piece s i r) where
   set-run : (t : List ℕ) (s i : ℕ) → let n = runLength f t in read t (inside k) s i ≡ piece s (i + n) (read (drop n t) between (i + n) (i + n))
   unfolding read
   set-run [] s i = ended s i done ∙ rw add-zero

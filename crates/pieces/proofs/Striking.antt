@@ -5,9 +5,11 @@ use mathlib.Core.Path.{_≡_, refl}
 use Prim.Native.Nat.{ℕ, suc, _+_}
 use native.Mathlib.Nat.{zero-add, suc-add}
 use native.Mathlib.Omega.{arith}
-use lib.Dec.{T, eqb, eqb→eq}
+use lib.Dec.{T}
 use lib.ListN.{length}
-use Rattle.report.proofs.Logic.{split}
+use Rattle.report.specs.Bytes.{bytes, sameBytes}
+use Rattle.report.proofs.Bytes.{same-eq}
+use Rattle.report.proofs.Logic.{or-cases}
 use Rattle.pieces.specs.Commas.{comma, closer, closes, struck, Inserted, none, same, more}
 
 is-true : (b : Bool) → T b → b ≡ true
@@ -16,9 +18,9 @@ is-true false t = absurd t
 
 -- a closer is no comma
 closer-no-comma : (w : List ℕ) → T (closer w) → comma w ≡ false
-closer-no-comma [] t = absurd t
-closer-no-comma (b ∷ []) t = split (eqb b 44) (λ e. absurd (rw (eqb→eq b 44 (rw e tt)) at t)) (λ e. e)
-closer-no-comma (b ∷ d ∷ w) t = absurd t
+closer-no-comma w t =
+    or-cases (sameBytes w (bytes "]")) (sameBytes w (bytes "}")) (is-true (closer w) t)
+    (λ e. rw (same-eq w (bytes "]") e) refl) (λ e. rw (same-eq w (bytes "}") e) refl)
 
 closes-inserted : {xs ys : List (List ℕ)} {n : ℕ} → Inserted xs ys n → closes ys ≡ closes xs
 closes-inserted none = refl

@@ -7,12 +7,13 @@ use native.Mathlib.Omega.{arith}
 use lib.Dec.{eqb}
 use lib.ListN.{length}
 use borrow.Author.Tests.{eqb-true}
+use Rattle.report.specs.Bytes.{digit}
 use Rattle.report.proofs.Logic.{impossible, split}
 use Rattle.pieces.specs.declared.bytes.Class.{Class}
 use Rattle.pieces.specs.declared.bytes.Class.the-variants.{Gap, Single, Quote, Word, Operator, Unclassed}
-use Rattle.pieces.specs.Class.{class, digit, isWord, isOperator}
+use Rattle.pieces.specs.Class.{class, isWord, isOperator}
 use Rattle.pieces.specs.Reading.{Reading, done, refused, piece, Kind, closed, word, number, operator, quoted, escaped, Mode, between, inside, Joined, ends, takes, Begun, nothing, blank, opens}
-use Rattle.pieces.specs.Reading.{keep, digits, inQuote, join, begin, flush, peek, read, reading}
+use Rattle.pieces.specs.Reading.{digits, inQuote, join, begin, flush, peek, read, reading}
 use Rattle.pieces.proofs.Sets.{operator-of}
 use Rattle.pieces.proofs.Resume.{flushed, starts-after}
 
@@ -54,12 +55,12 @@ Apart afterOperator w = isOperator (class (peek w)) ≡ false
 
 -- ---- the byte behind: where the text ends it counts as 0, at which the fewest bytes are taken; a digit lets the most be taken
 
-keep-least : (k : Kind) (w x d : Bool) {l : Kind} → keep (w || (x && false)) k ≡ takes l → keep (w || (x && d)) k ≡ takes l
+keep-least : (k : Kind) (w x d : Bool) {l : Kind} → cond (w || (x && false)) (takes k) ends ≡ takes l → cond (w || (x && d)) (takes k) ends ≡ takes l
 keep-least k true x d e = e
 keep-least k false true d e = cc
 keep-least k false false d e = e
 
-keep-most : (k : Kind) (w x d : Bool) → keep (w || (x && true)) k ≡ ends → keep (w || (x && d)) k ≡ ends
+keep-most : (k : Kind) (w x d : Bool) → cond (w || (x && true)) (takes k) ends ≡ ends → cond (w || (x && d)) (takes k) ends ≡ ends
 keep-most k true x d e = e
 keep-most k false true d e = cc
 keep-most k false false d e = refl
@@ -128,7 +129,7 @@ rests-apart (rests-inside {k = escaped q} d) b t r a = unsolid 0 (d 0 0 done)
 
 -- ---- what is left open does not depend on how the piece goes on
 
-left-keep : (x : Bool) (k : Kind) {l : Kind} → keep x k ≡ takes l → leftOf l ≡ leftOf k
+left-keep : (x : Bool) (k : Kind) {l : Kind} → cond x (takes k) ends ≡ takes l → leftOf l ≡ leftOf k
 left-keep true k e = cc
 left-keep false k e = cc
 

@@ -1,22 +1,17 @@
 -- Commas directly before a `]` or `}` in a list of lexemes or pieces (document 01, 'The words of demand 3').
 -- Assumes nothing.
-use mathlib.Core.Bool.{Bool, true, false, cond, _||_, _&&_}
+use mathlib.Core.Bool.{Bool, false, cond, _||_, _&&_}
 use mathlib.Core.List.{List, [], _∷_}
 use Prim.Native.Nat.{ℕ, suc}
-use lib.Dec.{T, eqb}
-use Rattle.report.specs.Bytes.{byte, bytes}
+use lib.Dec.{T}
+use Rattle.report.specs.Bytes.{bytes, sameBytes}
 
--- the one byte c; the comma, `]` and `}` are known by their bytes
-abbrev pub isByte : ℕ → List ℕ → Bool
-isByte c [] = false
-isByte c (b ∷ []) = eqb b c
-isByte c (b ∷ d ∷ t) = false
-
+-- the comma, `]` and `}` are known by their bytes
 abbrev pub comma : List ℕ → Bool
-comma w = isByte (byte ",") w
+comma w = sameBytes w (bytes ",")
 
 abbrev pub closer : List ℕ → Bool
-closer w = isByte (byte "]") w || isByte (byte "}") w
+closer w = sameBytes w (bytes "]") || sameBytes w (bytes "}")
 
 -- `Inserted xs ys n`: ys is xs with n commas inserted, at most one for each `]` or `}`, directly before it.
 pub data Inserted : List (List ℕ) → List (List ℕ) → ℕ → Type 0 where
@@ -29,11 +24,7 @@ abbrev pub closes : List (List ℕ) → Bool
 closes [] = false
 closes (w ∷ ws) = cond (comma w) (closes ws) (closer w)
 
-abbrev pub unless : Bool → List ℕ → List (List ℕ) → List (List ℕ)
-unless true w ws = ws
-unless false w ws = w ∷ ws
-
 -- The list with each run of commas directly before a `]` or `}` struck out.
 abbrev pub struck : List (List ℕ) → List (List ℕ)
 struck [] = []
-struck (w ∷ ws) = unless (comma w && closes ws) w (struck ws)
+struck (w ∷ ws) = cond (comma w && closes ws) (struck ws) (w ∷ struck ws)

@@ -1,15 +1,15 @@
 -- Reading back (document 01): a text read into pieces, byte by byte.
 -- An open piece takes the next byte in (`join`), or ends before it, and the byte begins anew (`begin`).
 -- Assumes nothing.
-use mathlib.Core.Bool.{Bool, true, false, cond, _&&_, _||_}
+use mathlib.Core.Bool.{cond, _&&_, _||_}
 use mathlib.Core.List.{List, [], _∷_}
 use Prim.Native.Nat.{ℕ, suc}
 use lib.Dec.{eqb}
 use lib.ListN.{drop}
-use Rattle.report.specs.Bytes.{byte}
+use Rattle.report.specs.Bytes.{byte, digit}
 use Rattle.pieces.specs.declared.bytes.Class.{Class}
 use Rattle.pieces.specs.declared.bytes.Class.the-variants.{Gap, Single, Quote, Word, Operator, Unclassed}
-use Rattle.pieces.specs.Class.{class, digit, isWord, isOperator}
+use Rattle.pieces.specs.Class.{class, isWord, isOperator}
 
 -- What a text reads as: its pieces in order, each from its start to its end (not included), up to the
 -- text's end or to refusal 9 at its index.
@@ -44,13 +44,9 @@ pub data Begun : Type 0 where
   nothing blank : Begun
   opens : Kind → Begun
 
-abbrev pub keep : Bool → Kind → Joined
-keep true k = takes k
-keep false k = ends
-
 -- A run begun with a digit, which goes on as k: word bytes, and a `.` that a digit follows.
 abbrev pub digits : Kind → ℕ → ℕ → Joined
-digits k b behind = keep (isWord (class b) || (eqb b (byte ".") && digit behind)) k
+digits k b behind = cond (isWord (class b) || (eqb b (byte ".") && digit behind)) (takes k) ends
 
 -- A quote runs to the next equal quote; a backslash takes the byte behind it along.
 abbrev pub inQuote : ℕ → ℕ → Kind
@@ -60,9 +56,9 @@ inQuote q b = cond (eqb b q) closed (cond (eqb b (byte "\\")) (escaped q) (quote
 abbrev pub join : Mode → ℕ → ℕ → Joined
 join between b behind = ends
 join (inside closed) b behind = ends
-join (inside word) b behind = keep (isWord (class b)) word
+join (inside word) b behind = cond (isWord (class b)) (takes word) ends
 join (inside number) b behind = digits number b behind
-join (inside operator) b behind = keep (isOperator (class b)) operator
+join (inside operator) b behind = cond (isOperator (class b)) (takes operator) ends
 join (inside (quoted q)) b behind = takes (inQuote q b)
 join (inside (escaped q)) b behind = takes (quoted q)
 

@@ -1,12 +1,11 @@
 -- Sets of bytes, and runs of bytes in a set: what the code's loops count.
 -- Assumes nothing.
-use mathlib.Core.Bool.{Bool, true, cond, _&&_}
+use mathlib.Core.Bool.{Bool, true, false, cond, _&&_}
 use mathlib.Core.List.{List, [], _∷_}
 use Prim.Native.Nat.{ℕ, zero, suc, _-_, _/_, _%_, _^_}
 use lib.Dec.{eqb, ltb}
 use Rattle.pieces.specs.declared.bytes.Class.{Class}
-use Rattle.pieces.specs.declared.bytes.Class.the-variants.{Gap, Single, Quote}
-use Rattle.pieces.specs.Class.{rank}
+use Rattle.pieces.specs.declared.bytes.Class.the-variants.{Gap, Single, Quote, Word, Operator, Unclassed}
 
 abbrev pub bit : ℕ → ℕ → Bool
 bit n k = eqb (n / 2 ^ k % 2) 1
@@ -28,10 +27,10 @@ all f (b ∷ w) = f b && all f w
 -- ---- the classes whose tests only the code cites
 
 abbrev pub isGap : Class → Bool
-isGap c = eqb (rank c) (rank Gap)
+isGap = elim [ Gap ↦ true | Single ↦ false | Quote ↦ false | Word ↦ false | Operator ↦ false | Unclassed ↦ false ]
 
 abbrev pub isSingle : Class → Bool
-isSingle c = eqb (rank c) (rank Single)
+isSingle = elim [ Gap ↦ false | Single ↦ true | Quote ↦ false | Word ↦ false | Operator ↦ false | Unclassed ↦ false ]
 
 abbrev pub isQuote : Class → Bool
-isQuote c = eqb (rank c) (rank Quote)
+isQuote = elim [ Gap ↦ false | Single ↦ false | Quote ↦ true | Word ↦ false | Operator ↦ false | Unclassed ↦ false ]

@@ -1,6 +1,7 @@
 // The classes of bytes, by sets that are held as bits.
 ghost use mathlib.Core.Path.{_≡_};
-ghost use Rattle.pieces.specs.Class.{class, digit, isWord, isOperator};
+ghost use Rattle.report.specs.Bytes.{digit};
+ghost use Rattle.pieces.specs.Class.{class, isWord, isOperator};
 ghost use Rattle.pieces.specs.Sets.{member, isGap, isSingle, isQuote};
 
 pub enum Class {

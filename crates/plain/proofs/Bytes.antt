@@ -8,14 +8,14 @@ use lib.Dec.{eqb}
 use lib.ListN.{length, getD, take, drop}
 use lib.Seq.{slice, take-nil}
 use borrow.Author.Tests.{eqb-true, ne-eqb}
+use Rattle.report.specs.Bytes.{digit, sameBytes}
 use Rattle.report.proofs.Logic.{split, impossible′}
 use Rattle.pieces.specs.declared.Next.the-variants.{Piece, End, Unreadable}
-use Rattle.pieces.specs.Class.{digit}
 use Rattle.pieces.specs.Reading.{Reading, done, refused, piece, between, readFrom}
 use Rattle.pieces.specs.Next.{next}
 use Rattle.pieces.proofs.Scan.{at-end}
 use Rattle.pieces.proofs.Resume.{next-first, next-done, next-refused}
-use Rattle.push_token.specs.Plain.{sameBytes, operatorByte, isOnePiece, readsWhole, endsOperator, beginsOperator, beginsDigit}
+use Rattle.push_token.specs.Plain.{operatorByte, isOnePiece, readsWhole, endsOperator, beginsOperator, beginsDigit}
 
 -- ---- compared
 
@@ -43,13 +43,6 @@ same-longer [] [] n = absurd (n refl)
 same-longer [] (b ∷ v) n = refl
 same-longer (a ∷ w) [] n = refl
 same-longer (a ∷ w) (b ∷ v) n = split (eqb a b) (λ e. rw e (same-longer w v (λ q. n (ap suc q)))) (λ e. rw e)
-
-pub same-eq : (w v : List ℕ) → sameBytes w v ≡ true → w ≡ v
-same-eq [] [] e = refl
-same-eq [] (b ∷ v) e = impossible′ e
-same-eq (a ∷ w) [] e = impossible′ e
-same-eq (a ∷ w) (b ∷ v) e =
-    split (eqb a b) (λ q. let r : sameBytes w v ≡ true = rw q at e in rw (eqb-true a b q, same-eq w v r)) (λ q. impossible′ (rw q at e))
 
 -- ---- at its ends
 

@@ -7,9 +7,10 @@ use native.Mathlib.Omega.{arith}
 use lib.Dec.{eqb}
 use lib.ListN.{length, getD, take, drop}
 use borrow.Author.Tests.{eqb-true, eq-eqb}
+use Rattle.report.specs.Bytes.{digit}
 use Rattle.report.proofs.Logic.{and-right}
 use Rattle.report.proofs.Below.{agree-below}
-use Rattle.pieces.specs.Class.{class, digit, isWord, isOperator}
+use Rattle.pieces.specs.Class.{class, isWord, isOperator}
 use Rattle.pieces.specs.Reading.{Kind, word, number, quoted, between, opens, begin}
 use Rattle.pieces.specs.Sets.{runLength, isQuote}
 use Rattle.pieces.specs.Ends.{EndsAt, ordinary}

@@ -6,7 +6,7 @@ ghost use mathlib.Core.Bool.{true, cond};
 ghost use mathlib.Core.Path.{_≡_};
 ghost use Prim.Native.Nat.{_+_, _≤_, min};
 ghost use lib.ListN.{length, take, drop};
-ghost use Rattle.pieces.specs.Class.{within};
+ghost use Rattle.report.specs.Bytes.{within};
 ghost use Rattle.pieces.specs.Sets.{all};
 ghost use Rattle.pieces.specs.Eight.{eightOnes};
 ghost use Rattle.plain.specs.Scan.{isWordByte, runOf};

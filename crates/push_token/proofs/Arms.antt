@@ -1,9 +1,9 @@
 -- The arms but those of Newline and the braces: each writes its token and keeps what the walk keeps. Assumes nothing.
 use mathlib.Core.Bool.{Bool, true, false, cond, not, _&&_, _||_}
 use mathlib.Core.List.{List, [], _∷_, _++_}
-use mathlib.Core.Option.{Option, none, some}
+use mathlib.Core.Option.{Option, none, some, Option·map}
 use mathlib.Core.Path.{_≡_, refl, sym, ap, _∙_}
-use Prim.Native.Nat.{ℕ, _+_}
+use Prim.Native.Nat.{ℕ, _+_, _-_}
 use lib.Dec.{T, eqb}
 use Rattle.rows.specs.Kinds.{LeftParen, RightParen, RightBracket, Comma, Else, Record, Identifier}
 use Rattle.rows.specs.Options.{Options}
@@ -17,10 +17,10 @@ use Rattle.pieces.proofs.Written.{Written, written-gap}
 use Rattle.report.proofs.Logic.{impossible′, and-left}
 use Rattle.push_token.specs.Formatter.{Formatter, setFnState, setSigBreakDepth}
 use Rattle.push_token.specs.Act.{State, state, run}
-use Rattle.report.specs.Bytes.{lineFeed}
+use Rattle.report.specs.Bytes.{lineFeed, sameBytes}
 use Rattle.push_token.specs.Emit.{indentStr, onNewLine, indented, dedented, tokenGap}
-use Rattle.push_token.specs.Arms.{popped, openList, deeper, leftParenArm, leftBracketArm, shallower, rightParenArm, rightBracketArm, commaArm, elseArm, trackRecord, otherArm}
-use Rattle.push_token.specs.Plain.{sameBytes, hasItsLexeme, mayMeet, noDotBehind}
+use Rattle.push_token.specs.Arms.{popped, openList, leftParenArm, leftBracketArm, rightParenArm, rightBracketArm, commaArm, elseArm, trackRecord, otherArm}
+use Rattle.push_token.specs.Plain.{hasItsLexeme, mayMeet, noDotBehind}
 use Rattle.push_token.proofs.After.{After, chosen, inTurn, first, last}
 use Rattle.push_token.proofs.Beside.{Sound, lexeme-is}
 use Rattle.push_token.proofs.Inv.{Stands, free, WroteBy, Wrote, kept-apart, put, put-byte, put-comma, wrote-put, token-gaps, line-gaps, feed-gaps, feed}
@@ -136,11 +136,11 @@ module _ (o : Options) (t : Token) (xs : List (List ℕ)) (l : Option Token) (s 
         (λ b. record { holds = going t xs (pushing (setFnState 0 (s .formatter)) refl refl) })))
         (λ b. chosen
         (λ b. open-list i (and-left _ _ b))
-        (λ b. record { holds = going t xs (pushing (setSigBreakDepth (deeper (s .formatter .sigBreakDepth)) (s .formatter)) refl refl) }))
+        (λ b. record { holds = going t xs (pushing (setSigBreakDepth (Option·map (λ d. d + 1) (s .formatter .sigBreakDepth)) (s .formatter)) refl refl) }))
 
     -- the formatter behind the first update of the arm
     abbrev inner : Formatter
-    inner = setSigBreakDepth (shallower (s .formatter .sigBreakDepth)) (s .formatter)
+    inner = setSigBreakDepth (Option·map (λ d. d - 1) (s .formatter .sigBreakDepth)) (s .formatter)
 
     pub right-paren-arm : t .kind ≡ RightParen → After (Arm xs t (s .formatter)) (rightParenArm o t) s
     unfolding run rightParenArm hasItsLexeme class

@@ -7,30 +7,22 @@ use Prim.Native.Nat.{ℕ}
 use lib.Dec.{eqb}
 use lib.ListN.{length}
 use borrow.Author.Tests.{eqb-true}
-use Rattle.report.specs.Bytes.{oneOf}
+use Rattle.report.specs.Bytes.{oneOf, digit, sameBytes}
+use Rattle.report.proofs.Bytes.{same-eq}
 use Rattle.rows.specs.Kinds.{LeftBrace, RightBrace, LeftParen, RightParen, LeftBracket, RightBracket, Comma, Colon, Semicolon, Question, Dot, DotDot, ColonColon, Hash, Bang, BangHash, Minus}
 use Rattle.rows.specs.Token.{Token}
 use Rattle.pieces.specs.declared.bytes.Class.{Class}
 use Rattle.pieces.specs.declared.bytes.Class.the-variants.{Gap, Single, Quote, Word, Operator, Unclassed}
-use Rattle.pieces.specs.Class.{class, digit, isWord, isOperator}
+use Rattle.pieces.specs.Class.{class, isWord, isOperator}
 use Rattle.pieces.specs.Reading.{Reading, done, refused, piece, peek, read, reading}
 use Rattle.pieces.proofs.Whole.{Left, clear, shut, afterWord, afterNumber, afterOperator, leaves, leftBy, Undigit, Apart, ReadsWhole, Operators, whole-operators}
 use Rattle.pieces.proofs.Written.{apart-single}
 use Rattle.report.proofs.Logic.{impossible, impossible′, and-left, and-right, or-cases, or-left, or-right, split}
 use Rattle.push_token.specs.Emit.{spaceAfter}
-use Rattle.push_token.specs.Plain.{sameBytes, operatorByte, onlyOperators, hasItsLexeme, isOnePiece, readsWhole, endsOperator, beginsOperator, tightBefore, tightBehind, operatorsMeet, mayMeet, beginsDigit, noDotBehind}
+use Rattle.push_token.specs.Plain.{operatorByte, onlyOperators, hasItsLexeme, isOnePiece, readsWhole, endsOperator, beginsOperator, tightBefore, tightBehind, operatorsMeet, mayMeet, beginsDigit, noDotBehind}
 use Rattle.push_token.proofs.After.{Each, among}
 
 -- ---- what the tests of a lexeme say
-
-pub same-bytes : (u v : List ℕ) → sameBytes u v ≡ true → u ≡ v
-same-bytes [] [] e = refl
-same-bytes [] (b ∷ v) e = impossible′ e
-same-bytes (a ∷ u) [] e = impossible′ e
-same-bytes (a ∷ u) (b ∷ v) e =
-    let p : a ≡ b = eqb-true a b (and-left (eqb a b) (sameBytes u v) e) in
-    let q : u ≡ v = same-bytes u v (and-right (eqb a b) (sameBytes u v) e) in
-    cc
 
 one-piece : (n : ℕ) (r : Reading) → isOnePiece n r ≡ true → r ≡ piece 0 n done
 one-piece n done e = impossible′ e
@@ -53,7 +45,7 @@ pub record Sound (t : Token) : Type 0 where
 
 -- a kind with a lexeme of its own has that
 pub lexeme-is : (k j : ℕ) (w v : List ℕ) → hasItsLexeme k w ≡ true → k ≡ j → hasItsLexeme j w ≡ sameBytes w v → w ≡ v
-lexeme-is k j w v h e f = same-bytes w v (sym f ∙ (rw e at h))
+lexeme-is k j w v h e f = same-eq w v (sym f ∙ (rw e at h))
 
 -- ---- operator bytes
 

@@ -17,10 +17,10 @@ use Rattle.pieces.proofs.Written.{written-gap}
 use Rattle.report.proofs.Logic.{impossible, impossible′, split}
 use Rattle.push_token.specs.Formatter.{Formatter, setInlineDepth, setRecordPending, setInRecord, setRecordDepth, setJustClosedInline}
 use Rattle.push_token.specs.Act.{State, state, run, _⨾_}
-use Rattle.report.specs.Bytes.{lineFeed, space}
+use Rattle.report.specs.Bytes.{lineFeed, space, sameBytes}
 use Rattle.push_token.specs.Emit.{prevIs, indentOrSpace, onNewLine, dedented, openBlockMultiline}
 use Rattle.push_token.specs.Arms.{rightBraceArm, nextIs, openBlock, leftBraceArm}
-use Rattle.push_token.specs.Plain.{isMute, sameBytes, hasItsLexeme}
+use Rattle.push_token.specs.Plain.{isMute, hasItsLexeme}
 use Rattle.push_token.proofs.PlainScan.{Seen}
 use Rattle.push_token.proofs.After.{After, chosen, inTurn, first, last}
 use Rattle.push_token.proofs.Beside.{Sound, lexeme-is}

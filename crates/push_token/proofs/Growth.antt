@@ -2,7 +2,7 @@
 -- Assumes nothing.
 use mathlib.Core.Bool.{Bool, true, false, cond, not, _&&_, _||_}
 use mathlib.Core.List.{List, [], _∷_}
-use mathlib.Core.Option.{Option, none, some}
+use mathlib.Core.Option.{Option, none, some, Option·map}
 use mathlib.Core.Path.{_≡_}
 use Prim.Native.Nat.{ℕ, _+_, _-_, _≤_, _<_}
 use native.Mathlib.Omega.{arith}
@@ -16,7 +16,7 @@ use Rattle.rows.specs.Token.{Trivia, lineComment, docComment, blockComment, bla
 use Rattle.push_token.specs.Formatter.{Formatter}
 use Rattle.push_token.specs.Act.{State, Act, run, update, gap, lexeme, insert, comment, _⨾_, choose, nothing, if}
 use Rattle.push_token.specs.Emit.{trackFnState, leadingTrivia, trailingTrivia, openBlockMultiline, pushLexeme}
-use Rattle.push_token.specs.Arms.{groupOpened, newlineArm, rightBraceArm, emptyRecord, openBlock, leftBraceArm, openList, breaksList, atSignature, deeper, leftParenArm, leftBracketArm, shallower, rightParenArm, rightBracketArm, commaArm, elseArm, otherArm}
+use Rattle.push_token.specs.Arms.{groupOpened, newlineArm, rightBraceArm, emptyRecord, openBlock, leftBraceArm, openList, breaksList, atSignature, leftParenArm, leftBracketArm, rightParenArm, rightBracketArm, commaArm, elseArm, otherArm}
 use Rattle.push_token.specs.PushToken.{arm, overflows, pushToken, turn}
 use Rattle.push_token.proofs.After.{After, chosen, inTurn, implied}
 
@@ -179,7 +179,7 @@ open-list o i t = (gapped then written then keeps (λ f. search arith)) then gap
 open-group : (o : Options) (t : Token) → Slow 0 1 (pushLexeme o t ⨾ update groupOpened)
 open-group o t = push-lexeme o t then raises (λ f. search arith)
 
-deeper-by-one : (d : Option ℕ) → depth (deeper d) ≤ depth d + 1
+deeper-by-one : (d : Option ℕ) → depth (Option·map (λ e. e + 1) d) ≤ depth d + 1
 deeper-by-one none = omega arith
 deeper-by-one (some d) = omega arith
 
@@ -195,7 +195,7 @@ left-bracket-arm : (o : Options) (i : ℕ) (t : Token) (ts : List Token) → Ope
 unfolding leftBracketArm
 left-bracket-arm o i t ts = opens (open-list o i t) (open-group o t)
 
-less-deep : (d : Option ℕ) (k : ℕ) → depth (shallower d) ≤ depth d + k
+less-deep : (d : Option ℕ) (k : ℕ) → depth (Option·map (λ e. e - 1) d) ≤ depth d + k
 less-deep none k = omega arith
 less-deep (some d) k = omega arith
 

@@ -2,8 +2,8 @@
 -- Where the Rust returns from an arm, `returned` is set, and no trailing trivia are written.
 -- Assumes nothing.
 use mathlib.Core.Bool.{Bool, true, false, cond, not, _&&_, _||_}
-use mathlib.Core.List.{List, [], _∷_, _++_}
-use mathlib.Core.Option.{Option, none, some}
+use mathlib.Core.List.{List, [], _∷_, _++_, head?}
+use mathlib.Core.Option.{none, some, Option·map}
 use Prim.Native.Nat.{ℕ, _+_, _-_}
 use lib.Dec.{eqb, ltb}
 use lib.ListN.{drop}
@@ -25,13 +25,9 @@ inOneLineBlock f = ltb 0 (f .inlineDepth)
 abbrev pub atRecordFields : Formatter → Bool
 atRecordFields f = f .inRecord && eqb (f .recordDepth) 1
 
-abbrev pub topIs : List ℕ → ℕ → Bool
-topIs [] d = false
-topIs (e ∷ es) d = eqb e d
-
 -- directly in the innermost broken list: `break_stack.last() == Some(&group_depth)`
 abbrev pub inBrokenList : Formatter → Bool
-inBrokenList f = topIs (f .breakStack) (f .groupDepth)
+inBrokenList f = isAt (head? (f .breakStack)) (f .groupDepth)
 
 -- ---- updates that several arms make
 
@@ -142,10 +138,6 @@ breaksList o t ts f = eqb (f .inlineDepth) 0 && (not (f .inRecord) && shouldBrea
 abbrev pub atSignature : Formatter → Bool
 atSignature f = eqb (f .inlineDepth) 0 && (eqb (f .fnState) 2 || eqb (f .fnState) 1)
 
-abbrev pub deeper : Option ℕ → Option ℕ
-deeper none = none
-deeper (some d) = some (d + 1)
-
 abbrev pub breakSignature : Options → ℕ → Act
 breakSignature o i =
     lexeme leftParen ⨾ update indented ⨾ gap (λ f. lineFeed ++ indentStr o f)
@@ -158,16 +150,12 @@ unfoldable pub leftParenArm : Options → ℕ → Token → List Token → Act
 leftParenArm o i t ts =
     if atSignature (openSignature o i t ts)
     (if (breaksList o t ts) (openList o i t)
-    (update (λ f. setSigBreakDepth (deeper (f .sigBreakDepth)) f) ⨾ openGroup o t))
+    (update (λ f. setSigBreakDepth (Option·map (λ d. d + 1) (f .sigBreakDepth)) f) ⨾ openGroup o t))
 
 unfoldable pub leftBracketArm : Options → ℕ → Token → List Token → Act
 leftBracketArm o i t ts = if (breaksList o t ts) (openList o i t) (openGroup o t)
 
 -- ---- RightParen, 496
-
-abbrev pub shallower : Option ℕ → Option ℕ
-shallower none = none
-shallower (some d) = some (d - 1)
 
 abbrev pub closeGroup : Options → Token → Act
 closeGroup o t = pushLexeme o t ⨾ update groupClosed
@@ -185,7 +173,7 @@ closeCall o = update (λ f. dedented (popped f)) ⨾ gap (onNewLine o) ⨾ lexem
 
 unfoldable pub rightParenArm : Options → Token → Act
 rightParenArm o t =
-    update (λ f. setSigBreakDepth (shallower (f .sigBreakDepth)) f)
+    update (λ f. setSigBreakDepth (Option·map (λ d. d - 1) (f .sigBreakDepth)) f)
     ⨾ if (λ f. isAt (f .sigBreakDepth) 0) (closeSignature o)
     (if inBrokenList (closeCall o) (closeGroup o t))
 

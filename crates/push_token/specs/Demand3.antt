@@ -1,5 +1,6 @@
 -- Demand 3, in the words of the demand and of document 01's 'The words of demand 3'. proofs/Demand3.antt proves both halves.
 -- Assumes nothing.
+use mathlib.Core.Bool.{cond}
 use mathlib.Core.List.{List, [], _∷_}
 use mathlib.Core.Path.{_≡_}
 use Prim.Native.Nat.{ℕ, _+_, _*_, _≤_}
@@ -7,14 +8,14 @@ use lib.ListN.{length, take}
 use Rattle.report.specs.Report.{Report, success}
 use Rattle.rows.specs.Token.{Token, tokensOf}
 use Rattle.pieces.specs.Answer.{readAnswer, readSlots, cut}
-use Rattle.pieces.specs.Commas.{Inserted, unless, struck}
+use Rattle.pieces.specs.Commas.{Inserted, struck}
 use Rattle.push_token.specs.Plain.{isMute}
 use Rattle.push_token.specs.Layout.{Layout, layout}
 
 -- the lexemes of all tokens but Newline and Eof
 unfoldable pub lexemesOf : List Token → List (List ℕ)
 lexemesOf [] = []
-lexemesOf (t ∷ ts) = unless (isMute t) (t .lexeme) (lexemesOf ts)
+lexemesOf (t ∷ ts) = cond (isMute t) (lexemesOf ts) (t .lexeme ∷ lexemesOf ts)
 
 abbrev pub lexemes : List ℕ → List ℕ → List (List ℕ)
 lexemes rows text = lexemesOf (tokensOf rows text)

@@ -7,11 +7,11 @@ use mathlib.Core.Option.{Option, none, some}
 use Prim.Native.Nat.{ℕ}
 use lib.Dec.{eqb}
 use lib.ListN.{length}
-use Rattle.report.specs.Bytes.{bytes, oneOf}
+use Rattle.report.specs.Bytes.{bytes, oneOf, sameBytes, digit}
 use Rattle.rows.specs.Kinds.{Eof, Newline, LeftBrace, RightBrace, LeftParen, RightParen, LeftBracket, RightBracket, Comma, Colon, Semicolon, Question, Dot, DotDot, ColonColon, Hash, Bang, BangHash, Minus, Else, Record}
 use Rattle.rows.specs.Token.{Token}
 use Rattle.lookahead.specs.Measure.{bare}
-use Rattle.pieces.specs.Class.{class, digit, isOperator}
+use Rattle.pieces.specs.Class.{class, isOperator}
 use Rattle.pieces.specs.Reading.{Reading, done, refused, piece, reading}
 use Rattle.push_token.specs.Arms.{nextIs}
 
@@ -39,12 +39,6 @@ abbrev pub clause₁ : Token → Bool
 clause₁ t = bare t
 
 -- ---- 2. kinds 2–16, 18, 19 have their lexemes, and BangHash only operator bytes
-
-abbrev pub sameBytes : List ℕ → List ℕ → Bool
-sameBytes [] [] = true
-sameBytes [] (b ∷ v) = false
-sameBytes (a ∷ u) [] = false
-sameBytes (a ∷ u) (b ∷ v) = eqb a b && sameBytes u v
 
 abbrev pub operatorByte : ℕ → Bool
 operatorByte b = isOperator (class b)

@@ -1,11 +1,11 @@
--- Bytes by name, each as it is written in quotes.
+-- Bytes by name, each as it is written in quotes, and tests of bytes.
 -- Assumes nothing.
-use mathlib.Core.Bool.{Bool, false, _||_}
+use mathlib.Core.Bool.{Bool, true, false, _||_, _&&_}
 use mathlib.Core.List.{List, [], _∷_}
 use Prim.Native.Nat.{ℕ}
 use Prim.Native.Char.{Char, code}
 use Prim.Native.String.{String, [] as empty, _∷_ as _before_}
-use lib.Dec.{eqb}
+use lib.Dec.{leb, eqb}
 
 -- the byte of an ASCII character
 abbrev pub byte : Char → ℕ
@@ -20,6 +20,20 @@ bytes (c before s) = byte c ∷ bytes s
 abbrev pub oneOf : List ℕ → ℕ → Bool
 oneOf [] k = false
 oneOf (j ∷ js) k = eqb k j || oneOf js k
+
+-- two texts have the same bytes
+abbrev pub sameBytes : List ℕ → List ℕ → Bool
+sameBytes [] [] = true
+sameBytes [] (b ∷ v) = false
+sameBytes (a ∷ u) [] = false
+sameBytes (a ∷ u) (b ∷ v) = eqb a b && sameBytes u v
+
+abbrev pub within : ℕ → ℕ → ℕ → Bool
+within low high b = leb low b && leb b high
+
+-- 0–9
+abbrev pub digit : ℕ → Bool
+digit b = within (byte "0") (byte "9") b
 
 -- ---- gaps
 

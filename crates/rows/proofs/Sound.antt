@@ -1,7 +1,7 @@
 -- What those who walk checked rows may take for granted. Assumes nothing.
-use mathlib.Core.Bool.{Bool, true, false, not, _&&_, _||_}
+use mathlib.Core.Bool.{Bool, true, false, cond, not, _&&_, _||_}
 use mathlib.Core.List.{List, [], _∷_}
-use mathlib.Core.Option.{Option, none}
+use mathlib.Core.Option.{Option, none, some}
 use mathlib.Core.Path.{_≡_, refl}
 use Prim.Native.Nat.{ℕ, zero, suc, _+_, _-_, _≤_, _<_}
 use native.Mathlib.Omega.{arith}
@@ -12,7 +12,6 @@ use borrow.Author.Tests.{ltb-false}
 use Rattle.report.proofs.Logic.{or-left, or-right}
 use Rattle.rows.specs.Kinds.{TokenRow, Trailing, Other}
 use Rattle.rows.specs.Row.{Row}
-use Rattle.rows.specs.Options.{orElse}
 use Rattle.rows.specs.Token.{bytesOf}
 use Rattle.rows.specs.Bounds.{Inside, InBounds}
 use Rattle.rows.specs.Checks.{Before, after, mayTrail, topKind, badRow, badFrom}
@@ -57,7 +56,7 @@ token-bad size before r w = rw w (or-none (misnamed Other size r))
 
 -- ---- the rows of a list that is not refused
 
-passed : (b : Bool) (i : ℕ) (o : Option ℕ) → orElse b i o ≡ none → (b ≡ false) × (o ≡ none)
+passed : (b : Bool) (i : ℕ) (o : Option ℕ) → cond b (some i) o ≡ none → (b ≡ false) × (o ≡ none)
 passed true i o e = let z : _≡_ {A = ℕ} 0 1 = cc in absurd (omega arith)
 passed false i o e = (refl, e)
 

@@ -2,13 +2,12 @@
 -- Assumes nothing.
 use mathlib.Core.Bool.{Bool, false, cond, not, _&&_, _||_}
 use mathlib.Core.List.{List, [], _∷_}
-use mathlib.Core.Option.{Option, none}
+use mathlib.Core.Option.{Option, none, some}
 use Prim.Native.Nat.{ℕ, _+_, _-_, _/_, _%_}
 use lib.Dec.{eqb, ltb}
 use lib.ListN.{length}
 use Rattle.rows.specs.Kinds.{Leading, TokenRow, Trailing, BlankLine, Other}
 use Rattle.rows.specs.Row.{Row}
-use Rattle.rows.specs.Options.{orElse}
 
 -- Refusal 2: rows not of 16 bytes each, or over 65,535 rows.
 abbrev pub ragged : List ℕ → Bool
@@ -44,5 +43,5 @@ orphan (after what) = eqb what Leading
 
 -- Refusal 3: the first bad row, from row i on; for an orphan lead the last row.
 unfoldable pub badFrom : ℕ → Before → ℕ → List Row → Option ℕ
-badFrom size before i [] = orElse (orphan before) (i - 1) none
-badFrom size before i (r ∷ rs) = orElse (badRow size before r) i (badFrom size (after (r .what)) (i + 1) rs)
+badFrom size before i [] = cond (orphan before) (some (i - 1)) none
+badFrom size before i (r ∷ rs) = cond (badRow size before r) (some i) (badFrom size (after (r .what)) (i + 1) rs)

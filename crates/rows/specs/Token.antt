@@ -1,6 +1,6 @@
 -- Tokens with their trivia, as checked rows name them (document 01, 'The rows arrive').
 -- Assumes nothing.
-use mathlib.Core.Bool.{Bool, true, false, cond}
+use mathlib.Core.Bool.{cond}
 use mathlib.Core.List.{List, [], _∷_, _++_}
 use Prim.Native.Nat.{ℕ}
 use lib.Dec.{eqb}
@@ -36,18 +36,12 @@ trailingOf text (r ∷ rs) = cond (eqb (r .what) Trailing) (triviaOf text r ∷ 
 abbrev pub tokenOf : List ℕ → List Trivia → Row → List Row → Token
 tokenOf text leading r rs = record { kind = r .kind; lexeme = bytesOf text r; leading = leading; trailing = trailingOf text rs }
 
-abbrev pub whenToken : Bool → Token → List Token → List Token
-whenToken true t ts = t ∷ ts
-whenToken false t ts = ts
-
--- the leading trivia of the next token, behind a row
-abbrev pub leadingAfter : List ℕ → List Trivia → Row → List Trivia
-leadingAfter text leading r = cond (eqb (r .what) Leading) (leading ++ (triviaOf text r ∷ [])) (cond (eqb (r .what) TokenRow) [] leading)
-
 -- the tokens of the rows, behind leading rows that stood before them
 unfoldable pub tokensFrom : List ℕ → List Trivia → List Row → List Token
 tokensFrom text leading [] = []
-tokensFrom text leading (r ∷ rs) = whenToken (eqb (r .what) TokenRow) (tokenOf text leading r rs) (tokensFrom text (leadingAfter text leading r) rs)
+tokensFrom text leading (r ∷ rs) =
+    cond (eqb (r .what) TokenRow) (tokenOf text leading r rs ∷ tokensFrom text [] rs)
+    (tokensFrom text (cond (eqb (r .what) Leading) (leading ++ (triviaOf text r ∷ [])) leading) rs)
 
 -- The tokens that the rows name in the text.
 unfoldable pub tokensOf : List ℕ → List ℕ → List Token

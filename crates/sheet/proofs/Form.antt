@@ -7,10 +7,11 @@ use native.Mathlib.Omega.{arith}
 use lib.Dec.{eqb, leb, ltb}
 use lib.ListN.{length, getD, drop, length-drop}
 use borrow.Author.Tests.{ne-eqb, le-leb, lt-leb, leb-true, ltb-true}
+use Rattle.report.specs.Bytes.{digit}
 use Rattle.report.proofs.Logic.{and-left, and-right}
 use Rattle.sheet.specs.declared.line.Head.{Head}
 use Rattle.sheet.specs.declared.line.Head.the-variants.{Row, Bad}
-use Rattle.sheet.specs.Line.{Line, bad, textOf, rowOf, spaceAndText, isDigit, isSecond, kindFrom, kindAndText, spaceAndKind, whatOf, lineOf}
+use Rattle.sheet.specs.Line.{Line, bad, textOf, rowOf, spaceAndText, isSecond, kindFrom, kindAndText, spaceAndKind, whatOf, lineOf}
 use Rattle.sheet.specs.Steps.{lineAt, behindAt, Headed, HeadAt}
 use Rattle.sheet.proofs.Cut.{line-short, line-here, line-more, behind-more}
 
@@ -25,29 +26,29 @@ unfolding lineOf textOf
 too-short [] h = refl
 too-short (a ∷ []) h = both (leb (whatOf a) 2)
 too-short (a ∷ b ∷ []) h = rw (both (eqb b 32), both (leb (whatOf a) 2))
-too-short (a ∷ b ∷ c ∷ []) h = rw (both (isDigit c), both (eqb b 32), both (leb (whatOf a) 2))
-too-short (a ∷ b ∷ c ∷ d ∷ []) h = rw (both (eqb d 32), both (isSecond (c - 48) d), both (isDigit c), both (eqb b 32), both (leb (whatOf a) 2))
+too-short (a ∷ b ∷ c ∷ []) h = rw (both (digit c), both (eqb b 32), both (leb (whatOf a) 2))
+too-short (a ∷ b ∷ c ∷ d ∷ []) h = rw (both (eqb d 32), both (isSecond (c - 48) d), both (digit c), both (eqb b 32), both (leb (whatOf a) 2))
 too-short (a ∷ b ∷ c ∷ d ∷ e ∷ l) h = absurd (omega arith)
 
 -- ---- digits
 
-pub digit-low : (b : ℕ) → isDigit b ≡ true → 48 ≤ b
+pub digit-low : (b : ℕ) → digit b ≡ true → 48 ≤ b
 digit-low b e = leb-true 48 b (and-left (leb 48 b) (leb b 57) e)
 
-pub digit-high : (b : ℕ) → isDigit b ≡ true → b ≤ 57
+pub digit-high : (b : ℕ) → digit b ≡ true → b ≤ 57
 digit-high b e = leb-true b 57 (and-right (leb 48 b) (leb b 57) e)
 
-pub second-digit : (k b : ℕ) → isSecond k b ≡ true → isDigit b ≡ true
-second-digit k b e = and-left (isDigit b) (ltb 0 k && leb (10 * k + (b - 48)) 34) e
+pub second-digit : (k b : ℕ) → isSecond k b ≡ true → digit b ≡ true
+second-digit k b e = and-left (digit b) (ltb 0 k && leb (10 * k + (b - 48)) 34) e
 
 pub second-some : (k b : ℕ) → isSecond k b ≡ true → 0 < k
-second-some k b e = ltb-true 0 k (and-left (ltb 0 k) (leb (10 * k + (b - 48)) 34) (and-right (isDigit b) (ltb 0 k && leb (10 * k + (b - 48)) 34) e))
+second-some k b e = ltb-true 0 k (and-left (ltb 0 k) (leb (10 * k + (b - 48)) 34) (and-right (digit b) (ltb 0 k && leb (10 * k + (b - 48)) 34) e))
 
 pub second-small : (k b : ℕ) → isSecond k b ≡ true → 10 * k + (b - 48) ≤ 34
-second-small k b e = leb-true (10 * k + (b - 48)) 34 (and-right (ltb 0 k) (leb (10 * k + (b - 48)) 34) (and-right (isDigit b) (ltb 0 k && leb (10 * k + (b - 48)) 34) e))
+second-small k b e = leb-true (10 * k + (b - 48)) 34 (and-right (ltb 0 k) (leb (10 * k + (b - 48)) 34) (and-right (digit b) (ltb 0 k && leb (10 * k + (b - 48)) 34) e))
 
 -- a digit is no line feed, nor is the byte of a what
-pub digit-solid : (b : ℕ) → isDigit b ≡ true → b ≡ 10 → ⊥
+pub digit-solid : (b : ℕ) → digit b ≡ true → b ≡ 10 → ⊥
 digit-solid b e q = let h = digit-low b e in omega arith
 
 pub what-solid : (b : ℕ) → whatOf b ≤ 2 → b ≡ 10 → ⊥
@@ -71,10 +72,10 @@ module _ (sheet : List ℕ) (i : ℕ) (h : i < length sheet) (what k : ℕ) wher
   space-behind e = behind-more sheet i h (λ q. let z : _≡_ {A = ℕ} 10 32 = cc in omega arith)
 
 module _ (sheet : List ℕ) (at what : ℕ) (h : at + 3 ≤ length sheet) where
-  pub kind-none : isDigit (getD sheet at 0) ≡ false → kindAndText what (lineAt sheet at) ≡ bad
+  pub kind-none : digit (getD sheet at 0) ≡ false → kindAndText what (lineAt sheet at) ≡ bad
   kind-none e = rw (line-here sheet at (omega arith), e)
 
-  module _ (d : isDigit (getD sheet at 0) ≡ true) where
+  module _ (d : digit (getD sheet at 0) ≡ true) where
     one-digit : kindAndText what (lineAt sheet at) ≡ kindFrom what (getD sheet at 0 - 48) (lineAt sheet (at + 1))
     one-digit = rw (line-more sheet at (omega arith) (digit-solid (getD sheet at 0) d), d)
 

@@ -1,29 +1,30 @@
 -- The loop of `read_text`: the text so far has been written, and what is left of the line completes it. Assumes nothing.
 use mathlib.Core.Bool.{true, false}
 use mathlib.Core.List.{List, [], _∷_, _++_}
+use mathlib.Core.Option.{Option, none, some}
 use mathlib.Core.Path.{_≡_, refl, sym, _∙_}
 use Prim.Native.Nat.{ℕ, _+_, _≤_, _<_}
 use native.Mathlib.Omega.{arith}
 use lib.ListN.{length, getD}
 use borrow.Author.Tests.{ne-eqb}
-use Rattle.sheet.specs.Line.{Text, wrong, right, withByte, textOf}
+use Rattle.sheet.specs.Line.{withByte, textOf}
 use Rattle.sheet.specs.Steps.{lineAt, behindAt, Writes, EscapeAt, Texted}
 use Rattle.sheet.proofs.Cut.{line-none, line-here, line-more, behind-more, behind-feed}
 use Rattle.sheet.proofs.Writing.{writes-none, writes-then}
 
-abbrev withBytes : List ℕ → Text → Text
+abbrev withBytes : List ℕ → Option (List ℕ) → Option (List ℕ)
 withBytes [] t = t
 withBytes (b ∷ bs) t = withByte b (withBytes bs t)
 
-bytes-then : (bs : List ℕ) (b : ℕ) (t : Text) → withBytes bs (withByte b t) ≡ withBytes (bs ++ (b ∷ [])) t
+bytes-then : (bs : List ℕ) (b : ℕ) (t : Option (List ℕ)) → withBytes bs (withByte b t) ≡ withBytes (bs ++ (b ∷ [])) t
 bytes-then [] b t = refl
 bytes-then (c ∷ bs) b t = rw (bytes-then bs b t)
 
-bytes-end : (bs : List ℕ) → withBytes bs (right []) ≡ right bs
+bytes-end : (bs : List ℕ) → withBytes bs (some []) ≡ some bs
 bytes-end [] = refl
 bytes-end (b ∷ bs) = rw (bytes-end bs)
 
-bytes-wrong : (bs : List ℕ) → withBytes bs wrong ≡ wrong
+bytes-wrong : (bs : List ℕ) → withBytes bs none ≡ none
 bytes-wrong [] = refl
 bytes-wrong (b ∷ bs) = rw (bytes-wrong bs)
 
@@ -32,14 +33,14 @@ bytes-wrong (b ∷ bs) = rw (bytes-wrong bs)
 module _ (sheet : List ℕ) (i : ℕ) where
   pub escape-out : length sheet ≤ i → EscapeAt sheet i 0
   unfolding textOf
-  escape-out h = record { none = λ e. rw (line-none sheet i h); some = λ n. absurd (n refl); behind = λ n. absurd (n refl); within = λ n. absurd (n refl) }
+  escape-out h = record { bars = λ e. rw (line-none sheet i h); makes = λ n. absurd (n refl); behind = λ n. absurd (n refl); within = λ n. absurd (n refl) }
 
   module _ (h : i < length sheet) where
     pub escape-other : (getD sheet i 0 ≡ 110 → ⊥) → (getD sheet i 0 ≡ 92 → ⊥) → EscapeAt sheet i 0
     unfolding textOf
     escape-other n m = record {
-      none = λ e. rw (line-here sheet i h, ne-eqb (getD sheet i 0) 110 n, ne-eqb (getD sheet i 0) 92 m);
-      some = λ n. absurd (n refl);
+      bars = λ e. rw (line-here sheet i h, ne-eqb (getD sheet i 0) 110 n, ne-eqb (getD sheet i 0) 92 m);
+      makes = λ n. absurd (n refl);
       behind = λ n. absurd (n refl);
       within = λ n. absurd (n refl);
     }
@@ -49,8 +50,8 @@ module _ (sheet : List ℕ) (i : ℕ) where
     escape-some c b z n f e =
         let solid : getD sheet i 0 ≡ 10 → ⊥ = λ q. n (sym e ∙ q) in
         record {
-          none = λ q. absurd (z q);
-          some = λ q. rw (line-more sheet i h solid, e) (f (lineAt sheet (i + 1)));
+          bars = λ q. absurd (z q);
+          makes = λ q. rw (line-more sheet i h solid, e) (f (lineAt sheet (i + 1)));
           behind = λ q. behind-more sheet i h solid;
           within = λ q. h;
         }
@@ -78,7 +79,7 @@ pub scan-start : {sheet : List ℕ} {from : ℕ} {text : List ℕ} {len : ℕ} �
 scan-start h = record { bs = []; says = refl; behind = refl; after = omega arith; within = h; wrote = writes-none }
 
 module _ {sheet : List ℕ} {from : ℕ} {text₀ : List ℕ} {len : ℕ} {text : List ℕ} {i m : ℕ} (σ : Scanned sheet from text₀ len text i m) where
-  pub scan-out : length sheet ≤ i → textOf false (lineAt sheet from) ≡ wrong
+  pub scan-out : length sheet ≤ i → textOf false (lineAt sheet from) ≡ none
   unfolding textOf
   scan-out h = σ .says ∙ rw (line-none sheet i h) (bytes-wrong (σ .bs))
 
@@ -100,13 +101,13 @@ module _ {sheet : List ℕ} {from : ℕ} {text₀ : List ℕ} {len : ℕ} {text 
         unfolding textOf
         escaped-here = rw (line-more sheet i h n, b)
 
-        pub scan-wrong : EscapeAt sheet (i + 1) 0 → textOf false (lineAt sheet from) ≡ wrong
-        scan-wrong ε = σ .says ∙ rw (escaped-here, ε .none refl) (bytes-wrong (σ .bs))
+        pub scan-wrong : EscapeAt sheet (i + 1) 0 → textOf false (lineAt sheet from) ≡ none
+        scan-wrong ε = σ .says ∙ rw (escaped-here, ε .bars refl) (bytes-wrong (σ .bs))
 
         pub scan-escaped : {e m′ : ℕ} {text′ : List ℕ} → EscapeAt sheet (i + 1) e → (e ≡ 0 → ⊥) → Writes text m (e ∷ []) text′ m′ → Scanned sheet from text₀ len text′ (i + 1 + 1) m′
         scan-escaped {e} ε z w = record {
           bs = σ .bs ++ (e ∷ []);
-          says = σ .says ∙ rw (escaped-here, ε .some z) (bytes-then (σ .bs) e _);
+          says = σ .says ∙ rw (escaped-here, ε .makes z) (bytes-then (σ .bs) e _);
           behind = σ .behind ∙ behind-more sheet i h n ∙ ε .behind z;
           after = omega (arith, σ .after);
           within = omega (arith, ε .within z);

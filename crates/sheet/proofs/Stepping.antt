@@ -1,6 +1,7 @@
 -- A line from its head, its text and its row. Assumes nothing.
 use mathlib.Core.Bool.{Bool, true, false, cond, _&&_, and-false}
 use mathlib.Core.List.{List}
+use mathlib.Core.Option.{none}
 use mathlib.Core.Path.{_≡_, sym, _∙_}
 use Prim.Native.Nat.{ℕ, _+_, _*_, _≤_, _<_}
 use native.Mathlib.Omega.{arith}
@@ -13,7 +14,7 @@ use Rattle.sheet.specs.declared.line.Head.{Head}
 use Rattle.sheet.specs.declared.line.Head.the-variants as head
 use Rattle.sheet.specs.declared.line.Text.{Text}
 use Rattle.sheet.specs.declared.line.Text.the-variants as text-read
-use Rattle.sheet.specs.Line.{Line, bad, row, wrong, textOf, lineOf}
+use Rattle.sheet.specs.Line.{Line, bad, row, textOf, lineOf}
 use Rattle.sheet.specs.Row.{rowBytes}
 use Rattle.sheet.specs.Answer.{fits}
 use Rattle.sheet.specs.Steps.{lineAt, Headed, HeadAt, Writes, Texted, TextAt, Stored, Unfit}
@@ -31,7 +32,7 @@ module _ (sheet : List ℕ) (from : ℕ) (text : List ℕ) (len : ℕ) (r : Text
   texted e = rw e at σ
 
   pub text-bad : {said : Line} {at what kind : ℕ} → Headed said sheet at what kind from → r ≡ text-read.Bad → said ≡ bad
-  text-bad η e = let w : textOf false (lineAt sheet from) ≡ wrong = rw e at σ in η .says ∙ rw w
+  text-bad η e = let w : textOf false (lineAt sheet from) ≡ none = rw e at σ in η .says ∙ rw w
 
 -- what has been written fits exactly if the length is not past the end
 module _ {l : List ℕ} {n : ℕ} {bs m : List ℕ} {r : ℕ} (w : Writes l n bs m r) where

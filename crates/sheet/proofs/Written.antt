@@ -2,15 +2,16 @@
 -- Assumes nothing.
 use mathlib.Core.Bool.{Bool, true, false, cond}
 use mathlib.Core.List.{List, [], _∷_, _++_}
+use mathlib.Core.Option.{Option, none, some}
 use mathlib.Core.Path.{_≡_, refl, ap, _∙_}
 use Prim.Native.Nat.{ℕ, _+_, _-_, _*_, _/_, _%_, _≤_, _<_}
 use native.Mathlib.Omega.{arith}
 use lib.Dec.{eqb, leb, ltb}
 use borrow.Author.Tests.{eqb-true, ne-eqb, le-leb, leb-true, lt-ltb, le-ltb, ltb-true, ltb-false}
-use Rattle.report.specs.Bytes.{byte, bytes, lineFeed, space}
+use Rattle.report.specs.Bytes.{byte, bytes, lineFeed, space, digit}
 use Rattle.report.proofs.Logic.{split}
 use Rattle.report.proofs.Below.{below}
-use Rattle.sheet.specs.Line.{bad, row, Text, wrong, right, withByte, textOf, rowOf, spaceAndText, isDigit, isSecond, kindFrom, kindAndText, spaceAndKind, whatOf, lineOf}
+use Rattle.sheet.specs.Line.{bad, row, withByte, textOf, rowOf, spaceAndText, isSecond, kindFrom, kindAndText, spaceAndKind, whatOf, lineOf}
 use Rattle.sheet.specs.Steps.{firstLine}
 use Rattle.sheet.proofs.Form.{digit-low, digit-high, second-digit, second-some, second-small, digit-solid, what-solid}
 
@@ -35,7 +36,7 @@ written what kind bs = whatByte what ∷ space ++ (decimal kind ++ (space ++ (es
 
 -- ---- a written line reads as its row
 
-text-read : (bs : List ℕ) → textOf false (escaped bs ++ (10 ∷ [])) ≡ right bs
+text-read : (bs : List ℕ) → textOf false (escaped bs ++ (10 ∷ [])) ≡ some bs
 unfolding textOf
 text-read [] = refl
 text-read (b ∷ t) =
@@ -69,14 +70,14 @@ impossible-row : {C : Type 0} {w k : ℕ} {bs : List ℕ} → bad ≡ row w k bs
 impossible-row e = let z : _≡_ {A = ℕ} 0 1 = cc in absurd (omega arith)
 
 -- a text of one byte more
-record Longer (b : ℕ) (x : Text) (bs : List ℕ) : Type 0 where
+record Longer (b : ℕ) (x : Option (List ℕ)) (bs : List ℕ) : Type 0 where
   cs : List ℕ
-  rest : x ≡ right cs
+  rest : x ≡ some cs
   whole : bs ≡ b ∷ cs
 
-longer : (b : ℕ) (x : Text) {bs : List ℕ} → withByte b x ≡ right bs → Longer b x bs
-longer b wrong e = let z : _≡_ {A = ℕ} 0 1 = cc in absurd (omega arith)
-longer b (right cs) e = record { cs = cs; rest = refl; whole = cc }
+longer : (b : ℕ) (x : Option (List ℕ)) {bs : List ℕ} → withByte b x ≡ some bs → Longer b x bs
+longer b none e = let z : _≡_ {A = ℕ} 0 1 = cc in absurd (omega arith)
+longer b (some cs) e = record { cs = cs; rest = refl; whole = cc }
 
 abbrev withBackslash : Bool → List ℕ → List ℕ
 withBackslash true l = 92 ∷ l
@@ -85,7 +86,7 @@ withBackslash false l = l
 plain-written : (b : ℕ) (cs : List ℕ) {l bs : List ℕ} → eqb b 10 ≡ false → eqb b 92 ≡ false → bs ≡ b ∷ cs → l ≡ escaped cs ++ (10 ∷ []) → b ∷ l ≡ escaped bs ++ (10 ∷ [])
 plain-written b cs q r e h = rw (e, q, r) (ap (λ l. b ∷ l) h)
 
-text-written : (s : List ℕ) (f : Bool) (bs : List ℕ) → textOf f (firstLine s) ≡ right bs → withBackslash f (firstLine s) ≡ escaped bs ++ (10 ∷ [])
+text-written : (s : List ℕ) (f : Bool) (bs : List ℕ) → textOf f (firstLine s) ≡ some bs → withBackslash f (firstLine s) ≡ escaped bs ++ (10 ∷ [])
 unfolding textOf
 text-written [] false bs e = let z : _≡_ {A = ℕ} 0 1 = cc in absurd (omega arith)
 text-written [] true bs e = let z : _≡_ {A = ℕ} 0 1 = cc in absurd (omega arith)
@@ -113,9 +114,9 @@ what-written b h =
 
 module _ {w k : ℕ} {bs : List ℕ} where
   -- what a row is made of
-  row-made : (what kind : ℕ) (x : Text) → rowOf what kind x ≡ row w k bs → (what ≡ w) × (kind ≡ k) × (x ≡ right bs)
-  row-made what kind wrong e = impossible-row e
-  row-made what kind (right cs) e = (cc, cc, cc)
+  row-made : (what kind : ℕ) (x : Option (List ℕ)) → rowOf what kind x ≡ row w k bs → (what ≡ w) × (kind ≡ k) × (x ≡ some bs)
+  row-made what kind none e = impossible-row e
+  row-made what kind (some cs) e = (cc, cc, cc)
 
   space-written : (what kind : ℕ) (s : List ℕ) → spaceAndText what kind (firstLine s) ≡ row w k bs → (what ≡ w) × (kind ≡ k) × (firstLine s ≡ 32 ∷ (escaped bs ++ (10 ∷ [])))
   space-written what kind [] e = impossible-row e
@@ -127,7 +128,7 @@ module _ {w k : ℕ} {bs : List ℕ} where
       (λ q. impossible-row (rw q at e))
 
   -- the kind's second byte, where the first is b
-  second-written : (what b : ℕ) (s : List ℕ) → isDigit b ≡ true → kindFrom what (b - 48) (firstLine s) ≡ row w k bs → (what ≡ w) × (k ≤ 34) × (b ∷ firstLine s ≡ decimal k ++ 32 ∷ (escaped bs ++ (10 ∷ [])))
+  second-written : (what b : ℕ) (s : List ℕ) → digit b ≡ true → kindFrom what (b - 48) (firstLine s) ≡ row w k bs → (what ≡ w) × (k ≤ 34) × (b ∷ firstLine s ≡ decimal k ++ 32 ∷ (escaped bs ++ (10 ∷ [])))
   second-written what b [] d e = impossible-row e
   second-written what b (c ∷ t) d e =
       let low = digit-low b d in
@@ -153,7 +154,7 @@ module _ {w k : ℕ} {bs : List ℕ} where
   kind-written : (what : ℕ) (s : List ℕ) → kindAndText what (firstLine s) ≡ row w k bs → (what ≡ w) × (k ≤ 34) × (firstLine s ≡ decimal k ++ 32 ∷ (escaped bs ++ (10 ∷ [])))
   kind-written what [] e = impossible-row e
   kind-written what (b ∷ t) e =
-      split (isDigit b)
+      split (digit b)
       (λ d. let solid = ne-eqb b 10 (digit-solid b d) in let m = second-written what b t d (rw (d, solid) at e) in (m .0, m .1, rw solid (m .2)))
       (λ d. impossible-row (rw d at e))
 

@@ -2,9 +2,10 @@
 -- Assumes nothing.
 use mathlib.Core.Bool.{Bool, true, false, cond, _&&_}
 use mathlib.Core.List.{List, [], _∷_}
+use mathlib.Core.Option.{Option, none, some, Option·map}
 use Prim.Native.Nat.{ℕ, _+_, _-_, _*_}
 use lib.Dec.{leb, ltb, eqb}
-use Rattle.report.specs.Bytes.{byte, bytes}
+use Rattle.report.specs.Bytes.{byte, bytes, digit}
 
 -- Names line: `what kind text` and a line feed.
 abbrev pub names : List ℕ
@@ -30,37 +31,28 @@ pub data Line : Type 0 where
   bad : Line
   row : ℕ → ℕ → List ℕ → Line
 
--- The text, or nothing where it breaks its form.
-pub data Text : Type 0 where
-  wrong : Text
-  right : List ℕ → Text
-
-abbrev pub withByte : ℕ → Text → Text
-withByte b wrong = wrong
-withByte b (right bs) = right (b ∷ bs)
+abbrev pub withByte : ℕ → Option (List ℕ) → Option (List ℕ)
+withByte b text = Option·map (λ bs. b ∷ bs) text
 
 -- The text up to the line feed that ends the line, and may not be missing: `\n` is byte 10, `\\` a backslash, other
--- backslashes are wrong. The flag says that a backslash stands before.
-unfoldable pub textOf : Bool → List ℕ → Text
-textOf escaped [] = wrong
-textOf false (b ∷ t) = cond (eqb b (byte "\n")) (right []) (cond (eqb b (byte "\\")) (textOf true t) (withByte b (textOf false t)))
-textOf true (b ∷ t) = cond (eqb b (byte "n")) (withByte (byte "\n") (textOf false t)) (cond (eqb b (byte "\\")) (withByte (byte "\\") (textOf false t)) wrong)
+-- backslashes are wrong; none where it breaks its form. The flag says that a backslash stands before.
+unfoldable pub textOf : Bool → List ℕ → Option (List ℕ)
+textOf escaped [] = none
+textOf false (b ∷ t) = cond (eqb b (byte "\n")) (some []) (cond (eqb b (byte "\\")) (textOf true t) (withByte b (textOf false t)))
+textOf true (b ∷ t) = cond (eqb b (byte "n")) (withByte (byte "\n") (textOf false t)) (cond (eqb b (byte "\\")) (withByte (byte "\\") (textOf false t)) none)
 
-abbrev pub rowOf : ℕ → ℕ → Text → Line
-rowOf what kind wrong = bad
-rowOf what kind (right bs) = row what kind bs
+abbrev pub rowOf : ℕ → ℕ → Option (List ℕ) → Line
+rowOf what kind none = bad
+rowOf what kind (some bs) = row what kind bs
 
 -- a space, and behind it the text
 abbrev pub spaceAndText : ℕ → ℕ → List ℕ → Line
 spaceAndText what kind [] = bad
 spaceAndText what kind (b ∷ t) = cond (eqb b (byte " ")) (rowOf what kind (textOf false t)) bad
 
-abbrev pub isDigit : ℕ → Bool
-isDigit b = leb (byte "0") b && leb b (byte "9")
-
 -- A second digit may follow the kind's first one, k, if that isn't 0 and the kind is at most 34.
 abbrev pub isSecond : ℕ → ℕ → Bool
-isSecond k b = isDigit b && (ltb 0 k && leb (10 * k + (b - byte "0")) 34)
+isSecond k b = digit b && (ltb 0 k && leb (10 * k + (b - byte "0")) 34)
 
 -- the kind's first digit k has been read
 abbrev pub kindFrom : ℕ → ℕ → List ℕ → Line
@@ -70,7 +62,7 @@ kindFrom what k (b ∷ t) = cond (isSecond k b) (spaceAndText what (10 * k + (b 
 -- Kind 0–34 in decimal without leading zeros, space, text.
 abbrev pub kindAndText : ℕ → List ℕ → Line
 kindAndText what [] = bad
-kindAndText what (b ∷ t) = cond (isDigit b) (kindFrom what (b - byte "0") t) bad
+kindAndText what (b ∷ t) = cond (digit b) (kindFrom what (b - byte "0") t) bad
 
 abbrev pub spaceAndKind : ℕ → List ℕ → Line
 spaceAndKind what [] = bad

@@ -2,6 +2,7 @@
 -- Assumes nothing.
 use mathlib.Core.Bool.{true, false, cond}
 use mathlib.Core.List.{List, [], _∷_}
+use mathlib.Core.Option.{none, some}
 use mathlib.Core.Path.{_≡_}
 use Prim.Native.Nat.{ℕ, _+_, _*_, _≤_, _<_}
 use lib.Dec.{eqb}
@@ -14,7 +15,7 @@ use Rattle.sheet.specs.declared.line.Head.{Head}
 use Rattle.sheet.specs.declared.line.Head.the-variants as head
 use Rattle.sheet.specs.declared.line.Text.{Text}
 use Rattle.sheet.specs.declared.line.Text.the-variants as text-read
-use Rattle.sheet.specs.Line.{Line, bad, row, wrong, right, withByte, textOf, rowOf, lineOf}
+use Rattle.sheet.specs.Line.{Line, bad, row, withByte, textOf, rowOf, lineOf}
 use Rattle.sheet.specs.Row.{rowBytes}
 use Rattle.sheet.specs.Answer.{fits}
 
@@ -53,15 +54,15 @@ pub record Writes (l : List ℕ) (n : ℕ) (bs : List ℕ) (m : List ℕ) (r : �
 
 -- A backslash right before index i makes the byte b; where b is 0, it may not stand there.
 pub record EscapeAt (sheet : List ℕ) (i b : ℕ) : Type 0 where
-  pub none : b ≡ 0 → textOf true (lineAt sheet i) ≡ wrong
-  pub some : (b ≡ 0 → ⊥) → textOf true (lineAt sheet i) ≡ withByte b (textOf false (lineAt sheet (i + 1)))
+  pub bars : b ≡ 0 → textOf true (lineAt sheet i) ≡ none
+  pub makes : (b ≡ 0 → ⊥) → textOf true (lineAt sheet i) ≡ withByte b (textOf false (lineAt sheet (i + 1)))
   pub behind : (b ≡ 0 → ⊥) → behindAt sheet i ≡ behindAt sheet (i + 1)
   pub within : (b ≡ 0 → ⊥) → i < length sheet
 
 -- The text from an index on has been written, and the next line starts at `next`.
 pub record Texted (sheet : List ℕ) (from : ℕ) (text : List ℕ) (len next end : ℕ) (text′ : List ℕ) : Type 0 where
   pub bs : List ℕ
-  pub says : textOf false (lineAt sheet from) ≡ right bs
+  pub says : textOf false (lineAt sheet from) ≡ some bs
   pub behind : behindAt sheet from ≡ drop next sheet
   pub after : from < next
   pub within : next ≤ length sheet
@@ -69,7 +70,7 @@ pub record Texted (sheet : List ℕ) (from : ℕ) (text : List ℕ) (len next en
 
 abbrev pub TextAt : List ℕ → ℕ → List ℕ → ℕ → Text → List ℕ → Type 0
 TextAt sheet from text len (text-read.End next end) text′ = Texted sheet from text len next end text′
-TextAt sheet from text len text-read.Bad text′ = textOf false (lineAt sheet from) ≡ wrong
+TextAt sheet from text len text-read.Bad text′ = textOf false (lineAt sheet from) ≡ none
 
 -- The line's row and text have been stored behind n rows and len bytes, and the next line starts at `next`.
 pub record Stored (sheet : List ℕ) (at : ℕ) (rows : List ℕ) (n : ℕ) (text : List ℕ) (len next end : ℕ) (rows′ text′ : List ℕ) : Type 0 where

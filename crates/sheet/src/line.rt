@@ -3,7 +3,8 @@ ghost use mathlib.Core.Path.{_≡_};
 ghost use mathlib.Core.List.{[], _∷_};
 ghost use Prim.Native.Nat.{_+_, _≤_, _<_};
 ghost use lib.ListN.{length};
-ghost use Rattle.sheet.specs.Line.{isDigit, isSecond, whatOf, kindAndText, lineOf};
+ghost use Rattle.report.specs.Bytes.{digit};
+ghost use Rattle.sheet.specs.Line.{isSecond, whatOf, kindAndText, lineOf};
 ghost use Rattle.sheet.specs.Steps.{lineAt, HeadAt, TextAt, EscapeAt, Writes};
 
 // A line's what, its kind and the index of its text.
@@ -102,7 +103,7 @@ fn kind_at(sheet: &[u8], at: usize, what: u8) -> Head
 }
 
 fn is_digit(b: u8) -> bool
-    ensures { λ r. ⌜ r ≡ isDigit b ⌝ }
+    ensures { λ r. ⌜ r ≡ digit b ⌝ }
 {
     if 48 <= b {
         return b <= 57;

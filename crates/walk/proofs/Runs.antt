@@ -11,7 +11,6 @@ use borrow.Author.Tests.{eqb-true, eqb-false}
 use Rattle.report.proofs.Logic.{split, impossible, and-left, and-right}
 use Rattle.rows.specs.Kinds.{Leading, TokenRow, Trailing}
 use Rattle.rows.specs.Row.{Row, rowAt, firstRows, rowsOf}
-use Rattle.rows.specs.Options.{orElse}
 use Rattle.rows.specs.Bounds.{InBounds}
 use Rattle.rows.specs.Checks.{Before, atStart, after, mayTrail, orphan, badFrom}
 use Rattle.rows.specs.Token.{Token, Trivia, triviaOf, trailingOf, tokenOf, tokensFrom}
