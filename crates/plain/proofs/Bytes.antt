@@ -9,7 +9,7 @@ use lib.ListN.{length, getD, take, drop}
 use lib.Seq.{slice, take-nil}
 use borrow.Author.Tests.{eqb-true, ne-eqb}
 use Rattle.report.specs.Bytes.{digit, sameBytes}
-use Rattle.report.proofs.Logic.{split, impossible′}
+use Rattle.report.proofs.Logic.{split}
 use Rattle.pieces.specs.declared.Next.the-variants.{Piece, End, Unreadable}
 use Rattle.pieces.specs.Reading.{Reading, done, refused, piece, between, readFrom}
 use Rattle.pieces.specs.Next.{next}

@@ -17,7 +17,7 @@ use Rattle.pieces.proofs.Written.{written-gap}
 use Rattle.report.proofs.Logic.{impossible, impossible′, split}
 use Rattle.push_token.specs.Formatter.{Formatter, setInlineDepth, setRecordPending, setInRecord, setRecordDepth, setJustClosedInline}
 use Rattle.push_token.specs.Act.{State, state, run, _⨾_}
-use Rattle.report.specs.Bytes.{lineFeed, space, sameBytes}
+use Rattle.report.specs.Bytes.{lineFeed, space}
 use Rattle.push_token.specs.Emit.{prevIs, indentOrSpace, onNewLine, dedented, openBlockMultiline}
 use Rattle.push_token.specs.Arms.{rightBraceArm, nextIs, openBlock, leftBraceArm}
 use Rattle.push_token.specs.Plain.{isMute, hasItsLexeme}
