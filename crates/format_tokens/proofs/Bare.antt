@@ -14,7 +14,7 @@ use Rattle.rows.specs.Token.{bytesOf, tokensOf}
 use Rattle.push_token.specs.Plain.{plain}
 use Rattle.plain.specs.Scan.{Facts, unseen, fits, behind, plainRows}
 use Rattle.plain.proofs.Rows.{pass}
-use Rattle.stretch.specs.Stretch.{onlyTokens}
+use Rattle.formatter.specs.Format.{onlyTokens}
 
 only : (text : List ℕ) (q : Facts) (rs : List Row) → plainRows text q rs ≡ true → onlyTokens rs ≡ true
 unfolding plainRows onlyTokens

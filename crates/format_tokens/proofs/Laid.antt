@@ -2,14 +2,14 @@
 use mathlib.Core.Bool.{Bool, true, _||_}
 use mathlib.Core.List.{List, _++_}
 use mathlib.Core.Path.{_≡_, refl, sym, ap, subst, _∙_}
-use Prim.Native.Nat.{ℕ}
+use Prim.Native.Nat.{ℕ, _≤_}
 use native.Mathlib.Omega.{arith}
-use lib.Dec.{eqb}
+use lib.Dec.{eqb, ltb}
 use lib.ListN.{length, drop, replicate}
-use borrow.Author.Tests.{eqb-true, ne-eqb}
+use borrow.Author.Tests.{eqb-true, ne-eqb, ltb-false}
 use Rattle.report.specs.Report.{Report, success, refuse, zeroed, deep, full, bit}
 use Rattle.report.proofs.Logic.{split}
-use Rattle.rows.specs.Options.{optionsOf}
+use Rattle.rows.specs.Options.{Options, optionsOf, badOption}
 use Rattle.rows.specs.Answer.{eachRowReport, rowsReport, checkReport}
 use Rattle.rows.specs.Token.{tokensOf}
 use Rattle.rows.proofs.Passed.{Passed, whole-rows, few-rows}
@@ -17,13 +17,9 @@ use Rattle.push_token.specs.Act.{State}
 use Rattle.push_token.specs.Plain.{plain}
 use Rattle.push_token.specs.Layout.{Ended, finished, stopped, lay, laidOut, layout}
 use Rattle.push_token.proofs.Laid.{sane, lay-sane}
-use Rattle.fields.specs.declared.Fields.{Fields}
-use Rattle.fields.specs.declared.Options as Declared
-use Rattle.fields.specs.Pen
-use Rattle.fields.specs.Pen.{on}
-use Rattle.walk.specs.declared.Walked.{Walked}
-use Rattle.walk.specs.declared.Walked.the-variants.{Finished, Deep, Full}
-use Rattle.walk.specs.Walk.{Walks, walkedOf, Laid}
+use Rattle.formatter.specs.declared.Formatted.{Formatted}
+use Rattle.formatter.specs.declared.Formatted.the-variants.{Finished, Deep, Full}
+use Rattle.formatter.specs.Format.{Walks, formattedOf, Laid}
 use Rattle.format_tokens.specs.Steps.{walkedLayout}
 
 -- ---- the checks
@@ -42,13 +38,22 @@ module _ (style indent signature list : ℕ) (rows text out : List ℕ) where
     pub passed-walks : Walks rows text
     passed-walks = record { whole = let w = whole-rows π in omega arith; few = few-rows π; good = π .each }
 
+    pub small-width : indent ≤ 16
+    unfolding badOption
+    small-width =
+        split (ltb 1 style)
+        (λ a. let z : _≡_ {A = ℕ} 0 1 = cc (rw a at (π .options)) in absurd (omega arith))
+        (λ a. split (ltb 16 indent)
+        (λ b. let z : _≡_ {A = ℕ} 0 1 = cc (rw (a, b) at (π .options)) in absurd (omega arith))
+        (λ b. ltb-false 16 indent b))
+
 -- ---- the walk's end
 
 pub record Answers (e : Ended) (mark : Bool) (out : List ℕ) (report : Report) (after : List ℕ) : Type 0 where
   pub answer : report ≡ laidOut e mark out .report
   pub output : after ≡ laidOut e mark out .out
 
-pub finished-answers : (e : Ended) (mark : Bool) (out : List ℕ) {n c : ℕ} {m : List ℕ} → Finished n c ≡ walkedOf e → ((s : State) → e ≡ finished s → m ≡ s .out ++ drop (length (s .out)) out) → Answers e mark out (success n c (bit mark)) m
+pub finished-answers : (e : Ended) (mark : Bool) (out : List ℕ) {n c : ℕ} {m : List ℕ} → Finished n c ≡ formattedOf e → ((s : State) → e ≡ finished s → m ≡ s .out ++ drop (length (s .out)) out) → Answers e mark out (success n c (bit mark)) m
 finished-answers (finished s) mark out w f =
     let a = size-of w in
     let b = commas-of w in
@@ -65,7 +70,7 @@ finished-answers (stopped k i) mark out w f =
     (λ d. let y : _≡_ {A = ℕ} 0 1 = cc (rw d at w) in absurd (omega arith))
 
 -- what the code's walk answers tells why and where the definition's stopped
-stopped-is : (size : ℕ) (e : Ended) (n i : ℕ) → sane size e ≡ true → sane size (stopped n i) ≡ true → walkedOf (stopped n i) ≡ walkedOf e → e ≡ stopped n i
+stopped-is : (size : ℕ) (e : Ended) (n i : ℕ) → sane size e ≡ true → sane size (stopped n i) ≡ true → formattedOf (stopped n i) ≡ formattedOf e → e ≡ stopped n i
 stopped-is size (finished s) n i h g w =
     split (eqb n deep)
     (λ d. let y : _≡_ {A = ℕ} 0 1 = cc (rw d at w) in absurd (omega arith))
@@ -90,23 +95,20 @@ stopped-is size (stopped k j) n i h g w =
 
 -- ---- the code's walk
 
-module _ (rows text out : List ℕ) {f : Fields} {stack : List ℕ} {o : Declared.Options} (e : f .options ≡ o) {r : Walked} {m : List ℕ} (λ₀ : Laid rows text (on f stack out) r m) where
-  held : {report : Report} {after : List ℕ} → Answers (lay (Pen.optionsOf (f .options)) (length out) (tokensOf rows text)) (plain (tokensOf rows text)) out report after → Answers (lay (Pen.optionsOf o) (length out) (tokensOf rows text)) (plain (tokensOf rows text)) out report after
-  held {report} {after} α = subst (λ x. Answers (lay (Pen.optionsOf x) (length out) (tokensOf rows text)) (plain (tokensOf rows text)) out report after) e α
-
-  pub text-answers : {n c : ℕ} {mark : Bool} → r ≡ Finished n c → mark ≡ plain (tokensOf rows text) → Answers (lay (Pen.optionsOf o) (length out) (tokensOf rows text)) (plain (tokensOf rows text)) out (success n c (bit mark)) m
+module _ (rows text out : List ℕ) {o : Options} {r : Formatted} {m : List ℕ} (λ₀ : Laid rows text o out r m) where
+  pub text-answers : {n c : ℕ} {mark : Bool} → r ≡ Finished n c → mark ≡ plain (tokensOf rows text) → Answers (lay o (length out) (tokensOf rows text)) (plain (tokensOf rows text)) out (success n c (bit mark)) m
   text-answers {n} {c} q k =
-      subst (λ b. Answers (lay (Pen.optionsOf o) (length out) (tokensOf rows text)) (plain (tokensOf rows text)) out (success n c (bit b)) m) (sym k)
-      (held (finished-answers (lay (Pen.optionsOf (f .options)) (length out) (tokensOf rows text)) (plain (tokensOf rows text)) out (sym q ∙ λ₀ .answer) (λ₀ .output)))
+      subst (λ b. Answers (lay o (length out) (tokensOf rows text)) (plain (tokensOf rows text)) out (success n c (bit b)) m) (sym k)
+      (finished-answers (lay o (length out) (tokensOf rows text)) (plain (tokensOf rows text)) out (sym q ∙ λ₀ .answer) (λ₀ .output))
 
   zeroes : {m′ : List ℕ} → m′ ≡ zeroed m → m′ ≡ zeroed out
   zeroes z = z ∙ ap (λ n. replicate n 0) (λ₀ .size)
 
   -- refusals 4 and 5
-  pub stopped-out : (n : ℕ) {i : ℕ} {m′ : List ℕ} → eqb n deep || eqb n full ≡ true → r ≡ walkedOf (stopped n i) → m′ ≡ zeroed m → Answers (lay (Pen.optionsOf o) (length out) (tokensOf rows text)) (plain (tokensOf rows text)) out (refuse n i) m′
+  pub stopped-out : (n : ℕ) {i : ℕ} {m′ : List ℕ} → eqb n deep || eqb n full ≡ true → r ≡ formattedOf (stopped n i) → m′ ≡ zeroed m → Answers (lay o (length out) (tokensOf rows text)) (plain (tokensOf rows text)) out (refuse n i) m′
   stopped-out n {i} g q z =
-      let k = stopped-is (length out) (lay (Pen.optionsOf (f .options)) (length out) (tokensOf rows text)) n i (lay-sane (Pen.optionsOf (f .options)) (length out) (tokensOf rows text)) g (sym q ∙ λ₀ .answer) in
-      held (record { answer = rw k; output = rw k (zeroes z) })
+      let k = stopped-is (length out) (lay o (length out) (tokensOf rows text)) n i (lay-sane o (length out) (tokensOf rows text)) g (sym q ∙ λ₀ .answer) in
+      record { answer = rw k; output = rw k (zeroes z) }
 
 -- ---- the code's checks
 

@@ -1,28 +1,18 @@
 // The layout of rl source text (document 01): token rows in, text out.
-use fields::Before;
-use fields::BraceStyle;
-use fields::Fields;
-use fields::GroupDepth;
-use fields::InlineDepth;
-use fields::NewlineAt;
-use fields::Options;
-use fields::Prev;
-use fields::RecordDepth;
-use fields::SignatureDepth;
-use fields::Suppressed;
+use formatter::BraceStyle;
+use formatter::Formatted;
+use formatter::Formatter;
+use formatter::Options;
 use plain::plain_mark;
 use report::clear_bytes;
 use rows::Checked;
 use rows::MOST_ROWS;
 use rows::ROW_BYTES;
 use rows::check_unless;
-use walk::Walked;
-use walk::walk;
 ghost use mathlib.Core.Bool.{true};
-ghost use mathlib.Core.List.{List};
 ghost use mathlib.Core.Option.{none};
 ghost use mathlib.Core.Path.{_≡_};
-ghost use Prim.Native.Nat.{ℕ, _≤_};
+ghost use Prim.Native.Nat.{_≤_};
 ghost use lib.ListN.{length};
 ghost use Rattle.rows.specs.Row.{rowsOf};
 ghost use Rattle.rows.specs.Options;
@@ -30,8 +20,8 @@ ghost use Rattle.rows.specs.Checks.{atStart, badFrom};
 ghost use Rattle.rows.specs.Token.{tokensOf};
 ghost use Rattle.push_token.specs.Plain.{plain};
 ghost use Rattle.push_token.specs.Layout.{layout};
-ghost use Rattle.fields.specs.Pen.{optionsOf};
-ghost use Rattle.walk.specs.Walk.{Walks, Fresh};
+ghost use Rattle.formatter.specs.Pen.{optionsOf};
+ghost use Rattle.formatter.specs.Format.{Walks};
 ghost use Rattle.format_tokens.specs.Answer.{reported};
 ghost use Rattle.format_tokens.specs.Steps.{walkedLayout};
 
@@ -102,7 +92,7 @@ fn is_plain(rows: &[u8], text: &[u8]) -> bool
 // The walk over checked rows: where the plain mark is given there is no trivia to look for. After refusals 4 and 5 every
 // place of the output is 0.
 fn lay_out(options: Options, rows: &[u8], text: &[u8], out: &mut [u8], mark: bool) -> Answer
-    requires { ⌜ Walks (now rows) (now text) ⌝ }
+    requires { ⌜ Walks (now rows) (now text) × (options .«indent_width» ≤ 16) ⌝ }
     requires { ⌜ mark ≡ plain (tokensOf (now rows) (now text)) ⌝ }
     ensures answer { λ r. ⌜ reported r
         ≡ walkedLayout (optionsOf options) (now (rows .entry)) (now (text .entry))
@@ -111,13 +101,14 @@ fn lay_out(options: Options, rows: &[u8], text: &[u8], out: &mut [u8], mark: boo
         ≡ walkedLayout (optionsOf options) (now (rows .entry)) (now (text .entry)) (now (out .entry)) .out ⌝ }
 {
     let mut stack = [0; 64];
-    match walk(formatter(options), out, &mut stack, rows, text, mark) {
-        Walked::Finished(len, commas) => Answer::Text(len, commas, mark),
-        Walked::Deep(index) => {
+    let formatter = Formatter::new();
+    match formatter.format(options, out, &mut stack, rows, text, mark) {
+        Formatted::Finished(len, commas) => Answer::Text(len, commas, mark),
+        Formatted::Deep(index) => {
             clear_bytes(out);
             Answer::Deep(index)
         }
-        Walked::Full(index) => {
+        Formatted::Full(index) => {
             clear_bytes(out);
             Answer::Full(index)
         }
@@ -125,8 +116,9 @@ fn lay_out(options: Options, rows: &[u8], text: &[u8], out: &mut [u8], mark: boo
 }
 
 fn options_of(style: u32, indent_width: u32, signature_width: u32, list_width: u32) -> Options
-    ensures { λ r. ⌜ optionsOf r
+    ensures options { λ r. ⌜ optionsOf r
         ≡ Rattle.rows.specs.Options.optionsOf style «indent_width» «signature_width» «list_width» ⌝ }
+    ensures indent { λ r. ⌜ r .«indent_width» ≡ «indent_width» ⌝ }
 {
     if style == 0 {
         return Options {
@@ -141,40 +133,5 @@ fn options_of(style: u32, indent_width: u32, signature_width: u32, list_width: u
         fn_sig_width: signature_width,
         list_width,
         brace_style: BraceStyle::Allman,
-    }
-}
-
-// `Formatter::new`
-fn formatter(options: Options) -> Fields
-    ensures fresh { λ r. ⌜ ((stack : List ℕ) → 64 ≤ length stack → Fresh r stack) ⌝ }
-    ensures options { λ r. ⌜ r .options ≡ options ⌝ }
-{
-    Fields {
-        len: 0,
-        options,
-        indent: 0,
-        prev: Before {
-            kind: Prev::Nothing,
-        },
-        at_line_start: true,
-        prev_minus_is_unary: false,
-        group_depth: GroupDepth(0),
-        inline_depth: InlineDepth(0),
-        record_depth: RecordDepth(0),
-        sig_break_depth: SignatureDepth(0),
-        suppress_newline_at: Suppressed {
-            at: NewlineAt::Never,
-        },
-        break_count: 0,
-        commas: 0,
-        too_deep: 0,
-        fn_state: 0,
-        in_record: false,
-        record_pending: false,
-        just_closed_inline: false,
-        inline_close: false,
-        returned: false,
-        skip_next: false,
-        lexeme_due: false,
     }
 }

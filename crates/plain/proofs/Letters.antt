@@ -1,12 +1,11 @@
--- Names of four to eight letters, by their first four and last four bytes in one number. Assumes nothing.
+-- Names of four to eight bytes, by their first four and last four bytes in one number. Assumes nothing.
 use mathlib.Core.Bool.{Bool, true, _&&_}
 use mathlib.Core.List.{List, [], _∷_}
 use mathlib.Core.Path.{_≡_, refl, sym, _∙_}
 use Prim.Native.Nat.{ℕ, zero, suc, _+_, _-_, _*_, _≤_, _<_}
-use native.Mathlib.Nat.{min-eq-left, min-eq-right}
 use native.Mathlib.Numerals.{add-one}
 use native.Mathlib.Omega.{arith}
-use lib.Bits.{bitAnd, bitOr, bitXor, and-le-r}
+use lib.Bits.{bitAnd, bitXor}
 use lib.Dec.{eqb}
 use lib.ListN.{length, getD, take, drop}
 use lib.Seq.{drop-cons}
@@ -16,15 +15,14 @@ use Rattle.rows.specs.Row.{number}
 use Rattle.pieces.specs.Class.{class}
 use Rattle.pieces.specs.Sets.{all}
 use Rattle.pieces.specs.Eight.{eightOnes}
-use Rattle.pieces.proofs.Eight.{Bytes, Each, same-each, and-each, or-each, xor-each, eight-test}
+use Rattle.pieces.proofs.Eight.{Bytes, Each, same-each, and-each, xor-each, eight-test}
 use Rattle.plain.specs.Scan.{isWordByte, runOf}
-use Rattle.plain.specs.Eight.{bytesWithin}
-use Rattle.plain.proofs.Eight.{within-each}
-use Rattle.plain.proofs.Runs.{all-parts, run-start, run-out, eights-more}
+use Rattle.plain.proofs.Eight.{lettersIn, wordsIn, highs, letters-each, highs-each, eight-words}
+use Rattle.plain.proofs.Runs.{all-parts, both-ends}
 
--- the code's test, of as many bytes as `ones` has the byte 1: a letter is small with the bit of 32 set
+-- the code's test, of as many bytes as `ones` has the byte 1: with its high bit set a byte is no letter
 abbrev letterBits : ℕ → ℕ → ℕ
-letterBits ones x = bitAnd (bitAnd (bytesWithin ones (bitAnd (bitOr x (32 * ones)) (127 * ones)) 97 122) (bitXor x (128 * ones))) (128 * ones)
+letterBits ones x = highs ones (bitAnd (lettersIn ones x) (bitXor x (128 * ones)))
 
 abbrev isLetter : ℕ → Bool
 isLetter b = eqb (letterBits 1 b) 128
@@ -39,11 +37,8 @@ letters-words (b ∷ s) bytes e =
     rw (letter-word b (bytes 0) (and-left (isLetter b) (all isLetter s) e))
     (letters-words s (λ j. bytes (suc j)) (and-right (isLetter b) (all isLetter s) e))
 
-letters-each : {w : List ℕ} {x : ℕ} → Each w (λ b. b) x → Each w (letterBits 1) (letterBits eightOnes x)
-letters-each ξ =
-    let small = and-each (or-each ξ (same-each ξ 32 (omega arith))) (same-each ξ 127 (omega arith)) in
-    let high = same-each ξ 128 (omega arith) in
-    and-each (and-each (within-each small (λ b. and-le-r (bitOr b 32) 127) 97 122) (xor-each ξ high)) high
+only-letters : {w : List ℕ} {x : ℕ} → Each w (λ b. b) x → Each w (letterBits 1) (letterBits eightOnes x)
+only-letters ξ = highs-each (and-each (letters-each ξ) (xor-each ξ (same-each ξ 128 (omega arith))))
 
 -- ---- the bytes of the number
 
@@ -75,17 +70,17 @@ module _ (w : List ℕ) (h : 4 ≤ length w) (k : length w ≤ 8) (bytes : Bytes
   small : Bytes parts
   small = bytes-eight (getD w 0 0) (getD w 1 0) (getD w 2 0) (getD w 3 0) (getD w from 0) (getD w (from + 1) 0) (getD w (from + 2) 0) (getD w (from + 3) 0) (bytes 0) (bytes 1) (bytes 2) (bytes 3) (bytes from) (bytes (from + 1)) (bytes (from + 2)) (bytes (from + 3))
 
-  covered : all isWordByte parts ≡ true → runOf isWordByte w ≡ true
-  covered e =
-      let both = sym (all-parts isWordByte 4 parts) ∙ e in
-      let low : all isWordByte (take 4 (drop 0 w)) ≡ true = rw (four w 0 (omega arith)) (and-left (all isWordByte (take 4 parts)) (all isWordByte (drop 4 parts)) both) in
-      let high : all isWordByte (take 4 (drop from w)) ≡ true = rw (four w from (omega arith)) (and-right (all isWordByte (take 4 parts)) (all isWordByte (drop 4 parts)) both) in
-      let r₀ = run-start isWordByte w (λ z. omega arith) in
-      let r₁ = eights-more 4 isWordByte w h (omega arith) 0 (sym (min-eq-left (omega arith))) low r₀ in
-      let r₂ = eights-more 4 isWordByte w h (omega arith) (0 + 4) (sym (min-eq-right (omega arith))) high r₁ in
-      sym (run-out isWordByte w (0 + 4 + 4) r₂ (omega arith))
+  covered : all isWordByte parts ≡ runOf isWordByte w
+  covered =
+      let low : all isWordByte (take 4 w) ≡ all isWordByte (take 4 parts) = rw (four w 0 (omega arith)) in
+      let high : all isWordByte (take 4 (drop from w)) ≡ all isWordByte (drop 4 parts) = rw (four w from (omega arith)) in
+      all-parts isWordByte 4 parts ∙ rw (← low, ← high) (both-ends 4 isWordByte w h (omega arith) (omega arith))
 
-  pub letters-run : {l m : ℕ} → l ≡ number w 0 → m ≡ number w from → eqb (letterBits eightOnes (l + m * 4294967296)) (128 * eightOnes) ≡ true → runOf isWordByte w ≡ true
-  letters-run {l} {m} el em t =
-      let whole = eight-test parts 0 (omega arith) small (letterBits 1) isLetter (λ b g. refl) {x = l + m * 4294967296} (omega arith) letters-each in
-      covered (letters-words parts small (sym whole ∙ t))
+  module _ {x : ℕ} (e : x ≡ number w 0 + number w from * 0x1_0000_0000) where
+    pub letters-run : eqb (letterBits eightOnes x) (128 * eightOnes) ≡ true → runOf isWordByte w ≡ true
+    letters-run t =
+        let whole = eight-test parts 0 (omega arith) small (letterBits 1) isLetter (λ b g. refl) {x = x} (omega arith) only-letters in
+        sym covered ∙ letters-words parts small (sym whole ∙ t)
+
+    pub fours-run : eqb (highs eightOnes (wordsIn eightOnes x)) (128 * eightOnes) ≡ runOf isWordByte w
+    fours-run = eight-words parts small 0 (omega arith) {x = x} (omega arith) ∙ covered

@@ -1,5 +1,5 @@
 -- Runs of bytes of one set: counted off by the loops, and read as one piece. Assumes nothing.
-use mathlib.Core.Bool.{Bool, true, false, _&&_, and-assoc, and-false}
+use mathlib.Core.Bool.{Bool, true, false, _&&_, and-assoc, and-true, and-false}
 use mathlib.Core.List.{List, [], _∷_}
 use mathlib.Core.Path.{_≡_, refl, sym, _∙_}
 use Prim.Native.Nat.{ℕ, zero, suc, _+_, _-_, _≤_, _<_, min}
@@ -32,6 +32,11 @@ run-empty f (b ∷ w) h = absurd (omega arith)
 pub run-start : (f : ℕ → Bool) (w : List ℕ) → (length w ≡ 0 → ⊥) → runOf f w ≡ all f (drop 0 w)
 run-start f [] n = absurd (n refl)
 run-start f (b ∷ w) n = refl
+
+pub run-one : (f : ℕ → Bool) (w : List ℕ) → length w ≡ 1 → f (getD w 0 0) ≡ runOf f w
+run-one f [] h = absurd (omega arith)
+run-one f (b ∷ []) h = sym (and-true (f b))
+run-one f (b ∷ c ∷ w) h = absurd (omega arith)
 
 pub run-all-of : (f : ℕ → Bool) (w : List ℕ) → runOf f w ≡ true → all f w ≡ true
 run-all-of f [] e = refl
@@ -92,6 +97,18 @@ module _ (m : ℕ) (f : ℕ → Bool) (w : List ℕ) (h : m ≤ length w) (some 
 
     pub eights-more : runOf f w ≡ all f (drop i w) → runOf f w ≡ all f (drop (i + m) w)
     eights-more e = e ∙ split (leb i last) (λ q. eights-on (leb-true i last q)) (λ q. eights-over (omega (arith, leb-false i last q)))
+
+  -- the first m and the last m are all
+  pub both-ends : length w ≤ m + m → all f (take m w) && all f (take m (drop last w)) ≡ runOf f w
+  both-ends k =
+      split (all f (take m w))
+      (λ p. split (all f (take m (drop last w)))
+      (λ q. rw (p, q)
+      (run-out f w (0 + m + m)
+      (eights-more (0 + m) (sym (min-eq-right (omega arith))) q (eights-more 0 (sym (min-eq-left (omega arith))) p (run-start f w (λ z. omega arith))))
+      (omega arith)))
+      (λ q. rw (p, q) (eights-stop last q)))
+      (λ p. rw p (eights-stop 0 p))
 
 -- ---- read
 

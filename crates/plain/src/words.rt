@@ -4,29 +4,56 @@ use pieces::eights;
 use rows::number_at;
 ghost use mathlib.Core.Bool.{true, cond};
 ghost use mathlib.Core.Path.{_≡_};
-ghost use Prim.Native.Nat.{_+_, _≤_, min};
+ghost use Prim.Native.Nat.{_+_, _-_, _*_, _≤_, min};
+ghost use lib.Bits.{bitAnd, bitOr, bitXor};
+ghost use lib.Dec.{eqb};
 ghost use lib.ListN.{length, take, drop};
 ghost use Rattle.report.specs.Bytes.{within};
+ghost use Rattle.rows.specs.Row.{number};
 ghost use Rattle.pieces.specs.Sets.{all};
 ghost use Rattle.pieces.specs.Eight.{eightOnes};
 ghost use Rattle.plain.specs.Scan.{isWordByte, runOf};
 ghost use Rattle.plain.specs.Eight.{bytesWithin};
 
-// Whether there are bytes, and all are word bytes.
+// Whether there are bytes, and all are word bytes. No loop tests a lexeme of one byte, or of four to sixteen.
 pub fn is_words(lexeme: &[u8]) -> bool
     ensures { λ r. ⌜ r ≡ runOf isWordByte (now (lexeme .entry)) ⌝ }
 {
     let size = lexeme.len();
+    if size == 1 {
+        return is_word(lexeme[0]);
+    }
     if size < 4 {
         return is_short_words(lexeme);
     }
-    if 8 < size {
-        return is_long_words(lexeme);
+    if size <= 8 {
+        return two_fours(lexeme);
     }
+    if size <= 16 {
+        return two_eights(lexeme);
+    }
+    is_long_words(lexeme)
+}
+
+// The same for four to eight bytes, by the first four and the last four. Most are letters alone: these are asked for first.
+fn two_fours(lexeme: &[u8]) -> bool
+    requires { ⌜ (4 ≤ length (now lexeme)) × (length (now lexeme) ≤ 8) ⌝ }
+    ensures { λ r. ⌜ r ≡ runOf isWordByte (now (lexeme .entry)) ⌝ }
+{
     if is_letters(lexeme) {
         return true;
     }
-    is_short_words(lexeme)
+    all_high(words_in(fours(lexeme)))
+}
+
+// The same for eight to sixteen bytes, by the first eight and the last eight.
+fn two_eights(lexeme: &[u8]) -> bool
+    requires { ⌜ (8 ≤ length (now lexeme)) × (length (now lexeme) ≤ 16) ⌝ }
+    ensures { λ r. ⌜ r ≡ runOf isWordByte (now (lexeme .entry)) ⌝ }
+{
+    let first = words_in(eights::eight_bytes(lexeme, 0));
+    let last = words_in(eights::eight_bytes(lexeme, lexeme.len() - 8));
+    all_high(first & last)
 }
 
 // The same from eight on. Eight are tested at a time: the last eight of all, where fewer are left. A string begins with a quote.
@@ -86,6 +113,7 @@ fn is_short_words(lexeme: &[u8]) -> bool
     true
 }
 
+// The smaller of two numbers.
 pub fn smaller(a: usize, b: usize) -> usize
     ensures { λ r. ⌜ r ≡ min a b ⌝ }
 {
@@ -130,21 +158,70 @@ pub fn one(x: bool) -> u8
 
 // ---- eight bytes in one number
 
-// Whether the eight bytes from `at` on are word bytes. The answer for each stands in its high bit; a byte with that bit set is one.
+// In each byte, the bit that makes a letter small.
+const SMALL: u64 = 0x2020_2020_2020_2020;
+
+// What a number is multiplied by to stand behind four bytes.
+const BEHIND_FOUR: u64 = 0x1_0000_0000;
+
+// Whether the eight bytes from `at` on are word bytes.
 fn eight_words(s: &[u8], at: usize) -> bool
     requires { ⌜ at + 8 ≤ length (now s) ⌝ }
     ensures { λ r. ⌜ r ≡ all isWordByte (take 8 (drop at (now (s .entry)))) ⌝ }
 {
-    let x = eights::eight_bytes(s, at);
-    let low = x & eights::LOW;
-    let word = bytes_within(low, b'0', b'9')
-        ^ bytes_within(low, b'A', b'Z')
-        ^ bytes_within(low, b'_', b'_')
-        ^ bytes_within(low, b'a', b'z');
-    (word | x) & eights::HIGH == eights::HIGH
+    all_high(words_in(eights::eight_bytes(s, at)))
 }
 
-// In each byte's high bit, whether the byte is one of `first` to `last`: whether it reaches the one and not what is behind the other.
+// Whether all are letters, for four to eight bytes. A byte with its high bit set is no letter.
+fn is_letters(s: &[u8]) -> bool
+    requires { ⌜ (4 ≤ length (now s)) × (length (now s) ≤ 8) ⌝ }
+    ensures { λ r. ⌜ (r ≡ true → runOf isWordByte (now (s .entry)) ≡ true) ⌝ }
+{
+    let x = fours(s);
+    all_high(letters_in(x) & (x ^ eights::HIGH))
+}
+
+// The first four and the last four bytes, which may overlap, in one number.
+fn fours(s: &[u8]) -> u64
+    requires { ⌜ 4 ≤ length (now s) ⌝ }
+    ensures { λ r. ⌜ r ≡ number (now (s .entry)) 0 + number (now (s .entry)) (length (now (s .entry)) - 4) * 0x1_0000_0000 ⌝ }
+{
+    let first = wide(number_at(s, 0));
+    let last = wide(number_at(s, s.len() - 4));
+    first + last * BEHIND_FOUR
+}
+
+// The same number in 64 bits.
+fn wide(n: u32) -> u64
+    ensures { λ r. ⌜ (r ≡ n) × (r ≤ 0xffff_ffff) ⌝ }
+{
+    n as u64
+}
+
+// Whether each byte's high bit is set: the tests below answer there, byte by byte, and leave anything in the other bits.
+fn all_high(x: u64) -> bool
+    ensures { λ r. ⌜ r ≡ eqb (bitAnd x (128 * eightOnes)) (128 * eightOnes) ⌝ }
+{
+    x & eights::HIGH == eights::HIGH
+}
+
+// Which bytes are word bytes: letters, digits, `_` and those with the high bit set. `_` with its bit of SMALL changed is 127: of the low
+// parts that one alone reaches the high bit when 1 is added.
+fn words_in(x: u64) -> u64
+    ensures { λ r. ⌜ (let low = bitAnd x (127 * eightOnes) in r ≡ bitOr (bitOr (bitOr (bytesWithin eightOnes (bitOr low (32 * eightOnes)) 97 122) (bytesWithin eightOnes low 48 57)) (bitXor low (32 * eightOnes) + eightOnes)) x) ⌝ }
+{
+    let low = x & eights::LOW;
+    letters_in(x) | bytes_within(low, b'0', b'9') | ((low ^ SMALL) + eights::ONES) | x
+}
+
+// Which bytes are letters but for the high bit: each is made small first.
+fn letters_in(x: u64) -> u64
+    ensures { λ r. ⌜ r ≡ bytesWithin eightOnes (bitOr (bitAnd x (127 * eightOnes)) (32 * eightOnes)) 97 122 ⌝ }
+{
+    bytes_within((x & eights::LOW) | SMALL, b'a', b'z')
+}
+
+// Which bytes are one of `first` to `last`: whether each reaches the one and not what is behind the other.
 // All are below 128, so that no sum carries into the next byte.
 fn bytes_within(low: u64, first: u8, last: u8) -> u64
     requires { ⌜ (low ≤ 0x7f7f_7f7f_7f7f_7f7f) × (first ≤ 128) × (last ≤ 127) ⌝ }
@@ -153,27 +230,6 @@ fn bytes_within(low: u64, first: u8, last: u8) -> u64
     (low + (128 - first as u64) * eights::ONES) ^ (low + (127 - last as u64) * eights::ONES)
 }
 
-// Whether the first four and the last four bytes are letters: most names of four to eight bytes.
-fn is_letters(s: &[u8]) -> bool
-    requires { ⌜ (4 ≤ length (now s)) × (length (now s) ≤ 8) ⌝ }
-    ensures { λ r. ⌜ (r ≡ true → runOf isWordByte (now (s .entry)) ≡ true) ⌝ }
-{
-    let low = wide(number_at(s, 0));
-    let high = wide(number_at(s, s.len() - 4));
-    let x = low + high * 0x1_0000_0000;
-    let small = (x | SMALL) & eights::LOW;
-    bytes_within(small, b'a', b'z') & (x ^ eights::HIGH) & eights::HIGH == eights::HIGH
-}
-
-fn wide(n: u32) -> u64
-    ensures { λ r. ⌜ (r ≡ n) × (r ≤ 0xffff_ffff) ⌝ }
-{
-    n as u64
-}
-
-// In each byte, the bit that makes a letter small.
-const SMALL: u64 = 0x2020_2020_2020_2020;
-
 // ---- one byte
 
 // The word bytes below 64, and those of 64–127, as bits.
@@ -181,7 +237,7 @@ const WORD_LOW: u64 = 0x03ff_0000_0000_0000;
 
 const WORD_HIGH: u64 = 0x07ff_fffe_87ff_fffe;
 
-// Most are small letters: these are asked for first.
+// Whether it is a word byte. Most are small letters: these are asked for first.
 fn is_word(b: u8) -> bool
     ensures { λ r. ⌜ r ≡ isWordByte b ⌝ }
 {
@@ -199,6 +255,7 @@ fn is_word(b: u8) -> bool
     true
 }
 
+// Whether it is a small letter.
 fn is_small(b: u8) -> bool
     ensures { λ r. ⌜ r ≡ within 97 122 b ⌝ }
 {

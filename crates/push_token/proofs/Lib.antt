@@ -12,3 +12,4 @@ pub mod Demand3
 pub mod Cases
 pub mod Said
 pub mod Growth
+pub mod Last

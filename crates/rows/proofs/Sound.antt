@@ -84,6 +84,10 @@ sound-at size before i [] e j d h = absurd (omega arith)
 sound-at size before i (r ∷ rs) e zero d h = (before, first-sound size before i r rs e)
 sound-at size before i (r ∷ rs) e (suc j) d h = sound-at size (after (r .what)) (i + 1) rs (rest-good size before i r rs e) j d (omega arith)
 
+-- a token's row names one of the 35 kinds
+pub known-kinds : (size : ℕ) (before : Before) (i : ℕ) (rs : List Row) → badFrom size before i rs ≡ none → (k : ℕ) (d : Row) → k < length rs → getD rs k d .what ≡ TokenRow → getD rs k d .kind ≤ 34
+known-kinds size before i rs e k d h w = rw w at (sound-at size before i rs e k d h .1 .known-kind)
+
 -- ---- the bytes of a row
 
 pub bytes-length : (text : List ℕ) (r : Row) → Inside text r → length (bytesOf text r) ≡ r .end - r .start

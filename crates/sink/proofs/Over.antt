@@ -1,12 +1,13 @@
 -- A write over an earlier one: a copy by eights, and a lexeme over a space. Assumes nothing.
 use mathlib.Core.List.{List, _++_, append-assoc}
+use mathlib.Core.Logic.{_⊎_, ⊎-elim}
 use mathlib.Core.Path.{_≡_, refl, sym, _∙_}
 use Prim.Native.Nat.{ℕ, zero, suc, _+_, _-_, _≤_, _<_}
 use native.Mathlib.Omega.{arith}
 use lib.ListN.{length, take, drop, set, getD, replicate, length-append, length-set}
 use lib.Seq.{slice, length-slice, length-take-le, take-take, take-add, take-append-add, drop-drop, drop-at}
 use Rattle.sink.specs.Sink.{Writes}
-use Rattle.sink.proofs.Sink.{Copied, later, one, same-bytes, part-more, part-done, slice-one}
+use Rattle.sink.proofs.Sink.{Copied, later, one, same-bytes, part-none, part-more, part-done, slice-one}
 
 take-over : (l m xs : List ℕ) (n p q j : ℕ) → q ≡ n + j → q ≤ p → n ≤ length l → take p m ≡ take n l ++ xs → take q m ≡ take n l ++ take j xs
 take-over l m xs n p q j d b h e =
@@ -70,13 +71,26 @@ part-over {l} {t} {m} {k} {n} {s} {i} j w a b h p x =
       wrote = rw (← f) (same-bytes (rw (take-slice s j i t (omega arith) a) (slice-join s j w t (omega arith))) (overwrite j (omega arith) (omega arith) refl (p .wrote) x));
     }
 
+-- what is copied in turns of w bytes is the least of i and size, and the last turn may go over an earlier one
+pub turn-none : {l t : List ℕ} {n s : ℕ} (size : ℕ) → Copied l n t s l (size - (size - 0))
+turn-none size = let e : size - (size - 0) ≡ 0 = omega arith in rw e part-none
+
+turn : {l t m k : List ℕ} {n s : ℕ} (w i j p : ℕ) → j ≤ i → i ≤ j + w → s + j + w ≤ length t → p ≡ j + w → Copied l n t s m i → Writes m (n + j) (slice (s + j) (s + j + w) t) k (n + j + w) → Copied l n t s k p
+turn w i j p a b h e q x = rw e (part-over j w a b h q x)
+
+pub turn-more : {l t m k : List ℕ} {n s : ℕ} (w size i j : ℕ) → w ≤ size → s + size ≤ length t → i < size → (j ≤ i) × ((j ≤ size - w) × ((j ≡ i) ⊎ (j ≡ size - w))) → Copied l n t s m (size - (size - i)) → Writes m (n + j) (slice (s + j) (s + j + w) t) k (n + j + w) → Copied l n t s k (size - (size - (i + w)))
+turn-more w size i j a h g b p x =
+    ⊎-elim (λ e. turn w (size - (size - i)) j (size - (size - (i + w))) (omega arith) (omega arith) (omega arith) (omega arith) p x)
+    (λ e. turn w (size - (size - i)) j (size - (size - (i + w))) (omega arith) (omega arith) (omega arith) (omega arith) p x)
+    (b .1 .1)
+
 -- the first w bytes and the last w, which may go over them
 pub ends : {l m k : List ℕ} {n : ℕ} (t : List ℕ) (s w size : ℕ) → w ≤ size → size ≤ w + w → s + size ≤ length t → Writes l n (slice s (s + w) t) m (n + w) → Writes m (n + (size - w)) (slice (s + (size - w)) (s + (size - w) + w) t) k (n + (size - w) + w) → Writes l n (slice s (s + size) t) k (n + size)
 ends t s w size a b h x y = part-done (s + size) size (part-over (size - w) w (omega arith) (omega arith) (omega arith) (record { size = x .size; wrote = x }) y) (omega arith) (omega arith)
 
 -- ---- two, four and eight stores
 
-part-one : {l t : List ℕ} {n s : ℕ} → s < length t → n < length l → Copied l n t s (set l n (getD t s 0)) 1
+pub part-one : {l t : List ℕ} {n s : ℕ} → s < length t → n < length l → Copied l n t s (set l n (getD t s 0)) 1
 part-one {l} {t} {n} {s} g h = record { size = length-set l n (getD t s 0); wrote = same-bytes (sym (slice-one s (s + 1) t (omega arith) (omega arith))) (one h) }
 
 part-next : {l t m : List ℕ} {n s i : ℕ} → s + i < length t → n + i < length l → Copied l n t s m i → Copied l n t s (set m (n + i) (getD t (s + i) 0)) (i + 1)

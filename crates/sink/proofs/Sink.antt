@@ -2,12 +2,12 @@
 use mathlib.Core.Bool.{Bool, true, false}
 use mathlib.Core.List.{List, [], _∷_, _++_, append-nil, append-assoc}
 use mathlib.Core.Path.{_≡_, refl, sym, _∙_}
-use Prim.Native.Nat.{ℕ, _+_, _-_, _*_, _^_, _≤_, _<_}
+use Prim.Native.Nat.{ℕ, _+_, _-_, _≤_, _<_}
 use native.Mathlib.Omega.{arith}
 use native.Mathlib.Numerals.{add-one}
-use native.Mathlib.Nat.{le-of-lt, lt-of-le-of-lt, mul-le-mul-left, mul-lt-mul-of-pos-right}
+use native.Mathlib.Nat.{add-zero}
 use borrow.Author.Tests.{leb-true, leb-false}
-use lib.Dec.{leb, lit<}
+use lib.Dec.{leb}
 use lib.ListN.{length, take, drop, set, getD, replicate, length-append, length-take, length-set, length-replicate, replicate-append-replicate}
 use lib.Seq.{slice, length-slice, drop-drop, take-suc-set, drop-set-lt, take-suc, drop-append-le, slice-empty}
 use Rattle.sink.specs.Sink.{Writes}
@@ -23,6 +23,9 @@ nothing {l} {n} = record {
   fits = λ h. record { far = omega arith; text = sym (append-nil (take n l)); rest = refl };
   over = λ h. omega arith;
 }
+
+pub nothing-more : {l : List ℕ} {n : ℕ} → Writes l n [] l (n + 0)
+nothing-more {l} {n} = rw (add-zero n) nothing
 
 pub andThen : {l m k : List ℕ} {n p q : ℕ} {xs ys : List ℕ} → Writes l n xs m p → Writes m p ys k q → Writes l n (xs ++ ys) k q
 andThen {l} {m} {k} {n} {p} {q} {xs} {ys} x y = record {
@@ -68,6 +71,13 @@ one {l} {n} {b} h = record {
   };
   over = λ g. omega arith;
 }
+
+-- one byte more, at the end of those that are written
+pub one-more : {l m xs : List ℕ} {n : ℕ} (i b : ℕ) → Writes l n xs m (n + i) → n + i < length l → Writes l n (xs ++ (b ∷ [])) (set m (n + i) b) (n + (i + 1))
+one-more {n = n} i b w h =
+    let e : n + (i + 1) ≡ n + i + 1 = omega arith in
+    let s = w .size in
+    rw e (andThen w (one (omega arith)))
 
 -- where they do not fit, the length is past the end
 pub past : {l xs : List ℕ} {n : ℕ} → length l < n + length xs → Writes l n xs l (length l + 1)
@@ -132,8 +142,3 @@ past-pad {l} {n} k h = past (omega (arith, length-replicate {A = ℕ} k 32))
 
 pub past-part : {l : List ℕ} {n : ℕ} (s e : ℕ) (t : List ℕ) → e ≤ length t → length l < n + (e - s) → Writes l n (slice s e t) l (length l + 1)
 past-part {l} {n} s e t g h = past (let f = length-slice s e t g in omega arith)
-
--- ---- the size of an indent
-
-pub product : {a b : ℕ} → a < 2 ^ 32 → b < 2 ^ 32 → a * b < 2 ^ 64
-product {a} {b} h k = lt-of-le-of-lt (mul-le-mul-left a (le-of-lt k)) (mul-lt-mul-of-pos-right h (lit< tt))

@@ -1,2 +1,4 @@
 pub mod Sink
+pub mod Tail
+pub mod Space
 pub mod Comment

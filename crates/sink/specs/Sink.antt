@@ -1,5 +1,6 @@
 -- Writing into a lent output. The length counts on, by one past the end where the bytes do not fit.
 -- Assumes nothing.
+use mathlib.Core.Bool.{Bool, cond}
 use mathlib.Core.List.{List, _++_}
 use mathlib.Core.Path.{_≡_}
 use Prim.Native.Nat.{ℕ, _+_, _≤_, _<_}
@@ -16,3 +17,15 @@ pub record Writes (l : List ℕ) (n : ℕ) (xs : List ℕ) (m : List ℕ) (r : �
   pub size : length m ≡ length l
   pub fits : n + length xs ≤ length l → Wrote l n xs m r
   pub over : length l < n + length xs → length l < r
+
+-- the text fits the output so far, and a gap is no large number: what a writer asks
+pub record Room (out : List ℕ) (len gap : ℕ) : Type 0 where
+  pub within : len ≤ length out
+  pub small : gap < 68719476736
+
+-- how many commas and line feeds are put
+abbrev pub countComma : Bool → ℕ
+countComma wanted = cond wanted 1 0
+
+abbrev pub countFeed : Bool → ℕ
+countFeed atLineStart = cond atLineStart 0 1

@@ -1,4 +1,6 @@
 // A part of the text copied into the lent output, where it is known to fit.
+ghost use mathlib.Core.Logic.{_⊎_};
+ghost use mathlib.Core.Path.{_≡_};
 ghost use Prim.Native.Nat.{_+_, _≤_};
 ghost use lib.ListN.{length};
 ghost use lib.Seq.{slice};
@@ -73,11 +75,20 @@ fn copy_eights(out: &mut [u8], to: usize, text: &[u8], from: usize, size: usize)
 {
     let last = size - EIGHT;
     let mut i = 0;
-    while i < last {
-        copy_eight(out, to + i, text, from + i);
+    while i < size {
+        let at = least(i, last);
+        copy_eight(out, to + at, text, from + at);
         i += EIGHT;
     }
-    copy_eight(out, to + last, text, from + last);
+}
+
+fn least(a: usize, b: usize) -> usize
+    ensures { λ r. ⌜ (r ≤ a) × ((r ≤ b) × ((r ≡ a) ⊎ (r ≡ b))) ⌝ }
+{
+    if a < b {
+        return a;
+    }
+    b
 }
 
 // All bytes are loaded before one is stored: the compiler makes one load and one store of it.

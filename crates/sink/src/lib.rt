@@ -3,4 +3,6 @@ pub mod comments;
 mod copy;
 pub mod lent;
 pub mod numbers;
+pub mod put;
+pub mod space;
 pub mod write;

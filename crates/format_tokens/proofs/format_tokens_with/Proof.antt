@@ -4,7 +4,7 @@ use native.Mathlib.Omega.{arith}
 use borrow.Author.Needs.{needs}
 use Rattle.report.specs.Report.{refuse, option, raggedRows, badRow}
 use Rattle.rows.specs.Answer.{reported}
-use Rattle.format_tokens.proofs.Laid.{refused-answers, passed-layout, passed-walks}
+use Rattle.format_tokens.proofs.Laid.{refused-answers, passed-layout, passed-walks, small-width}
 use Rattle.rows.proofs.Passed.{passed}
 use Rattle.format_tokens.proofs.format_tokens_with.Statement.{statement}
 use Rattle.format_tokens.proofs.format_tokens_with.Tie as tie
@@ -31,7 +31,7 @@ options-of-requires : tie.Need-options-of-requires
 options-of-requires c κs = search needs
 
 lay-out-requires : tie.Need-lay-out-requires
-lay-out-requires c κs = let π = (passed _ _ _ _ _ _ (sym (c .before .before .before .before .check-unless .ensures) ∙ ap reported (c .before .before .enum-told2 .given .1))) in let ω = passed-walks (c .before .before .before .before .before .before .before .before .before .args .style) (c .before .before .before .before .before .before .before .before .before .args .indent-width) (c .before .before .before .before .before .before .before .before .before .args .signature-width) (c .before .before .before .before .before .before .before .before .before .args .list-width) (c .before .before .before .before .before .before .before .before .before .args .rows .now) (c .before .before .before .before .before .before .before .before .before .args .text .now) (c .before .before .before .before .before .before .before .before .before .args .out .now) π in (ω, (c .before .before .before .before .before .is-plain .ensures .1) (ω .few) (ω .good))
+lay-out-requires c κs = let π = (passed _ _ _ _ _ _ (sym (c .before .before .before .before .check-unless .ensures) ∙ ap reported (c .before .before .enum-told2 .given .1))) in let ω = passed-walks (c .before .before .before .before .before .before .before .before .before .args .style) (c .before .before .before .before .before .before .before .before .before .args .indent-width) (c .before .before .before .before .before .before .before .before .before .args .signature-width) (c .before .before .before .before .before .before .before .before .before .args .list-width) (c .before .before .before .before .before .before .before .before .before .args .rows .now) (c .before .before .before .before .before .before .before .before .before .args .text .now) (c .before .before .before .before .before .before .before .before .before .args .out .now) π in ((ω, rw (c .before .options-of .ensures .1) (small-width (c .before .before .before .before .before .before .before .before .before .args .style) (c .before .before .before .before .before .before .before .before .before .args .indent-width) (c .before .before .before .before .before .before .before .before .before .args .signature-width) (c .before .before .before .before .before .before .before .before .before .args .list-width) (c .before .before .before .before .before .before .before .before .before .args .rows .now) (c .before .before .before .before .before .before .before .before .before .args .text .now) (c .before .before .before .before .before .before .before .before .before .args .out .now) π)), (c .before .before .before .before .before .is-plain .ensures .1) (ω .few) (ω .good))
 
 returns : tie.Need-returns
 returns c = refused-answers (c .before .before .before .before .before .before .before .before .args .style) (c .before .before .before .before .before .before .before .before .args .indent-width) (c .before .before .before .before .before .before .before .before .args .signature-width) (c .before .before .before .before .before .before .before .before .args .list-width) (c .before .before .before .before .before .before .before .before .args .rows .now) (c .before .before .before .before .before .before .before .before .args .text .now) (c .before .before .before .before .before .before .before .before .args .out .now) (refuse option _) (sym (ap reported (c .before .place .given .1)) ∙ (c .before .before .before .check-unless .ensures)) (λ z. omega arith)
@@ -46,7 +46,7 @@ same-length : tie.Need-same-length
 same-length c = search needs
 
 returns-4 : tie.Need-returns-4
-returns-4 c = let l = passed-layout (c .before .before .before .before .before .before .before .before .before .before .before .before .args .style) (c .before .before .before .before .before .before .before .before .before .before .before .before .args .indent-width) (c .before .before .before .before .before .before .before .before .before .before .before .before .args .signature-width) (c .before .before .before .before .before .before .before .before .before .before .before .before .args .list-width) (c .before .before .before .before .before .before .before .before .before .before .before .before .args .rows .now) (c .before .before .before .before .before .before .before .before .before .before .before .before .args .text .now) (c .before .before .before .before .before .before .before .before .before .before .before .before .args .out .now) (passed _ _ _ _ _ _ (sym (c .before .before .before .before .before .before .before .check-unless .ensures) ∙ ap reported (c .before .before .before .before .before .enum-told2 .given .1))) in (rw (c .before .before .before .before .options-of .ensures) at (c .before .before .lay-out .ensures .0) ∙ ap (λ x. x .report) (sym l), rw (c .before .before .before .before .options-of .ensures) at (c .before .before .lay-out .ensures .1) ∙ ap (λ x. x .out) (sym l))
+returns-4 c = let l = passed-layout (c .before .before .before .before .before .before .before .before .before .before .before .before .args .style) (c .before .before .before .before .before .before .before .before .before .before .before .before .args .indent-width) (c .before .before .before .before .before .before .before .before .before .before .before .before .args .signature-width) (c .before .before .before .before .before .before .before .before .before .before .before .before .args .list-width) (c .before .before .before .before .before .before .before .before .before .before .before .before .args .rows .now) (c .before .before .before .before .before .before .before .before .before .before .before .before .args .text .now) (c .before .before .before .before .before .before .before .before .before .before .before .before .args .out .now) (passed _ _ _ _ _ _ (sym (c .before .before .before .before .before .before .before .check-unless .ensures) ∙ ap reported (c .before .before .before .before .before .enum-told2 .given .1))) in (rw (c .before .before .before .before .options-of .ensures .0) at (c .before .before .lay-out .ensures .0) ∙ ap (λ x. x .report) (sym l), rw (c .before .before .before .before .options-of .ensures .0) at (c .before .before .lay-out .ensures .1) ∙ ap (λ x. x .out) (sym l))
 
 pub format-tokens-with-spec : {M : Type 1} → statement M
 format-tokens-with-spec =

@@ -1,5 +1,0 @@
-pub mod Pen
-pub mod Gap
-pub mod Does
-pub mod Due
-pub mod Trivia

@@ -1,4 +1,0 @@
-pub mod Tests
-pub mod Newlines
-pub mod Braces
-pub mod Openers

@@ -1,0 +1,183 @@
+-- A row of trivia, and rows of trivia one by one. Assumes nothing.
+use mathlib.Core.Bool.{true}
+use mathlib.Core.List.{List, [], _∷_, _++_, append-nil}
+use mathlib.Core.Path.{_≡_, refl, ap, _∙_}
+use Prim.Native.Nat.{ℕ, zero, suc, _+_, _-_, _/_, _≤_, _<_}
+use native.Mathlib.Nat.{add-zero}
+use native.Mathlib.Omega.{arith}
+use lib.ListN.{length, drop}
+use lib.Seq.{drop-drop}
+use borrow.Author.Tests.{ne-eqb}
+use Rattle.report.specs.Bytes.{space}
+use Rattle.rows.specs.Kinds.{BlockComment}
+use Rattle.rows.specs.Row.{Row, rowAt, firstRows}
+use Rattle.rows.specs.Bounds.{Inside, InBounds}
+use Rattle.rows.specs.Options.{Options}
+use Rattle.rows.specs.Token.{Trivia, lineComment, docComment, blockComment, blankLine, bytesOf, triviaOf}
+use Rattle.rows.proofs.RowList.{row-drop}
+use Rattle.push_token.specs.Act.{State, update, run}
+use Rattle.push_token.specs.Emit.{indentOrSpace, leadingTrivia, trailingTrivia, leadAct}
+use Rattle.push_token.specs.PushToken.{takeInlineClose}
+use Rattle.push_token.proofs.Said.{said}
+use Rattle.sink.specs.Sink.{Writes}
+use Rattle.sink.specs.Comment.{commentHead, leadTail, trailHead, trailTail}
+use Rattle.sink.proofs.Sink.{andThen, nothing}
+use Rattle.formatter.specs.declared.Formatter.{Formatter}
+use Rattle.formatter.specs.Pen.{Aside, Pen, on, formatterOf, asideOf}
+use Rattle.formatter.specs.Does.{Does, Done, Puts}
+use Rattle.formatter.specs.Trivia.{Part, triviaIn, leadToken, trailBytes}
+use Rattle.formatter.proofs.Does.{does, seq, stays, same-run, updated}
+
+-- ---- a row, by its kind
+
+pub blank-row : (text : List ℕ) (r : Row) → BlockComment < r .kind → triviaOf text r ≡ blankLine
+blank-row text r h =
+    rw (ne-eqb (r .kind) 0 (λ e. omega arith), ne-eqb (r .kind) 1 (λ e. omega arith), ne-eqb (r .kind) 2 (λ e. omega arith))
+
+pub trail-bytes : (text : List ℕ) (r : Row) → r .kind < 3 → trailHead (r .kind) ++ (bytesOf text r ++ trailTail (r .kind)) ≡ trailBytes (triviaOf text r)
+trail-bytes text r h = go (r .kind) refl
+  where
+    go : (k : ℕ) → r .kind ≡ k → trailHead (r .kind) ++ (bytesOf text r ++ trailTail (r .kind)) ≡ trailBytes (triviaOf text r)
+    go zero e = rw (e, append-nil)
+    go (suc zero) e = rw (e, append-nil)
+    go (suc (suc zero)) e = rw e
+    go (suc (suc (suc k))) e = absurd (omega arith)
+
+module _ (o : Options) {x : Aside} {p q : Pen} (text : List ℕ) (r : Row) (h : r .kind < 3) (c : formatterOf (p .form) (p .stack) x ≡ formatterOf (q .form) (q .stack) x) (n : p .form .commas ≡ q .form .commas) where
+  pub lead-comment : Writes (p .buf) (p .form .len) (indentOrSpace o (formatterOf (p .form) (p .stack) x) ++ (commentHead (r .kind) ++ (space ++ bytesOf text r ++ leadTail (r .kind)))) (q .buf) (q .form .len) → Does (leadAct o (triviaOf text r)) x p q
+  unfolding run said
+  lead-comment w = go (r .kind) refl
+    where
+      go : (k : ℕ) → r .kind ≡ k → Does (leadAct o (triviaOf text r)) x p q
+      go zero e = rw e (does c n (rw e at w))
+      go (suc zero) e = rw e (does c n (rw e at w))
+      go (suc (suc zero)) e = rw e (does c n (rw e at w))
+      go (suc (suc (suc k))) e = absurd (omega arith)
+
+-- ---- the first of some rows
+
+-- of no rows
+pub no-trivia : (rows text : List ℕ) {at to : ℕ} → to ≤ at → triviaIn rows text at to ≡ []
+unfolding firstRows
+no-trivia rows text {at} {to} h = let e : (to - at) / 16 ≡ 0 = omega arith in rw e
+
+module _ {rows text : List ℕ} {at to : ℕ} (π : Part rows text at to) (h : at < to) where
+  pub row-within : at + 16 ≤ length rows
+  row-within = let e = π .whole in let g = π .within in omega arith
+
+  first-row : firstRows ((to - at) / 16) (drop at rows) ≡ rowAt rows at ∷ firstRows ((to - (at + 16)) / 16) (drop (at + 16) rows)
+  unfolding firstRows
+  first-row =
+      let w = π .whole in
+      let e : (to - at) / 16 ≡ suc ((to - (at + 16)) / 16) = omega arith in
+      ap (λ n. firstRows n (drop at rows)) e
+      ∙ ap (λ r. r ∷ firstRows ((to - (at + 16)) / 16) (drop 16 (drop at rows))) (row-drop at rows 0 ∙ ap (rowAt rows) (add-zero at))
+      ∙ ap (λ l. rowAt rows at ∷ firstRows ((to - (at + 16)) / 16) l) (drop-drop 16 at rows)
+
+  bounds-first : Inside text (rowAt rows at) × InBounds text (firstRows ((to - (at + 16)) / 16) (drop (at + 16) rows))
+  unfolding InBounds
+  bounds-first = rw first-row at (π .bounds)
+
+  pub row-inside : {r : Row} → r ≡ rowAt rows at → Inside text r
+  row-inside e = rw e (bounds-first .0)
+
+  part-behind : Part rows text (at + 16) to
+  part-behind =
+      let w = π .whole in
+      record { ordered = omega arith; within = π .within; whole = omega arith; bounds = bounds-first .1 }
+
+  first-trivia : {r : Row} → r ≡ rowAt rows at → triviaIn rows text at to ≡ triviaOf text r ∷ triviaIn rows text (at + 16) to
+  first-trivia e = rw (first-row, e)
+
+-- ---- leading rows
+
+-- from the state f and the output `out`, the rows from `at` on do what is left of the whole
+pub record LeadsLeft (o : Options) (rows text : List ℕ) (from to : ℕ) (f₀ : Formatter) (out₀ : List ℕ) (at : ℕ) (f : Formatter) (out : List ℕ) : Type 0 where
+  pub part : Part rows text at to
+  pub size : length out ≡ length out₀
+  pub indent : f .indent ≤ 4294967295
+  pub rest : (s : List ℕ) (q : Pen) → Done (leadingTrivia o (triviaIn rows text at to)) (on f s out) q → Done (leadingTrivia o (triviaIn rows text from to)) (on f₀ s out₀) q
+
+pub leads-whole : {o : Options} {rows text : List ℕ} {from to : ℕ} {f : Formatter} {out : List ℕ} → Part rows text from to → f .indent ≤ 4294967295 → LeadsLeft o rows text from to f out from f out
+leads-whole π h = record { part = π; size = refl; indent = h; rest = λ s q d. d }
+
+module _ {o : Options} {rows text : List ℕ} {from to : ℕ} {f₀ : Formatter} {out₀ : List ℕ} {at : ℕ} {f : Formatter} {out : List ℕ} (left : LeadsLeft o rows text from to f₀ out₀ at f out) where
+  pub leads-behind : at < to → {r : Row} → r ≡ rowAt rows at → {g : Formatter} {buf : List ℕ} → length buf ≡ length out → g .indent ≡ f .indent → Puts (leadAct o (triviaOf text r)) f out g buf → LeadsLeft o rows text from to f₀ out₀ (at + 16) g buf
+  unfolding leadingTrivia
+  leads-behind h e z i d =
+      record {
+        part = part-behind (left .part) h;
+        size = z ∙ left .size;
+        indent = rw i (left .indent);
+        rest = λ s q y. left .rest s q (λ x. rw (first-trivia (left .part) h e) (seq (d s x) (y _)));
+      }
+
+  -- at the end; the code takes the mark of a one-line block's `}` before the rows, where there are none
+  module _ (h : to ≤ at) where
+    leads-none : (s : List ℕ) → Done (leadingTrivia o (triviaIn rows text from to)) (on f₀ s out₀) (on f s out)
+    unfolding leadingTrivia
+    leads-none s = left .rest s (on f s out) (λ x. rw (no-trivia rows text h) stays)
+
+    pub lead-bare : {g : Formatter} → from ≡ to → ((s : List ℕ) → Done (update (takeInlineClose true)) (on g s out₀) (on f₀ s out₀)) → Puts (leadToken o (triviaIn rows text from to)) g out₀ f out
+    unfolding run leadingTrivia
+    lead-bare {g} e u s x =
+        let z = no-trivia rows text {at = from} {to = to} (omega arith) in
+        rw z (same-run refl (seq (u s x) (rw z at (leads-none s (asideOf (takeInlineClose true (formatterOf g s x)))))))
+
+    pub lead-behind : {g : Formatter} → Part rows text from to → (from ≡ to → ⊥) → f₀ ≡ g → Puts (leadToken o (triviaIn rows text from to)) g out₀ f out
+    lead-behind π n e s x =
+        let i : from < to = let a = π .ordered in omega (arith, n) in
+        seq (rw e at (leads-none s x)) (rw (first-trivia π i refl) (updated refl refl nothing))
+
+-- ---- trailing rows
+
+unfoldable pub trailsBytes : List Trivia → List ℕ
+trailsBytes [] = []
+trailsBytes (t ∷ ts) = trailBytes t ++ trailsBytes ts
+
+-- trailing trivia writes its bytes, and changes no field
+trailing-said : (ts : List Trivia) (s : State) → said (trailingTrivia ts) s ≡ trailsBytes ts
+unfolding said run trailingTrivia trailsBytes
+trailing-said [] s = refl
+trailing-said (lineComment c ∷ ts) s = rw (trailing-said ts)
+trailing-said (docComment c ∷ ts) s = rw (trailing-said ts)
+trailing-said (blockComment c ∷ ts) s = rw (trailing-said ts)
+trailing-said (blankLine ∷ ts) s = trailing-said ts s
+
+record Same (s t : State) : Type 0 where
+  pub formatter : t .formatter ≡ s .formatter
+  pub commas : t .commas ≡ s .commas
+
+trailing-same : (ts : List Trivia) (s : State) → Same s (run (trailingTrivia ts) s)
+unfolding run trailingTrivia
+trailing-same [] s = record { formatter = refl; commas = refl }
+trailing-same (lineComment c ∷ ts) s = let h = trailing-same ts _ in record { formatter = h .formatter; commas = h .commas }
+trailing-same (docComment c ∷ ts) s = let h = trailing-same ts _ in record { formatter = h .formatter; commas = h .commas }
+trailing-same (blockComment c ∷ ts) s = let h = trailing-same ts _ in record { formatter = h .formatter; commas = h .commas }
+trailing-same (blankLine ∷ ts) s = let h = trailing-same ts _ in record { formatter = h .formatter; commas = h .commas }
+
+pub trailing-does : (ts : List Trivia) {x : Aside} {p q : Pen} → formatterOf (p .form) (p .stack) x ≡ formatterOf (q .form) (q .stack) x → p .form .commas ≡ q .form .commas → Writes (p .buf) (p .form .len) (trailsBytes ts) (q .buf) (q .form .len) → Does (trailingTrivia ts) x p q
+trailing-does ts c n w =
+    let h = trailing-same ts _ in
+    does (rw (h .formatter) c) (h .commas ∙ n) (rw (trailing-said ts) w)
+
+-- the rows from `at` on write what is left of the whole
+pub record TrailsLeft (rows text : List ℕ) (from to : ℕ) (out₀ : List ℕ) (len₀ : ℕ) (at : ℕ) (out : List ℕ) (len : ℕ) : Type 0 where
+  pub part : Part rows text at to
+  pub rest : (buf : List ℕ) (r : ℕ) → Writes out len (trailsBytes (triviaIn rows text at to)) buf r → Writes out₀ len₀ (trailsBytes (triviaIn rows text from to)) buf r
+
+pub trails-whole : {rows text : List ℕ} {from to : ℕ} {out : List ℕ} {len : ℕ} → Part rows text from to → TrailsLeft rows text from to out len from out len
+trails-whole π = record { part = π; rest = λ buf r w. w }
+
+module _ {rows text : List ℕ} {from to : ℕ} {out₀ : List ℕ} {len₀ : ℕ} {at : ℕ} {out : List ℕ} {len : ℕ} (left : TrailsLeft rows text from to out₀ len₀ at out len) where
+  pub trails-behind : at < to → {r : Row} → r ≡ rowAt rows at → {buf : List ℕ} {n : ℕ} → Writes out len (trailBytes (triviaOf text r)) buf n → TrailsLeft rows text from to out₀ len₀ (at + 16) buf n
+  unfolding trailsBytes
+  trails-behind h e w =
+      record {
+        part = part-behind (left .part) h;
+        rest = λ k m y. left .rest k m (rw (first-trivia (left .part) h e) (andThen w y));
+      }
+
+  pub trails-none : to ≤ at → Writes out₀ len₀ (trailsBytes (triviaIn rows text from to)) out len
+  unfolding trailsBytes
+  trails-none h = left .rest out len (rw (no-trivia rows text h) nothing)

@@ -1,0 +1,42 @@
+-- `formatter::Formatter::close_block` meets its contract. Assumes nothing.
+use mathlib.Core.Path.{refl, sym}
+use borrow.Author.Needs.{needs}
+use Rattle.push_token.specs.Act.{run}
+use Rattle.push_token.proofs.Said.{said}
+use Rattle.formatter.proofs.Does.{does}
+use Rattle.formatter.proofs.Formatter.close_block.Statement.{statement}
+use Rattle.formatter.proofs.Formatter.close_block.Tie as tie
+
+less-requires : tie.Need-less-requires
+less-requires c κs = search needs
+
+indent-size-requires : tie.Need-indent-size-requires
+indent-size-requires c κs = search needs
+
+write-closer-requires : tie.Need-write-closer-requires
+write-closer-requires c κs = search needs
+
+record-depth-outside-requires : tie.Need-record-depth-outside-requires
+record-depth-outside-requires c κs = search needs
+
+ended-by-requires : tie.Need-ended-by-requires
+ended-by-requires c κs = search needs
+
+same-length : tie.Need-same-length
+same-length c = search needs
+
+returns : tie.Need-returns
+unfolding run said
+returns c = λ s x. does (sym (rw (c .ended-by .ensures, c .before .record-depth-outside .ensures, c .before .before .before .before .before .before .before .less .ensures))) refl (rw (← c .before .before .before .before .before .before .before .less .ensures, ← c .before .before .before .before .before .before .indent-size .ensures .0) (c .before .before .before .before .write-closer .ensures))
+
+pub close-block-spec : {M : Type 1} → statement M
+close-block-spec =
+    tie.close
+    (tie.spec
+    less-requires
+    indent-size-requires
+    write-closer-requires
+    record-depth-outside-requires
+    ended-by-requires
+    same-length
+    returns)

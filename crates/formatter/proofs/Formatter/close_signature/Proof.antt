@@ -1,0 +1,42 @@
+-- `formatter::Formatter::close_signature` meets its contract. Assumes nothing.
+use mathlib.Core.Path.{refl, sym}
+use borrow.Author.Needs.{needs}
+use Rattle.push_token.specs.Act.{run}
+use Rattle.push_token.proofs.Said.{said}
+use Rattle.formatter.proofs.Does.{does}
+use Rattle.formatter.proofs.Formatter.close_signature.Statement.{statement}
+use Rattle.formatter.proofs.Formatter.close_signature.Tie as tie
+
+indent-size-requires : tie.Need-indent-size-requires
+indent-size-requires c κs = search needs
+
+write-closer-requires : tie.Need-write-closer-requires
+write-closer-requires c κs = search needs
+
+ended-by-requires : tie.Need-ended-by-requires
+ended-by-requires c κs = search needs
+
+less-requires : tie.Need-less-requires
+less-requires c κs = search needs
+
+less-requires-2 : tie.Need-less-requires-2
+less-requires-2 c κs = search needs
+
+same-length : tie.Need-same-length
+same-length c = search needs
+
+returns : tie.Need-returns
+unfolding run said
+returns c = λ s x. does (sym (rw (c .before .before .before .ended-by .ensures, c .before .less .ensures, c .less2 .ensures))) refl (rw (← c .before .before .before .before .before .before .before .before .indent-size .ensures .0) (c .before .before .before .before .before .before .write-closer .ensures))
+
+pub close-signature-spec : {M : Type 1} → statement M
+close-signature-spec =
+    tie.close
+    (tie.spec
+    indent-size-requires
+    write-closer-requires
+    ended-by-requires
+    less-requires
+    less-requires-2
+    same-length
+    returns)

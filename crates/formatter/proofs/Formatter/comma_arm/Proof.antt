@@ -1,0 +1,52 @@
+-- `formatter::Formatter::comma_arm` meets its contract. Assumes nothing.
+use mathlib.Core.Path.{refl, sym}
+use borrow.Author.Needs.{needs}
+use Rattle.push_token.specs.Act.{run}
+use Rattle.push_token.specs.Arms.{commaArm}
+use Rattle.push_token.proofs.Said.{said}
+use Rattle.formatter.proofs.Does.{does, yes, no, told}
+use Rattle.formatter.proofs.Formatter.comma_arm.Statement.{statement}
+use Rattle.formatter.proofs.Formatter.comma_arm.Tie as tie
+
+breaks-comma-requires : tie.Need-breaks-comma-requires
+breaks-comma-requires c κs = search needs
+
+write-comma-line-requires : tie.Need-write-comma-line-requires
+write-comma-line-requires c κs = search needs
+
+suppressed-behind-requires : tie.Need-suppressed-behind-requires
+suppressed-behind-requires c κs = search needs
+
+ended-by-requires : tie.Need-ended-by-requires
+ended-by-requires c κs = search needs
+
+push-lexeme-requires : tie.Need-push-lexeme-requires
+push-lexeme-requires c κs = search needs
+
+same-length : tie.Need-same-length
+same-length c = search needs
+
+returns : tie.Need-returns
+unfolding commaArm run said
+returns c = λ t ts σ x. yes (λ n. told (c .before .before .before .before .before .before .before .breaks-comma .ensures) (c .before .before .before .before .before .before .if1 .taken)) (does (sym (rw (c .ended-by .ensures, c .before .suppressed-behind .ensures))) refl (c .before .before .before .before .write-comma-line .ensures))
+
+same-length-2 : tie.Need-same-length-2
+same-length-2 c = search needs
+
+returns-2 : tie.Need-returns-2
+unfolding commaArm
+returns-2 c = λ t ts σ x. no (λ n. told (c .before .before .before .before .before .breaks-comma .ensures) (c .before .before .before .before .if1 .left)) (rw (σ .kind, σ .lexeme, c .before .before .before .before .before .before .before .before .before .before .pre .1 .1) (c .before .before .push-lexeme .ensures .0 _ x))
+
+pub comma-arm-spec : {M : Type 1} → statement M
+comma-arm-spec =
+    tie.close
+    (tie.spec
+    breaks-comma-requires
+    write-comma-line-requires
+    suppressed-behind-requires
+    ended-by-requires
+    push-lexeme-requires
+    same-length
+    returns
+    same-length-2
+    returns-2)

@@ -1,0 +1,52 @@
+-- `formatter::Formatter::else_arm` meets its contract. Assumes nothing.
+use mathlib.Core.Path.{refl}
+use borrow.Author.Needs.{needs}
+use Rattle.push_token.specs.Arms.{elseArm}
+use Rattle.push_token.specs.Act.{run}
+use Rattle.push_token.proofs.Said.{said}
+use Rattle.formatter.proofs.Does.{does, yes, no, told}
+use Rattle.formatter.proofs.Formatter.else_arm.Statement.{statement}
+use Rattle.formatter.proofs.Formatter.else_arm.Tie as tie
+
+else-on-new-line-requires : tie.Need-else-on-new-line-requires
+else-on-new-line-requires c κs = search needs
+
+indent-size-requires : tie.Need-indent-size-requires
+indent-size-requires c κs = search needs
+
+write-else-requires : tie.Need-write-else-requires
+write-else-requires c κs = search needs
+
+ended-by-requires : tie.Need-ended-by-requires
+ended-by-requires c κs = search needs
+
+push-lexeme-requires : tie.Need-push-lexeme-requires
+push-lexeme-requires c κs = search needs
+
+same-length : tie.Need-same-length
+same-length c = search needs
+
+returns : tie.Need-returns
+unfolding elseArm run said
+returns c = λ t ts σ s x e. yes (λ n. told (c .before .before .before .before .before .before .before .else-on-new-line .ensures s x e) (c .before .before .before .before .before .before .if1 .taken)) (does (rw (c .ended-by .ensures)) refl (rw (c .before .before .before .before .before .indent-size .ensures .0) at (c .before .before .before .write-else .ensures)))
+
+same-length-2 : tie.Need-same-length-2
+same-length-2 c = search needs
+
+returns-2 : tie.Need-returns-2
+unfolding elseArm
+returns-2 c = λ t ts σ s x e. no (λ n. told (c .before .before .before .before .before .else-on-new-line .ensures s x e) (c .before .before .before .before .if1 .left)) (rw (σ .kind, σ .lexeme, c .before .before .before .before .before .before .before .before .before .pre .1 .1) (c .before .before .push-lexeme .ensures .0 s x))
+
+pub else-arm-spec : {M : Type 1} → statement M
+else-arm-spec =
+    tie.close
+    (tie.spec
+    else-on-new-line-requires
+    indent-size-requires
+    write-else-requires
+    ended-by-requires
+    push-lexeme-requires
+    same-length
+    returns
+    same-length-2
+    returns-2)

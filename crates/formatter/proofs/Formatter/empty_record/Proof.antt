@@ -1,0 +1,39 @@
+-- `formatter::Formatter::empty_record` meets its contract. Assumes nothing.
+use mathlib.Core.Path.{refl, sym}
+use borrow.Author.Needs.{needs}
+use Rattle.report.specs.Bytes.{bytes}
+use Rattle.rows.specs.Kinds.{LeftBrace}
+use Rattle.push_token.specs.Act.{run}
+use Rattle.push_token.specs.Arms.{emptyRecord}
+use Rattle.push_token.specs.Emit.{tokenGap}
+use Rattle.push_token.proofs.Said.{said}
+use Rattle.sink.proofs.Sink.{same-bytes}
+use Rattle.formatter.specs.Parts.{gapSize}
+use Rattle.formatter.specs.Pen.{optionsOf, fieldsOf}
+use Rattle.formatter.specs.Token.{lexemeOf}
+use Rattle.formatter.proofs.Blocks.{closed-up}
+use Rattle.formatter.proofs.Does.{does}
+use Rattle.formatter.proofs.Gaps.{token-gap, gapped}
+use Rattle.formatter.proofs.Formatter.empty_record.Statement.{statement}
+use Rattle.formatter.proofs.Formatter.empty_record.Tie as tie
+
+gap-before-requires : tie.Need-gap-before-requires
+gap-before-requires c κs = search needs
+
+write-token-requires : tie.Need-write-token-requires
+write-token-requires c κs = search needs
+
+ended-by-requires : tie.Need-ended-by-requires
+ended-by-requires c κs = search needs
+
+same-length : tie.Need-same-length
+same-length c = search needs
+
+returns : tie.Need-returns
+unfolding run said emptyRecord
+returns c = λ s x. let o = optionsOf (c .before .before .before .before .before .before .before .before .before .args .options) in let f = fieldsOf (c .before .before .before .before .before .before .before .before .before .args .self) in let w = lexemeOf (c .before .before .before .before .before .before .before .before .before .args .token) (c .before .before .before .before .before .before .before .before .before .args .rows .now) (c .before .before .before .before .before .before .before .before .before .args .text .now) in does (sym (rw (c .ended-by .ensures))) refl (same-bytes (closed-up (tokenGap o LeftBrace f) w (bytes "{}")) (gapped (gapSize o LeftBrace f) _ _ (token-gap o f LeftBrace) (c .before .before .before .before .before .gap-before .ensures .0) (c .before .before .before .write-token .ensures)))
+
+pub empty-record-spec : {M : Type 1} → statement M
+empty-record-spec =
+    tie.close
+    (tie.spec gap-before-requires write-token-requires ended-by-requires same-length returns)

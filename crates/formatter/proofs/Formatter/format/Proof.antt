@@ -1,0 +1,167 @@
+-- `formatter::Formatter::format` meets its contract. Assumes nothing.
+use Rattle.formatter.proofs.Loop.{Loop, Calls, written, left-out, begins, small-indent, its-rows, lead-size, full-lead, ready, stack-room, deep-at, turn-size, full-turn, next-bounds, next-there-too, placed, further, steady-room, steady-place, steady-rows, steadied, steady-within, steady-few}
+use Rattle.formatter.proofs.Going.{laid-stopped, laid-done}
+use Rattle.formatter.proofs.Place.{ahead, leads, next-token, trails}
+use Rattle.formatter.specs.Pen.{on, optionsOf}
+use Rattle.report.specs.Report.{deep, full}
+use lib.ListN.{length}
+use borrow.Author.Needs.{needs}
+use native.Mathlib.Omega.{arith}
+use Prim.Native.Nat.{_-_}
+use mathlib.Core.Path.{refl, _∙_}
+use mathlib.Core.Logic.{⊎-elim}
+use Rattle.formatter.proofs.Formatter.format.Statement.{statement}
+use Rattle.formatter.proofs.Formatter.format.Tie as tie
+
+abbrev Inv-loop : tie.InvT-loop
+Inv-loop self₀ options out₀ stack₀ rows text bare ends at₀ index₀ self out stack at index = Loop rows text (optionsOf options) stack₀ out₀ index at (on self stack out)
+
+abbrev μ-loop : tie.MeasureT-loop
+μ-loop self₀ options out₀ stack₀ rows text bare ends at₀ index₀ self out stack at index = length rows - at
+
+ends-of-requires : tie.Need-ends-of-requires Inv-loop μ-loop
+ends-of-requires c κs = c .before .before .before .before .pre .1 .0 .few
+
+loop-holds : tie.Need-loop-holds Inv-loop μ-loop
+loop-holds c = begins _ (c .before .before .before .before .before .pre .1 .0) (c .before .before .before .before .before .pre .0 .0)
+
+token-at-requires : tie.Need-token-at-requires Inv-loop μ-loop
+token-at-requires c κs = next-token (c .before .before .before .before .before .before .before .pre .1 .0) (c .before .loop .inv .going .head) (c .loop-test .taken) (c .before .before .before .before .before .before .before .pre .1 .1)
+
+takes-inline-close-requires : tie.Need-takes-inline-close-requires Inv-loop μ-loop
+takes-inline-close-requires c κs = search needs
+
+push-leading-requires : tie.Need-push-leading-requires Inv-loop μ-loop
+push-leading-requires c κs = ((c .before .before .before .before .before .before .before .before .before .before .pre .0 .1, small-indent (c .before .before .before .before .before .before .before .before .before .before .args .options) (c .before .before .before .before .before .before .before .before .before .before .pre .1 .0) (c .before .before .before .before .loop .inv) (c .before .before .before .loop-test .taken) (c .before .before .token-at .ensures)), leads (c .before .before .before .before .before .before .before .before .before .before .pre .1 .0) (c .before .before .before .before .loop .inv .going .head) (c .before .before .before .loop-test .taken) (c .before .before .token-at .ensures))
+
+cast-t23 : tie.Need-cast-t23 Inv-loop μ-loop
+cast-t23 c = search needs
+
+same-length : tie.Need-same-length Inv-loop μ-loop
+same-length c = lead-size (c .before .before .before .before .before .before .before .before .before .before .before .before .before .before .before .args .options) (c .before .before .before .before .before .before .before .before .before .before .before .before .before .before .before .pre .1 .0) (c .before .before .before .before .before .before .before .before .before .loop .inv) (c .before .before .before .before .before .before .before .before .loop-test .taken) (c .before .before .before .before .before .before .before .token-at .ensures) (c .before .before .before .before .push-leading .ensures)
+
+same-length-2 : tie.Need-same-length-2 Inv-loop μ-loop
+same-length-2 c = c .before .before .before .before .before .before .before .before .before .loop .inv .going .lent
+
+returns : tie.Need-returns Inv-loop μ-loop
+returns c = laid-stopped full (full-lead (c .before .before .before .before .before .before .before .before .before .before .before .before .before .before .before .args .options) (c .before .before .before .before .before .before .before .before .before .before .before .before .before .before .before .pre .1 .0) (c .before .before .before .before .before .before .before .before .before .loop .inv) (c .before .before .before .before .before .before .before .before .loop-test .taken) (c .before .before .before .before .before .before .before .token-at .ensures) (c .before .before .before .before .push-leading .ensures) (c .if1 .taken)) (lead-size (c .before .before .before .before .before .before .before .before .before .before .before .before .before .before .before .args .options) (c .before .before .before .before .before .before .before .before .before .before .before .before .before .before .before .pre .1 .0) (c .before .before .before .before .before .before .before .before .before .loop .inv) (c .before .before .before .before .before .before .before .before .loop-test .taken) (c .before .before .before .before .before .before .before .token-at .ensures) (c .before .before .before .before .push-leading .ensures))
+
+overflows-requires : tie.Need-overflows-requires Inv-loop μ-loop
+overflows-requires c κs = (let ρ = its-rows (c .before .before .before .before .before .before .before .before .before .before .before .before .before .before .before .args .options) (c .before .before .before .before .before .before .before .before .before .before .before .before .before .before .before .pre .1 .0) (c .before .before .before .before .before .before .before .before .before .loop .inv) (c .before .before .before .before .before .before .before .before .loop-test .taken) (c .before .before .before .before .before .before .before .token-at .ensures) in let a = ρ .lead in let b = ρ .own in let d = ρ .next in omega arith, ahead (c .before .before .before .before .before .before .before .before .before .before .before .before .before .before .before .pre .1 .0) (c .before .before .before .before .before .before .before .before .before .loop .inv .going .head) (c .before .before .before .before .before .before .before .before .loop-test .taken) (c .before .before .before .before .before .before .before .token-at .ensures) (c .before .before .before .before .before .before .before .before .before .before .ends-of .ensures))
+
+cast-t25 : tie.Need-cast-t25 Inv-loop μ-loop
+cast-t25 c = record { fits = let a = c .before .before .before .before .before .before .before .before .before .before .before .loop .inv .going .index in let b = c .before .before .before .before .before .before .before .before .before .before .before .loop .inv .going .head .within in let d = c .before .before .before .before .before .before .before .before .before .before .before .before .before .before .before .before .before .pre .1 .0 .few in omega arith }
+
+same-length-3 : tie.Need-same-length-3 Inv-loop μ-loop
+same-length-3 c = lead-size (c .before .before .before .before .before .before .before .before .before .before .before .before .before .before .before .before .before .args .options) (c .before .before .before .before .before .before .before .before .before .before .before .before .before .before .before .before .before .pre .1 .0) (c .before .before .before .before .before .before .before .before .before .before .before .loop .inv) (c .before .before .before .before .before .before .before .before .before .before .loop-test .taken) (c .before .before .before .before .before .before .before .before .before .token-at .ensures) (c .before .before .before .before .before .before .push-leading .ensures)
+
+same-length-4 : tie.Need-same-length-4 Inv-loop μ-loop
+same-length-4 c = c .before .before .before .before .before .before .before .before .before .before .before .loop .inv .going .lent
+
+returns-2 : tie.Need-returns-2 Inv-loop μ-loop
+returns-2 c = laid-stopped deep (deep-at (c .before .before .before .before .before .before .before .before .before .before .before .before .before .before .before .before .before .args .options) (c .before .before .before .before .before .before .before .before .before .before .before .before .before .before .before .before .before .pre .1 .0) (c .before .before .before .before .before .before .before .before .before .before .before .loop .inv) (c .before .before .before .before .before .before .before .before .before .before .loop-test .taken) (c .before .before .before .before .before .before .before .before .before .token-at .ensures) (c .before .before .before .before .before .before .push-leading .ensures) (c .before .before .if1 .left) (c .before .overflows .ensures _ _) (c .if2 .taken)) (lead-size (c .before .before .before .before .before .before .before .before .before .before .before .before .before .before .before .before .before .args .options) (c .before .before .before .before .before .before .before .before .before .before .before .before .before .before .before .before .before .pre .1 .0) (c .before .before .before .before .before .before .before .before .before .before .before .loop .inv) (c .before .before .before .before .before .before .before .before .before .before .loop-test .taken) (c .before .before .before .before .before .before .before .before .before .token-at .ensures) (c .before .before .before .before .before .before .push-leading .ensures))
+
+writes-trailing-requires : tie.Need-writes-trailing-requires Inv-loop μ-loop
+writes-trailing-requires c κs = let ρ = its-rows (c .before .before .before .before .before .before .before .before .before .before .before .before .before .before .before .before .before .before .args .options) (c .before .before .before .before .before .before .before .before .before .before .before .before .before .before .before .before .before .before .pre .1 .0) (c .before .before .before .before .before .before .before .before .before .before .before .before .loop .inv) (c .before .before .before .before .before .before .before .before .before .before .before .loop-test .taken) (c .before .before .before .before .before .before .before .before .before .before .token-at .ensures) in (stack-room (c .before .before .before .before .before .before .before .before .before .before .before .before .before .before .before .before .before .before .args .options) (c .before .before .before .before .before .before .before .before .before .before .before .before .before .before .before .before .before .before .pre .1 .0) (c .before .before .before .before .before .before .before .before .before .before .before .before .loop .inv) (c .before .before .before .before .before .before .before .before .before .before .before .loop-test .taken) (c .before .before .before .before .before .before .before .before .before .before .token-at .ensures) (c .before .before .before .before .before .before .before .push-leading .ensures) (c .before .before .before .if1 .left), (ρ .own, ρ .next))
+
+push-token-requires : tie.Need-push-token-requires Inv-loop μ-loop
+push-token-requires c κs = ((ready (c .before .before .before .before .before .before .before .before .before .before .before .before .before .before .before .before .before .before .before .before .before .args .options) (c .before .before .before .before .before .before .before .before .before .before .before .before .before .before .before .before .before .before .before .before .before .pre .1 .0) (c .before .before .before .before .before .before .before .before .before .before .before .before .before .before .before .loop .inv) (c .before .before .before .before .before .before .before .before .before .before .before .before .before .before .loop-test .taken) (c .before .before .before .before .before .before .before .before .before .before .before .before .before .token-at .ensures) (c .before .before .before .before .before .before .before .before .before .before .push-leading .ensures) (c .before .before .before .before .before .before .if1 .left) (c .before .before .before .before .before .before .before .before .before .before .before .before .before .before .before .before .before .before .before .before .before .pre .0 .1), stack-room (c .before .before .before .before .before .before .before .before .before .before .before .before .before .before .before .before .before .before .before .before .before .args .options) (c .before .before .before .before .before .before .before .before .before .before .before .before .before .before .before .before .before .before .before .before .before .pre .1 .0) (c .before .before .before .before .before .before .before .before .before .before .before .before .before .before .before .loop .inv) (c .before .before .before .before .before .before .before .before .before .before .before .before .before .before .loop-test .taken) (c .before .before .before .before .before .before .before .before .before .before .before .before .before .token-at .ensures) (c .before .before .before .before .before .before .before .before .before .before .push-leading .ensures) (c .before .before .before .before .before .before .if1 .left)), (its-rows (c .before .before .before .before .before .before .before .before .before .before .before .before .before .before .before .before .before .before .before .before .before .args .options) (c .before .before .before .before .before .before .before .before .before .before .before .before .before .before .before .before .before .before .before .before .before .pre .1 .0) (c .before .before .before .before .before .before .before .before .before .before .before .before .before .before .before .loop .inv) (c .before .before .before .before .before .before .before .before .before .before .before .before .before .before .loop-test .taken) (c .before .before .before .before .before .before .before .before .before .before .before .before .before .token-at .ensures), ahead (c .before .before .before .before .before .before .before .before .before .before .before .before .before .before .before .before .before .before .before .before .before .pre .1 .0) (c .before .before .before .before .before .before .before .before .before .before .before .before .before .before .before .loop .inv .going .head) (c .before .before .before .before .before .before .before .before .before .before .before .before .before .before .loop-test .taken) (c .before .before .before .before .before .before .before .before .before .before .before .before .before .token-at .ensures) (c .before .before .before .before .before .before .before .before .before .before .before .before .before .before .before .before .ends-of .ensures)))
+
+push-trailing-requires : tie.Need-push-trailing-requires Inv-loop μ-loop
+push-trailing-requires c κs = trails (c .before .before .before .before .before .before .before .before .before .before .before .before .before .before .before .before .before .before .before .before .before .before .before .before .before .before .before .before .pre .1 .0) (c .before .before .before .before .before .before .before .before .before .before .before .before .before .before .before .before .before .before .before .before .before .before .loop .inv .going .head) (c .before .before .before .before .before .before .before .before .before .before .before .before .before .before .before .before .before .before .before .before .before .loop-test .taken) (c .before .before .before .before .before .before .before .before .before .before .before .before .before .before .before .before .before .before .before .before .token-at .ensures)
+
+track-fn-state-requires : tie.Need-track-fn-state-requires Inv-loop μ-loop
+track-fn-state-requires c κs = search needs
+
+cast-t34 : tie.Need-cast-t34 Inv-loop μ-loop
+cast-t34 c = record { fits = let a = c .before .before .before .before .before .before .before .before .before .before .before .before .before .before .before .before .before .before .before .before .before .before .before .before .loop .inv .going .index in let b = c .before .before .before .before .before .before .before .before .before .before .before .before .before .before .before .before .before .before .before .before .before .before .before .before .loop .inv .going .head .within in let d = c .before .before .before .before .before .before .before .before .before .before .before .before .before .before .before .before .before .before .before .before .before .before .before .before .before .before .before .before .before .before .pre .1 .0 .few in omega arith }
+
+same-length-5 : tie.Need-same-length-5 Inv-loop μ-loop
+same-length-5 c = let κ : Calls _ _ _ _ _ _ _ _ _ _ _ _ _ _ _ _ _ = record { overflow = c .before .before .before .before .before .before .before .before .before .before .before .before .before .before .overflows .ensures _ _; calm = c .before .before .before .before .before .before .before .before .before .before .before .before .before .if2 .left; taken = c .before .before .before .before .before .before .before .before .before .before .before .before .before .before .before .before .before .before .before .before .before .takes-inline-close .ensures; trailing = c .before .before .before .before .before .before .before .before .before .before .before .writes-trailing .ensures _; arms = c .before .before .before .before .before .before .before .before .push-token .ensures; trailed = ⊎-elim (λ w. written (w .0 .taken) (w .2 .ensures) (w .5) (w .6)) (λ w. left-out (w .0 .left) (w .1) (w .2)) (c .before .before .before .if3 .came); tracked = c .before .before .track-fn-state .ensures } in turn-size (c .before .before .before .before .before .before .before .before .before .before .before .before .before .before .before .before .before .before .before .before .before .before .before .before .before .before .before .before .before .before .args .options) (c .before .before .before .before .before .before .before .before .before .before .before .before .before .before .before .before .before .before .before .before .before .before .before .before .before .before .before .before .before .before .pre .1 .0) (c .before .before .before .before .before .before .before .before .before .before .before .before .before .before .before .before .before .before .before .before .before .before .before .before .loop .inv) (c .before .before .before .before .before .before .before .before .before .before .before .before .before .before .before .before .before .before .before .before .before .before .before .loop-test .taken) (c .before .before .before .before .before .before .before .before .before .before .before .before .before .before .before .before .before .before .before .before .before .before .token-at .ensures) (c .before .before .before .before .before .before .before .before .before .before .before .before .before .before .before .before .before .before .before .push-leading .ensures) (c .before .before .before .before .before .before .before .before .before .before .before .before .before .before .before .if1 .left) κ
+
+same-length-6 : tie.Need-same-length-6 Inv-loop μ-loop
+same-length-6 c = c .before .before .before .before .before .stack .given ∙ c .before .before .before .before .before .before .before .before .before .before .before .before .before .before .before .before .before .before .before .before .before .before .before .before .loop .inv .going .lent
+
+returns-3 : tie.Need-returns-3 Inv-loop μ-loop
+returns-3 c = let κ : Calls _ _ _ _ _ _ _ _ _ _ _ _ _ _ _ _ _ = record { overflow = c .before .before .before .before .before .before .before .before .before .before .before .before .before .before .overflows .ensures _ _; calm = c .before .before .before .before .before .before .before .before .before .before .before .before .before .if2 .left; taken = c .before .before .before .before .before .before .before .before .before .before .before .before .before .before .before .before .before .before .before .before .before .takes-inline-close .ensures; trailing = c .before .before .before .before .before .before .before .before .before .before .before .writes-trailing .ensures _; arms = c .before .before .before .before .before .before .before .before .push-token .ensures; trailed = ⊎-elim (λ w. written (w .0 .taken) (w .2 .ensures) (w .5) (w .6)) (λ w. left-out (w .0 .left) (w .1) (w .2)) (c .before .before .before .if3 .came); tracked = c .before .before .track-fn-state .ensures } in laid-stopped full (full-turn (c .before .before .before .before .before .before .before .before .before .before .before .before .before .before .before .before .before .before .before .before .before .before .before .before .before .before .before .before .before .before .args .options) (c .before .before .before .before .before .before .before .before .before .before .before .before .before .before .before .before .before .before .before .before .before .before .before .before .before .before .before .before .before .before .pre .1 .0) (c .before .before .before .before .before .before .before .before .before .before .before .before .before .before .before .before .before .before .before .before .before .before .before .before .loop .inv) (c .before .before .before .before .before .before .before .before .before .before .before .before .before .before .before .before .before .before .before .before .before .before .before .loop-test .taken) (c .before .before .before .before .before .before .before .before .before .before .before .before .before .before .before .before .before .before .before .before .before .before .token-at .ensures) (c .before .before .before .before .before .before .before .before .before .before .before .before .before .before .before .before .before .before .before .push-leading .ensures) (c .before .before .before .before .before .before .before .before .before .before .before .before .before .before .before .if1 .left) κ (c .if4 .taken)) (turn-size (c .before .before .before .before .before .before .before .before .before .before .before .before .before .before .before .before .before .before .before .before .before .before .before .before .before .before .before .before .before .before .args .options) (c .before .before .before .before .before .before .before .before .before .before .before .before .before .before .before .before .before .before .before .before .before .before .before .before .before .before .before .before .before .before .pre .1 .0) (c .before .before .before .before .before .before .before .before .before .before .before .before .before .before .before .before .before .before .before .before .before .before .before .before .loop .inv) (c .before .before .before .before .before .before .before .before .before .before .before .before .before .before .before .before .before .before .before .before .before .before .before .loop-test .taken) (c .before .before .before .before .before .before .before .before .before .before .before .before .before .before .before .before .before .before .before .before .before .before .token-at .ensures) (c .before .before .before .before .before .before .before .before .before .before .before .before .before .before .before .before .before .before .before .push-leading .ensures) (c .before .before .before .before .before .before .before .before .before .before .before .before .before .before .before .if1 .left) κ)
+
+next-place-requires : tie.Need-next-place-requires Inv-loop μ-loop
+next-place-requires c κs = let κ : Calls _ _ _ _ _ _ _ _ _ _ _ _ _ _ _ _ _ = record { overflow = c .before .before .before .before .before .before .before .before .before .before .before .before .before .before .overflows .ensures _ _; calm = c .before .before .before .before .before .before .before .before .before .before .before .before .before .if2 .left; taken = c .before .before .before .before .before .before .before .before .before .before .before .before .before .before .before .before .before .before .before .before .before .takes-inline-close .ensures; trailing = c .before .before .before .before .before .before .before .before .before .before .before .writes-trailing .ensures _; arms = c .before .before .before .before .before .before .before .before .push-token .ensures; trailed = ⊎-elim (λ w. written (w .0 .taken) (w .2 .ensures) (w .5) (w .6)) (λ w. left-out (w .0 .left) (w .1) (w .2)) (c .before .before .before .if3 .came); tracked = c .before .before .track-fn-state .ensures } in (next-bounds (c .before .before .before .before .before .before .before .before .before .before .before .before .before .before .before .before .before .before .before .before .before .before .before .before .before .before .before .before .before .before .args .options) (c .before .before .before .before .before .before .before .before .before .before .before .before .before .before .before .before .before .before .before .before .before .before .before .before .before .before .before .before .before .before .pre .1 .0) (c .before .before .before .before .before .before .before .before .before .before .before .before .before .before .before .before .before .before .before .before .before .before .before .before .loop .inv) (c .before .before .before .before .before .before .before .before .before .before .before .before .before .before .before .before .before .before .before .before .before .before .before .loop-test .taken) (c .before .before .before .before .before .before .before .before .before .before .before .before .before .before .before .before .before .before .before .before .before .before .token-at .ensures) (c .before .before .before .before .before .before .before .before .before .before .before .before .before .before .before .before .before .before .before .push-leading .ensures) (c .before .before .before .before .before .before .before .before .before .before .before .before .before .before .before .if1 .left) κ (c .if4 .left) (c .before .before .before .before .before .stack .given), next-there-too (c .before .before .before .before .before .before .before .before .before .before .before .before .before .before .before .before .before .before .before .before .before .before .before .before .before .before .before .before .before .before .args .options) (c .before .before .before .before .before .before .before .before .before .before .before .before .before .before .before .before .before .before .before .before .before .before .before .before .before .before .before .before .before .before .pre .1 .0) (c .before .before .before .before .before .before .before .before .before .before .before .before .before .before .before .before .before .before .before .before .before .before .before .before .loop .inv) (c .before .before .before .before .before .before .before .before .before .before .before .before .before .before .before .before .before .before .before .before .before .before .before .loop-test .taken) (c .before .before .before .before .before .before .before .before .before .before .before .before .before .before .before .before .before .before .before .before .before .before .token-at .ensures) (c .before .before .before .before .before .before .before .before .before .before .before .before .before .before .before .before .before .before .before .push-leading .ensures) (c .before .before .before .before .before .before .before .before .before .before .before .before .before .before .before .if1 .left) κ (c .if4 .left) (c .before .before .before .before .before .stack .given) (c .before .before .before .before .before .before .before .before .before .before .before .before .before .before .before .before .before .before .before .before .before .before .before .before .before .before .before .before .before .before .pre .1 .1))
+
+is-steady-requires : tie.Need-is-steady-requires Inv-loop μ-loop
+is-steady-requires c κs = search needs
+
+push-steady-requires : tie.Need-push-steady-requires Inv-loop μ-loop
+push-steady-requires c κs = let κ : Calls _ _ _ _ _ _ _ _ _ _ _ _ _ _ _ _ _ = record { overflow = c .before .before .before .before .before .before .before .before .before .before .before .before .before .before .before .before .before .before .before .overflows .ensures _ _; calm = c .before .before .before .before .before .before .before .before .before .before .before .before .before .before .before .before .before .before .if2 .left; taken = c .before .before .before .before .before .before .before .before .before .before .before .before .before .before .before .before .before .before .before .before .before .before .before .before .before .before .takes-inline-close .ensures; trailing = c .before .before .before .before .before .before .before .before .before .before .before .before .before .before .before .before .writes-trailing .ensures _; arms = c .before .before .before .before .before .before .before .before .before .before .before .before .before .push-token .ensures; trailed = ⊎-elim (λ w. written (w .0 .taken) (w .2 .ensures) (w .5) (w .6)) (λ w. left-out (w .0 .left) (w .1) (w .2)) (c .before .before .before .before .before .before .before .before .if3 .came); tracked = c .before .before .before .before .before .before .before .track-fn-state .ensures } in let ι = placed (c .before .before .before .before .before .before .before .before .before .before .before .before .before .before .before .before .before .before .before .before .before .before .before .before .before .before .before .before .before .before .before .before .before .before .before .args .options) (c .before .before .before .before .before .before .before .before .before .before .before .before .before .before .before .before .before .before .before .before .before .before .before .before .before .before .before .before .before .before .before .before .before .before .before .pre .1 .0) (c .before .before .before .before .before .before .before .before .before .before .before .before .before .before .before .before .before .before .before .before .before .before .before .before .before .before .before .before .before .loop .inv) (c .before .before .before .before .before .before .before .before .before .before .before .before .before .before .before .before .before .before .before .before .before .before .before .before .before .before .before .before .loop-test .taken) (c .before .before .before .before .before .before .before .before .before .before .before .before .before .before .before .before .before .before .before .before .before .before .before .before .before .before .before .token-at .ensures) (c .before .before .before .before .before .before .before .before .before .before .before .before .before .before .before .before .before .before .before .before .before .before .before .before .push-leading .ensures) (c .before .before .before .before .before .before .before .before .before .before .before .before .before .before .before .before .before .before .before .before .if1 .left) κ (c .before .before .before .before .before .if4 .left) (c .before .before .before .before .before .before .before .before .before .before .stack .given) (c .before .before .before .before .next-place .ensures) in (steady-room (c .before .before .before .before .before .before .before .before .before .before .before .before .before .before .before .before .before .before .before .before .before .before .before .before .before .before .before .before .before .before .before .before .before .before .before .pre .1 .0) ι (c .before .before .before .before .before .before .before .before .before .before .before .before .before .before .before .before .before .before .before .before .before .before .before .before .before .before .before .before .before .before .before .before .before .before .before .pre .1 .1) (c .before .before .before .is-steady .ensures (c .before .before .if5 .taken)), (steady-place (c .before .before .before .before .before .before .before .before .before .before .before .before .before .before .before .before .before .before .before .before .before .before .before .before .before .before .before .before .before .before .before .before .before .before .before .pre .1 .0) ι (c .before .before .before .before .before .before .before .before .before .before .before .before .before .before .before .before .before .before .before .before .before .before .before .before .before .before .before .before .before .before .before .before .before .before .before .pre .1 .1) (c .before .before .before .is-steady .ensures (c .before .before .if5 .taken)), steady-rows (c .before .before .before .before .before .before .before .before .before .before .before .before .before .before .before .before .before .before .before .before .before .before .before .before .before .before .before .before .before .before .before .before .before .before .before .pre .1 .0) ι (c .before .before .before .before .before .before .before .before .before .before .before .before .before .before .before .before .before .before .before .before .before .before .before .before .before .before .before .before .before .before .before .before .before .before .before .pre .1 .1) (c .before .before .before .is-steady .ensures (c .before .before .if5 .taken))))
+
+ended-by-requires : tie.Need-ended-by-requires Inv-loop μ-loop
+ended-by-requires c κs = search needs
+
+rows-between-requires : tie.Need-rows-between-requires Inv-loop μ-loop
+rows-between-requires c κs = let κ : Calls _ _ _ _ _ _ _ _ _ _ _ _ _ _ _ _ _ = record { overflow = c .before .before .before .before .before .before .before .before .before .before .before .before .before .before .before .before .before .before .before .before .before .before .before .overflows .ensures _ _; calm = c .before .before .before .before .before .before .before .before .before .before .before .before .before .before .before .before .before .before .before .before .before .before .if2 .left; taken = c .before .before .before .before .before .before .before .before .before .before .before .before .before .before .before .before .before .before .before .before .before .before .before .before .before .before .before .before .before .before .takes-inline-close .ensures; trailing = c .before .before .before .before .before .before .before .before .before .before .before .before .before .before .before .before .before .before .before .before .writes-trailing .ensures _; arms = c .before .before .before .before .before .before .before .before .before .before .before .before .before .before .before .before .before .push-token .ensures; trailed = ⊎-elim (λ w. written (w .0 .taken) (w .2 .ensures) (w .5) (w .6)) (λ w. left-out (w .0 .left) (w .1) (w .2)) (c .before .before .before .before .before .before .before .before .before .before .before .before .if3 .came); tracked = c .before .before .before .before .before .before .before .before .before .before .before .track-fn-state .ensures } in let ι = placed (c .before .before .before .before .before .before .before .before .before .before .before .before .before .before .before .before .before .before .before .before .before .before .before .before .before .before .before .before .before .before .before .before .before .before .before .before .before .before .before .args .options) (c .before .before .before .before .before .before .before .before .before .before .before .before .before .before .before .before .before .before .before .before .before .before .before .before .before .before .before .before .before .before .before .before .before .before .before .before .before .before .before .pre .1 .0) (c .before .before .before .before .before .before .before .before .before .before .before .before .before .before .before .before .before .before .before .before .before .before .before .before .before .before .before .before .before .before .before .before .before .loop .inv) (c .before .before .before .before .before .before .before .before .before .before .before .before .before .before .before .before .before .before .before .before .before .before .before .before .before .before .before .before .before .before .before .before .loop-test .taken) (c .before .before .before .before .before .before .before .before .before .before .before .before .before .before .before .before .before .before .before .before .before .before .before .before .before .before .before .before .before .before .before .token-at .ensures) (c .before .before .before .before .before .before .before .before .before .before .before .before .before .before .before .before .before .before .before .before .before .before .before .before .before .before .before .before .push-leading .ensures) (c .before .before .before .before .before .before .before .before .before .before .before .before .before .before .before .before .before .before .before .before .before .before .before .before .if1 .left) κ (c .before .before .before .before .before .before .before .before .before .if4 .left) (c .before .before .before .before .before .before .before .before .before .before .before .before .before .before .stack .given) (c .before .before .before .before .before .before .before .before .next-place .ensures) in steady-within (c .before .before .before .before .before .before .before .before .before .before .before .before .before .before .before .before .before .before .before .before .before .before .before .before .before .before .before .before .before .before .before .before .before .before .before .before .before .before .before .pre .1 .0) ι (c .before .before .before .before .before .before .before .before .before .before .before .before .before .before .before .before .before .before .before .before .before .before .before .before .before .before .before .before .before .before .before .before .before .before .before .before .before .before .before .pre .1 .1) (c .before .before .before .before .before .before .before .is-steady .ensures (c .before .before .before .before .before .before .if5 .taken)) (c .before .before .before .push-steady .ensures)
+
+add-index : tie.Need-add-index Inv-loop μ-loop
+add-index c = let κ : Calls _ _ _ _ _ _ _ _ _ _ _ _ _ _ _ _ _ = record { overflow = c .before .before .before .before .before .before .before .before .before .before .before .before .before .before .before .before .before .before .before .before .before .before .before .before .overflows .ensures _ _; calm = c .before .before .before .before .before .before .before .before .before .before .before .before .before .before .before .before .before .before .before .before .before .before .before .if2 .left; taken = c .before .before .before .before .before .before .before .before .before .before .before .before .before .before .before .before .before .before .before .before .before .before .before .before .before .before .before .before .before .before .before .takes-inline-close .ensures; trailing = c .before .before .before .before .before .before .before .before .before .before .before .before .before .before .before .before .before .before .before .before .before .writes-trailing .ensures _; arms = c .before .before .before .before .before .before .before .before .before .before .before .before .before .before .before .before .before .before .push-token .ensures; trailed = ⊎-elim (λ w. written (w .0 .taken) (w .2 .ensures) (w .5) (w .6)) (λ w. left-out (w .0 .left) (w .1) (w .2)) (c .before .before .before .before .before .before .before .before .before .before .before .before .before .if3 .came); tracked = c .before .before .before .before .before .before .before .before .before .before .before .before .track-fn-state .ensures } in let ι = placed (c .before .before .before .before .before .before .before .before .before .before .before .before .before .before .before .before .before .before .before .before .before .before .before .before .before .before .before .before .before .before .before .before .before .before .before .before .before .before .before .before .args .options) (c .before .before .before .before .before .before .before .before .before .before .before .before .before .before .before .before .before .before .before .before .before .before .before .before .before .before .before .before .before .before .before .before .before .before .before .before .before .before .before .before .pre .1 .0) (c .before .before .before .before .before .before .before .before .before .before .before .before .before .before .before .before .before .before .before .before .before .before .before .before .before .before .before .before .before .before .before .before .before .before .loop .inv) (c .before .before .before .before .before .before .before .before .before .before .before .before .before .before .before .before .before .before .before .before .before .before .before .before .before .before .before .before .before .before .before .before .before .loop-test .taken) (c .before .before .before .before .before .before .before .before .before .before .before .before .before .before .before .before .before .before .before .before .before .before .before .before .before .before .before .before .before .before .before .before .token-at .ensures) (c .before .before .before .before .before .before .before .before .before .before .before .before .before .before .before .before .before .before .before .before .before .before .before .before .before .before .before .before .before .push-leading .ensures) (c .before .before .before .before .before .before .before .before .before .before .before .before .before .before .before .before .before .before .before .before .before .before .before .before .before .if1 .left) κ (c .before .before .before .before .before .before .before .before .before .before .if4 .left) (c .before .before .before .before .before .before .before .before .before .before .before .before .before .before .before .stack .given) (c .before .before .before .before .before .before .before .before .before .next-place .ensures) in let e = c .rows-between .ensures in let few = steady-few (c .before .before .before .before .before .before .before .before .before .before .before .before .before .before .before .before .before .before .before .before .before .before .before .before .before .before .before .before .before .before .before .before .before .before .before .before .before .before .before .before .pre .1 .0) ι (c .before .before .before .before .before .before .before .before .before .before .before .before .before .before .before .before .before .before .before .before .before .before .before .before .before .before .before .before .before .before .before .before .before .before .before .before .before .before .before .before .pre .1 .1) (c .before .before .before .before .before .before .before .before .is-steady .ensures (c .before .before .before .before .before .before .before .if5 .taken)) (c .before .before .before .before .push-steady .ensures) in record { fits = omega arith }
+
+loop-less : tie.Need-loop-less Inv-loop μ-loop
+loop-less c = let κ : Calls _ _ _ _ _ _ _ _ _ _ _ _ _ _ _ _ _ = record { overflow = c .before .before .before .before .before .before .before .before .before .before .before .before .before .before .before .before .before .before .before .before .before .before .before .before .overflows .ensures _ _; calm = c .before .before .before .before .before .before .before .before .before .before .before .before .before .before .before .before .before .before .before .before .before .before .before .if2 .left; taken = c .before .before .before .before .before .before .before .before .before .before .before .before .before .before .before .before .before .before .before .before .before .before .before .before .before .before .before .before .before .before .before .takes-inline-close .ensures; trailing = c .before .before .before .before .before .before .before .before .before .before .before .before .before .before .before .before .before .before .before .before .before .writes-trailing .ensures _; arms = c .before .before .before .before .before .before .before .before .before .before .before .before .before .before .before .before .before .before .push-token .ensures; trailed = ⊎-elim (λ w. written (w .0 .taken) (w .2 .ensures) (w .5) (w .6)) (λ w. left-out (w .0 .left) (w .1) (w .2)) (c .before .before .before .before .before .before .before .before .before .before .before .before .before .if3 .came); tracked = c .before .before .before .before .before .before .before .before .before .before .before .before .track-fn-state .ensures } in let g = further (c .before .before .before .before .before .before .before .before .before .before .before .before .before .before .before .before .before .before .before .before .before .before .before .before .before .before .before .before .before .before .before .before .before .before .before .before .before .before .before .before .args .options) (c .before .before .before .before .before .before .before .before .before .before .before .before .before .before .before .before .before .before .before .before .before .before .before .before .before .before .before .before .before .before .before .before .before .before .before .before .before .before .before .before .pre .1 .0) (c .before .before .before .before .before .before .before .before .before .before .before .before .before .before .before .before .before .before .before .before .before .before .before .before .before .before .before .before .before .before .before .before .before .before .loop .inv) (c .before .before .before .before .before .before .before .before .before .before .before .before .before .before .before .before .before .before .before .before .before .before .before .before .before .before .before .before .before .before .before .before .before .loop-test .taken) (c .before .before .before .before .before .before .before .before .before .before .before .before .before .before .before .before .before .before .before .before .before .before .before .before .before .before .before .before .before .before .before .before .token-at .ensures) (c .before .before .before .before .before .before .before .before .before .before .before .before .before .before .before .before .before .before .before .before .before .before .before .before .before .before .before .before .before .push-leading .ensures) (c .before .before .before .before .before .before .before .before .before .before .before .before .before .before .before .before .before .before .before .before .before .before .before .before .before .if1 .left) κ (c .before .before .before .before .before .before .before .before .before .before .if4 .left) (c .before .before .before .before .before .before .before .before .before .before .before .before .before .before .before .stack .given) (c .before .before .before .before .before .before .before .before .before .next-place .ensures) in let a = c .before .before .before .before .push-steady .ensures .whole in let b = c .before .before .before .before .push-steady .ensures .within in omega arith
+
+loop-again : tie.Need-loop-again Inv-loop μ-loop
+loop-again c = let κ : Calls _ _ _ _ _ _ _ _ _ _ _ _ _ _ _ _ _ = record { overflow = c .before .before .before .before .before .before .before .before .before .before .before .before .before .before .before .before .before .before .before .before .before .before .before .before .overflows .ensures _ _; calm = c .before .before .before .before .before .before .before .before .before .before .before .before .before .before .before .before .before .before .before .before .before .before .before .if2 .left; taken = c .before .before .before .before .before .before .before .before .before .before .before .before .before .before .before .before .before .before .before .before .before .before .before .before .before .before .before .before .before .before .before .takes-inline-close .ensures; trailing = c .before .before .before .before .before .before .before .before .before .before .before .before .before .before .before .before .before .before .before .before .before .writes-trailing .ensures _; arms = c .before .before .before .before .before .before .before .before .before .before .before .before .before .before .before .before .before .before .push-token .ensures; trailed = ⊎-elim (λ w. written (w .0 .taken) (w .2 .ensures) (w .5) (w .6)) (λ w. left-out (w .0 .left) (w .1) (w .2)) (c .before .before .before .before .before .before .before .before .before .before .before .before .before .if3 .came); tracked = c .before .before .before .before .before .before .before .before .before .before .before .before .track-fn-state .ensures } in let ι = placed (c .before .before .before .before .before .before .before .before .before .before .before .before .before .before .before .before .before .before .before .before .before .before .before .before .before .before .before .before .before .before .before .before .before .before .before .before .before .before .before .before .args .options) (c .before .before .before .before .before .before .before .before .before .before .before .before .before .before .before .before .before .before .before .before .before .before .before .before .before .before .before .before .before .before .before .before .before .before .before .before .before .before .before .before .pre .1 .0) (c .before .before .before .before .before .before .before .before .before .before .before .before .before .before .before .before .before .before .before .before .before .before .before .before .before .before .before .before .before .before .before .before .before .before .loop .inv) (c .before .before .before .before .before .before .before .before .before .before .before .before .before .before .before .before .before .before .before .before .before .before .before .before .before .before .before .before .before .before .before .before .before .loop-test .taken) (c .before .before .before .before .before .before .before .before .before .before .before .before .before .before .before .before .before .before .before .before .before .before .before .before .before .before .before .before .before .before .before .before .token-at .ensures) (c .before .before .before .before .before .before .before .before .before .before .before .before .before .before .before .before .before .before .before .before .before .before .before .before .before .before .before .before .before .push-leading .ensures) (c .before .before .before .before .before .before .before .before .before .before .before .before .before .before .before .before .before .before .before .before .before .before .before .before .before .if1 .left) κ (c .before .before .before .before .before .before .before .before .before .before .if4 .left) (c .before .before .before .before .before .before .before .before .before .before .before .before .before .before .before .stack .given) (c .before .before .before .before .before .before .before .before .before .next-place .ensures) in rw (c .rows-between .ensures) (steadied (c .before .before .before .before .before .before .before .before .before .before .before .before .before .before .before .before .before .before .before .before .before .before .before .before .before .before .before .before .before .before .before .before .before .before .before .before .before .before .before .before .pre .1 .0) ι (c .before .before .before .before .before .before .before .before .before .before .before .before .before .before .before .before .before .before .before .before .before .before .before .before .before .before .before .before .before .before .before .before .before .before .before .before .before .before .before .before .pre .1 .1) (c .before .before .before .before .before .before .before .before .is-steady .ensures (c .before .before .before .before .before .before .before .if5 .taken)) (c .before .before .before .before .push-steady .ensures) (λ y. rw (c .before .ended-by .ensures)) refl refl refl refl)
+
+loop-less-2 : tie.Need-loop-less-2 Inv-loop μ-loop
+loop-less-2 c = let κ : Calls _ _ _ _ _ _ _ _ _ _ _ _ _ _ _ _ _ = record { overflow = c .before .before .before .before .before .before .before .before .before .before .before .before .before .before .before .before .before .overflows .ensures _ _; calm = c .before .before .before .before .before .before .before .before .before .before .before .before .before .before .before .before .if2 .left; taken = c .before .before .before .before .before .before .before .before .before .before .before .before .before .before .before .before .before .before .before .before .before .before .before .before .takes-inline-close .ensures; trailing = c .before .before .before .before .before .before .before .before .before .before .before .before .before .before .writes-trailing .ensures _; arms = c .before .before .before .before .before .before .before .before .before .before .before .push-token .ensures; trailed = ⊎-elim (λ w. written (w .0 .taken) (w .2 .ensures) (w .5) (w .6)) (λ w. left-out (w .0 .left) (w .1) (w .2)) (c .before .before .before .before .before .before .if3 .came); tracked = c .before .before .before .before .before .track-fn-state .ensures } in let g = further (c .before .before .before .before .before .before .before .before .before .before .before .before .before .before .before .before .before .before .before .before .before .before .before .before .before .before .before .before .before .before .before .before .before .args .options) (c .before .before .before .before .before .before .before .before .before .before .before .before .before .before .before .before .before .before .before .before .before .before .before .before .before .before .before .before .before .before .before .before .before .pre .1 .0) (c .before .before .before .before .before .before .before .before .before .before .before .before .before .before .before .before .before .before .before .before .before .before .before .before .before .before .before .loop .inv) (c .before .before .before .before .before .before .before .before .before .before .before .before .before .before .before .before .before .before .before .before .before .before .before .before .before .before .loop-test .taken) (c .before .before .before .before .before .before .before .before .before .before .before .before .before .before .before .before .before .before .before .before .before .before .before .before .before .token-at .ensures) (c .before .before .before .before .before .before .before .before .before .before .before .before .before .before .before .before .before .before .before .before .before .before .push-leading .ensures) (c .before .before .before .before .before .before .before .before .before .before .before .before .before .before .before .before .before .before .if1 .left) κ (c .before .before .before .if4 .left) (c .before .before .before .before .before .before .before .before .stack .given) (c .before .before .next-place .ensures) in let b = (placed (c .before .before .before .before .before .before .before .before .before .before .before .before .before .before .before .before .before .before .before .before .before .before .before .before .before .before .before .before .before .before .before .before .before .args .options) (c .before .before .before .before .before .before .before .before .before .before .before .before .before .before .before .before .before .before .before .before .before .before .before .before .before .before .before .before .before .before .before .before .before .pre .1 .0) (c .before .before .before .before .before .before .before .before .before .before .before .before .before .before .before .before .before .before .before .before .before .before .before .before .before .before .before .loop .inv) (c .before .before .before .before .before .before .before .before .before .before .before .before .before .before .before .before .before .before .before .before .before .before .before .before .before .before .loop-test .taken) (c .before .before .before .before .before .before .before .before .before .before .before .before .before .before .before .before .before .before .before .before .before .before .before .before .before .token-at .ensures) (c .before .before .before .before .before .before .before .before .before .before .before .before .before .before .before .before .before .before .before .before .before .before .push-leading .ensures) (c .before .before .before .before .before .before .before .before .before .before .before .before .before .before .before .before .before .before .if1 .left) κ (c .before .before .before .if4 .left) (c .before .before .before .before .before .before .before .before .stack .given) (c .before .before .next-place .ensures)) .going .head .within in omega arith
+
+loop-again-2 : tie.Need-loop-again-2 Inv-loop μ-loop
+loop-again-2 c = let κ : Calls _ _ _ _ _ _ _ _ _ _ _ _ _ _ _ _ _ = record { overflow = c .before .before .before .before .before .before .before .before .before .before .before .before .before .before .before .before .before .overflows .ensures _ _; calm = c .before .before .before .before .before .before .before .before .before .before .before .before .before .before .before .before .if2 .left; taken = c .before .before .before .before .before .before .before .before .before .before .before .before .before .before .before .before .before .before .before .before .before .before .before .before .takes-inline-close .ensures; trailing = c .before .before .before .before .before .before .before .before .before .before .before .before .before .before .writes-trailing .ensures _; arms = c .before .before .before .before .before .before .before .before .before .before .before .push-token .ensures; trailed = ⊎-elim (λ w. written (w .0 .taken) (w .2 .ensures) (w .5) (w .6)) (λ w. left-out (w .0 .left) (w .1) (w .2)) (c .before .before .before .before .before .before .if3 .came); tracked = c .before .before .before .before .before .track-fn-state .ensures } in placed (c .before .before .before .before .before .before .before .before .before .before .before .before .before .before .before .before .before .before .before .before .before .before .before .before .before .before .before .before .before .before .before .before .before .args .options) (c .before .before .before .before .before .before .before .before .before .before .before .before .before .before .before .before .before .before .before .before .before .before .before .before .before .before .before .before .before .before .before .before .before .pre .1 .0) (c .before .before .before .before .before .before .before .before .before .before .before .before .before .before .before .before .before .before .before .before .before .before .before .before .before .before .before .loop .inv) (c .before .before .before .before .before .before .before .before .before .before .before .before .before .before .before .before .before .before .before .before .before .before .before .before .before .before .loop-test .taken) (c .before .before .before .before .before .before .before .before .before .before .before .before .before .before .before .before .before .before .before .before .before .before .before .before .before .token-at .ensures) (c .before .before .before .before .before .before .before .before .before .before .before .before .before .before .before .before .before .before .before .before .before .before .push-leading .ensures) (c .before .before .before .before .before .before .before .before .before .before .before .before .before .before .before .before .before .before .if1 .left) κ (c .before .before .before .if4 .left) (c .before .before .before .before .before .before .before .before .stack .given) (c .before .before .next-place .ensures)
+
+same-length-7 : tie.Need-same-length-7 Inv-loop μ-loop
+same-length-7 c = c .before .loop .inv .going .size
+
+same-length-8 : tie.Need-same-length-8 Inv-loop μ-loop
+same-length-8 c = c .before .loop .inv .going .lent
+
+returns-4 : tie.Need-returns-4 Inv-loop μ-loop
+returns-4 c = laid-done (c .before .loop .inv .going) (c .loop-test .left)
+
+pub format-spec : {M : Type 1} → statement M
+format-spec =
+    tie.close
+    (tie.spec
+    Inv-loop
+    μ-loop
+    ends-of-requires
+    loop-holds
+    token-at-requires
+    takes-inline-close-requires
+    push-leading-requires
+    cast-t23
+    same-length
+    same-length-2
+    returns
+    overflows-requires
+    cast-t25
+    same-length-3
+    same-length-4
+    returns-2
+    writes-trailing-requires
+    push-token-requires
+    push-trailing-requires
+    track-fn-state-requires
+    cast-t34
+    same-length-5
+    same-length-6
+    returns-3
+    next-place-requires
+    is-steady-requires
+    push-steady-requires
+    ended-by-requires
+    rows-between-requires
+    add-index
+    loop-less
+    loop-again
+    loop-less-2
+    loop-again-2
+    same-length-7
+    same-length-8
+    returns-4)

@@ -1,0 +1,48 @@
+-- `formatter::Formatter::left_bracket_arm` meets its contract. Assumes nothing.
+use mathlib.Core.Path.{_∙_}
+use borrow.Author.Needs.{needs}
+use Rattle.push_token.specs.Arms.{leftBracketArm}
+use Rattle.formatter.specs.Pen.{optionsOf}
+use Rattle.formatter.proofs.Does.{yes, no, told}
+use Rattle.formatter.proofs.Groups.{bracket-room}
+use Rattle.formatter.proofs.Formatter.left_bracket_arm.Statement.{statement}
+use Rattle.formatter.proofs.Formatter.left_bracket_arm.Tie as tie
+
+breaks-list-requires : tie.Need-breaks-list-requires
+breaks-list-requires c κs = search needs
+
+open-list-requires : tie.Need-open-list-requires
+open-list-requires c κs = search needs
+
+open-group-requires : tie.Need-open-group-requires
+open-group-requires c κs = search needs
+
+same-length : tie.Need-same-length
+same-length c = search needs
+
+same-length-2 : tie.Need-same-length-2
+same-length-2 c = search needs
+
+returns : tie.Need-returns
+unfolding leftBracketArm
+returns c = λ t ts σ v x. let r = told (c .before .before .before .before .before .before .before .before .breaks-list .ensures _ t ts σ) (c .before .before .before .before .before .before .before .if1 .taken) in yes (λ n. r) (rw (σ .kind, σ .lexeme, c .before .before .before .before .before .before .before .before .before .before .before .before .before .pre .1 .1) (c .before .before .before .before .open-list .ensures (bracket-room (optionsOf (c .before .before .before .before .before .before .before .before .before .before .before .before .before .args .options)) t ts (c .before .before .before .before .before .before .before .before .before .before .before .before .before .args .self) (c .before .before .before .before .before .before .before .before .before .before .before .before .before .args .stack .now) v (σ .kind ∙ c .before .before .before .before .before .before .before .before .before .before .before .before .before .pre .1 .1) r) x))
+
+same-length-3 : tie.Need-same-length-3
+same-length-3 c = search needs
+
+returns-2 : tie.Need-returns-2
+unfolding leftBracketArm
+returns-2 c = λ t ts σ v x. no (λ n. told (c .before .before .before .before .before .breaks-list .ensures _ t ts σ) (c .before .before .before .before .if1 .left)) (rw (σ .kind, σ .lexeme, c .before .before .before .before .before .before .before .before .before .before .pre .1 .1) (c .before .before .open-group .ensures _ x))
+
+pub left-bracket-arm-spec : {M : Type 1} → statement M
+left-bracket-arm-spec =
+    tie.close
+    (tie.spec
+    breaks-list-requires
+    open-list-requires
+    open-group-requires
+    same-length
+    same-length-2
+    returns
+    same-length-3
+    returns-2)

@@ -1,0 +1,70 @@
+-- `formatter::Formatter::left_paren_arm` meets its contract. Assumes nothing.
+use mathlib.Core.Path.{refl, sym, _∙_}
+use borrow.Author.Needs.{needs}
+use Rattle.push_token.specs.Arms.{openGroup, leftParenArm}
+use Rattle.sink.proofs.Sink.{nothing}
+use Rattle.formatter.specs.Pen.{optionsOf}
+use Rattle.formatter.proofs.Does.{seq, updated, yes, no, told}
+use Rattle.formatter.proofs.Groups.{its, paren-room}
+use Rattle.formatter.proofs.Formatter.left_paren_arm.Statement.{statement}
+use Rattle.formatter.proofs.Formatter.left_paren_arm.Tie as tie
+
+at-signature-requires : tie.Need-at-signature-requires
+at-signature-requires c κs = search needs
+
+open-signature-requires : tie.Need-open-signature-requires
+open-signature-requires c κs = search needs
+
+breaks-list-requires : tie.Need-breaks-list-requires
+breaks-list-requires c κs = search needs
+
+open-list-requires : tie.Need-open-list-requires
+open-list-requires c κs = search needs
+
+deeper-requires : tie.Need-deeper-requires
+deeper-requires c κs = search needs
+
+open-group-requires : tie.Need-open-group-requires
+open-group-requires c κs = search needs
+
+same-length : tie.Need-same-length
+same-length c = search needs
+
+returns : tie.Need-returns
+unfolding leftParenArm
+returns c = λ t ts σ v x. yes (λ n. told (c .before .before .before .before .before .at-signature .ensures) (c .before .before .before .before .if1 .taken)) (c .before .before .open-signature .ensures t ts σ _ x)
+
+same-length-2 : tie.Need-same-length-2
+same-length-2 c = search needs
+
+same-length-3 : tie.Need-same-length-3
+same-length-3 c = search needs
+
+returns-2 : tie.Need-returns-2
+unfolding leftParenArm
+returns-2 c = λ t ts σ v x. let a = told (c .before .before .before .before .before .before .before .before .before .before .at-signature .ensures) (c .before .before .before .before .before .before .before .before .before .if1 .left) in let r = told (c .before .before .before .before .before .before .before .before .breaks-list .ensures _ t ts σ) (c .before .before .before .before .before .before .before .if2 .taken) in no (λ n. a) (yes (λ n. r) (rw (σ .kind, σ .lexeme, c .before .before .before .before .before .before .before .before .before .before .before .before .before .before .before .pre .1 .1) (c .before .before .before .before .open-list .ensures (paren-room (optionsOf (c .before .before .before .before .before .before .before .before .before .before .before .before .before .before .before .args .options)) t ts (c .before .before .before .before .before .before .before .before .before .before .before .before .before .before .before .args .self) (c .before .before .before .before .before .before .before .before .before .before .before .before .before .before .before .args .stack .now) v (σ .kind ∙ c .before .before .before .before .before .before .before .before .before .before .before .before .before .before .before .pre .1 .1) a r) x)))
+
+same-length-4 : tie.Need-same-length-4
+same-length-4 c = search needs
+
+returns-3 : tie.Need-returns-3
+unfolding leftParenArm
+returns-3 c = λ t ts σ v x. no (λ n. told (c .before .before .before .before .before .before .before .before .at-signature .ensures) (c .before .before .before .before .before .before .before .if1 .left)) (no (λ n. told (c .before .before .before .before .before .before .breaks-list .ensures _ t ts σ) (c .before .before .before .before .before .if2 .left)) (seq (updated (sym (rw (c .before .before .before .before .deeper .ensures))) refl nothing) (its σ (c .before .before .before .before .before .before .before .before .before .before .before .before .before .pre .1 .1) (openGroup (optionsOf (c .before .before .before .before .before .before .before .before .before .before .before .before .before .args .options))) (c .before .before .open-group .ensures _ _))))
+
+pub left-paren-arm-spec : {M : Type 1} → statement M
+left-paren-arm-spec =
+    tie.close
+    (tie.spec
+    at-signature-requires
+    open-signature-requires
+    breaks-list-requires
+    open-list-requires
+    deeper-requires
+    open-group-requires
+    same-length
+    returns
+    same-length-2
+    same-length-3
+    returns-2
+    same-length-4
+    returns-3)

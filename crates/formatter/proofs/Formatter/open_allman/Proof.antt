@@ -1,0 +1,43 @@
+-- `formatter::Formatter::open_allman` meets its contract. Assumes nothing.
+use mathlib.Core.List.{append-nil}
+use mathlib.Core.Path.{refl, sym}
+use borrow.Author.Needs.{needs}
+use Rattle.push_token.specs.Act.{run}
+use Rattle.push_token.proofs.Said.{said}
+use Rattle.formatter.proofs.Does.{does}
+use Rattle.formatter.proofs.Formatter.open_allman.Statement.{statement}
+use Rattle.formatter.proofs.Formatter.open_allman.Tie as tie
+
+indent-size-requires : tie.Need-indent-size-requires
+indent-size-requires c κs = search needs
+
+write-opener-line-requires : tie.Need-write-opener-line-requires
+write-opener-line-requires c κs = search needs
+
+suppressed-behind-requires : tie.Need-suppressed-behind-requires
+suppressed-behind-requires c κs = search needs
+
+ended-by-requires : tie.Need-ended-by-requires
+ended-by-requires c κs = search needs
+
+add-self : tie.Need-add-self
+add-self c = search needs
+
+same-length : tie.Need-same-length
+same-length c = search needs
+
+returns : tie.Need-returns
+unfolding run said
+returns c = λ s x. does (sym (rw (c .before .ended-by .ensures, c .before .before .suppressed-behind .ensures))) refl (rw (append-nil, ← c .before .before .before .before .before .before .before .indent-size .ensures .0) (c .before .before .before .before .before .write-opener-line .ensures))
+
+pub open-allman-spec : {M : Type 1} → statement M
+open-allman-spec =
+    tie.close
+    (tie.spec
+    indent-size-requires
+    write-opener-line-requires
+    suppressed-behind-requires
+    ended-by-requires
+    add-self
+    same-length
+    returns)

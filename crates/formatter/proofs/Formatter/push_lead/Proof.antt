@@ -1,0 +1,51 @@
+-- `formatter::Formatter::push_lead` meets its contract. Assumes nothing.
+use Rattle.formatter.proofs.Gaps.{gapped, indent-or-space}
+use Rattle.formatter.proofs.Does.{does-then}
+use Rattle.formatter.proofs.Comments.{blank-row, lead-comment}
+use Rattle.formatter.specs.Pen.{optionsOf, formatterOf}
+use Rattle.sink.proofs.Sink.{andThen}
+use Rattle.rows.specs.Bounds.{rowOf}
+use Rattle.push_token.proofs.Said.{said}
+use Rattle.push_token.specs.Act.{run}
+use mathlib.Core.Path.{refl}
+use borrow.Author.Needs.{needs}
+use Rattle.formatter.proofs.Formatter.push_lead.Statement.{statement}
+use Rattle.formatter.proofs.Formatter.push_lead.Tie as tie
+
+write-blank-line-requires : tie.Need-write-blank-line-requires
+write-blank-line-requires c κs = search needs
+
+same-length : tie.Need-same-length
+same-length c = search needs
+
+returns : tie.Need-returns
+unfolding run said
+returns c = (λ s x. rw (blank-row (c .before .before .before .before .before .before .before .before .args .text .now) (rowOf (c .before .before .before .before .before .before .before .before .args .row)) (c .before .before .before .before .if1 .taken)) (does-then refl refl (c .before .before .write-blank-line .ensures)), refl)
+
+indent-or-space-requires : tie.Need-indent-or-space-requires
+indent-or-space-requires c κs = search needs
+
+write-spaces-requires : tie.Need-write-spaces-requires
+write-spaces-requires c κs = search needs
+
+write-lead-requires : tie.Need-write-lead-requires
+write-lead-requires c κs = search needs
+
+same-length-2 : tie.Need-same-length-2
+same-length-2 c = search needs
+
+returns-2 : tie.Need-returns-2
+returns-2 c = (λ s x. lead-comment (optionsOf (c .before .before .before .before .before .before .before .before .before .before .before .before .before .args .options)) (c .before .before .before .before .before .before .before .before .before .before .before .before .before .args .text .now) (rowOf (c .before .before .before .before .before .before .before .before .before .before .before .before .before .args .row)) (search needs) refl refl (gapped _ _ _ (indent-or-space (optionsOf (c .before .before .before .before .before .before .before .before .before .before .before .before .before .args .options)) (formatterOf (c .before .before .before .before .before .before .before .before .before .before .before .before .before .args .self) s x)) (c .before .before .before .before .before .before .before .before .indent-or-space .ensures .0) (andThen (c .before .before .before .before .before .before .write-spaces .ensures) (c .before .before .write-lead .ensures))), refl)
+
+pub push-lead-spec : {M : Type 1} → statement M
+push-lead-spec =
+    tie.close
+    (tie.spec
+    write-blank-line-requires
+    same-length
+    returns
+    indent-or-space-requires
+    write-spaces-requires
+    write-lead-requires
+    same-length-2
+    returns-2)

@@ -1,0 +1,66 @@
+-- `formatter::Formatter::right_paren_arm` meets its contract. Assumes nothing.
+use mathlib.Core.Path.{refl, sym}
+use borrow.Author.Needs.{needs}
+use Rattle.push_token.specs.Act.{run}
+use Rattle.push_token.specs.Arms.{closeGroup, rightParenArm}
+use Rattle.sink.proofs.Sink.{nothing}
+use Rattle.formatter.specs.Pen.{optionsOf}
+use Rattle.formatter.proofs.Does.{seq, updated, yes, no, told, same-run}
+use Rattle.formatter.proofs.Groups.{its, signature-closes}
+use Rattle.formatter.proofs.Formatter.right_paren_arm.Statement.{statement}
+use Rattle.formatter.proofs.Formatter.right_paren_arm.Tie as tie
+
+closes-signature-requires : tie.Need-closes-signature-requires
+closes-signature-requires c κs = search needs
+
+close-signature-requires : tie.Need-close-signature-requires
+close-signature-requires c κs = search needs
+
+shallower-requires : tie.Need-shallower-requires
+shallower-requires c κs = search needs
+
+in-broken-list-requires : tie.Need-in-broken-list-requires
+in-broken-list-requires c κs = search needs
+
+close-list-requires : tie.Need-close-list-requires
+close-list-requires c κs = search needs
+
+close-group-requires : tie.Need-close-group-requires
+close-group-requires c κs = search needs
+
+same-length : tie.Need-same-length
+same-length c = search needs
+
+returns : tie.Need-returns
+returns c = λ t ts σ x. signature-closes (optionsOf (c .before .before .before .before .before .before .before .before .before .before .args .options)) t (told (c .before .before .before .before .before .closes-signature .ensures) (c .before .before .before .before .if1 .taken)) (c .before .before .close-signature .ensures _ x)
+
+same-length-2 : tie.Need-same-length-2
+same-length-2 c = search needs
+
+returns-2 : tie.Need-returns-2
+unfolding rightParenArm run
+returns-2 c = λ t ts σ x. seq (updated (sym (rw (c .before .before .before .before .before .before .shallower .ensures))) refl nothing) (no (λ n. rw (c .before .before .before .before .before .before .shallower .ensures) (told (c .before .before .before .before .before .before .before .before .closes-signature .ensures) (c .before .before .before .before .before .before .before .if1 .left))) (yes (λ n. told (c .before .before .before .before .before .in-broken-list .ensures) (c .before .before .before .before .if2 .taken)) (same-run refl (c .before .before .close-list .ensures _ _))))
+
+same-length-3 : tie.Need-same-length-3
+same-length-3 c = search needs
+
+returns-3 : tie.Need-returns-3
+unfolding rightParenArm
+returns-3 c = λ t ts σ x. seq (updated (sym (rw (c .before .before .before .before .before .before .shallower .ensures))) refl nothing) (no (λ n. rw (c .before .before .before .before .before .before .shallower .ensures) (told (c .before .before .before .before .before .before .before .before .closes-signature .ensures) (c .before .before .before .before .before .before .before .if1 .left))) (no (λ n. told (c .before .before .before .before .before .in-broken-list .ensures) (c .before .before .before .before .if2 .left)) (its σ (c .before .before .before .before .before .before .before .before .before .before .before .before .before .pre .1 .1) (closeGroup (optionsOf (c .before .before .before .before .before .before .before .before .before .before .before .before .before .args .options))) (c .before .before .close-group .ensures _ _))))
+
+pub right-paren-arm-spec : {M : Type 1} → statement M
+right-paren-arm-spec =
+    tie.close
+    (tie.spec
+    closes-signature-requires
+    close-signature-requires
+    shallower-requires
+    in-broken-list-requires
+    close-list-requires
+    close-group-requires
+    same-length
+    returns
+    same-length-2
+    returns-2
+    same-length-3
+    returns-3)

@@ -1,0 +1,348 @@
+-- The loop's invariant, and what the calls of one turn do to it. Assumes nothing.
+use mathlib.Core.Bool.{Bool, true, false, not, _&&_}
+use mathlib.Core.List.{List, map}
+use mathlib.Core.Option.{some}
+use mathlib.Core.Path.{_≡_, refl, sym, ap, subst, _∙_}
+use Prim.Native.Nat.{ℕ, zero, suc, _+_, _-_, _*_, _/_, _%_, _≤_, _<_}
+use native.Mathlib.Omega.{arith}
+use lib.Dec.{eqb, ltb}
+use lib.ListN.{length, drop}
+use borrow.Author.Tests.{ltb-false, eq-eqb, ne-eqb}
+use Rattle.report.specs.Report.{deep, full}
+use Rattle.report.proofs.Logic.{split}
+use Rattle.rows.specs.Kinds.{LeftBrace, RightBrace, Other}
+use Rattle.rows.specs.Options
+use Rattle.rows.specs.Row.{rowsOf, firstRows}
+use Rattle.rows.specs.Bounds.{InBounds}
+use Rattle.rows.specs.Token.{Token, Trivia, triviaOf}
+use Rattle.rows.proofs.Sound.{in-bounds}
+use Rattle.lookahead.specs.Measure.{isEmpty}
+use Rattle.push_token.specs.Formatter as definition
+use Rattle.push_token.specs.Act.{State, run}
+use Rattle.push_token.specs.Emit.{isAt, trackFnState, trailingTrivia}
+use Rattle.push_token.specs.PushToken.{arm, overflows, turn}
+use Rattle.push_token.specs.Layout.{stopped}
+use Rattle.push_token.proofs.Growth.{depth}
+use Rattle.push_token.proofs.Last
+use Rattle.sink.proofs.Sink.{nothing}
+use Rattle.formatter.specs.declared.Formatter.{Formatter}
+use Rattle.formatter.specs.declared.Options.{Options}
+use Rattle.formatter.specs.declared.TokenAt.{TokenAt}
+use Rattle.formatter.specs.declared.token.Place.{Place}
+use Rattle.formatter.specs.declared.Prev.{Prev}
+use Rattle.formatter.specs.declared.Prev.the-variants.{Nothing, Kind}
+use Rattle.formatter.specs.Pen.{Aside, Pen, on, stateOf, asideOf, formatterOf, fieldsOf, fieldsOn, optionsOf, prevOf, topFirst}
+use Rattle.formatter.specs.Does.{Does, Arrives, Puts}
+use Rattle.formatter.specs.Token.{Ready, StackRoom, InRows, Here, kindOf, depthOf}
+use Rattle.formatter.specs.Trivia.{Part, triviaIn, leadToken}
+use Rattle.formatter.specs.Parts.{returnsEarly, tookNext}
+use Rattle.formatter.specs.declared.steady.Steady as code
+use Rattle.formatter.specs.Steady.{MayBegin, KnownKinds, Stretched, behind, keepsCommas}
+use Rattle.formatter.specs.Format.{Fresh, Walks, TokenRows, NextToken, NextPlace, walkOf, onlyTokens, ownRow, nextRow}
+use Rattle.formatter.proofs.Does.{seq, updated}
+use Rattle.formatter.proofs.Asides.{Same, lead-same}
+use Rattle.formatter.proofs.Turned.{trailToken, led, turns, trails, trails-not, turn-shallow, turn-skip, turn-taken}
+use Rattle.formatter.proofs.Comments.{no-trivia}
+use Rattle.formatter.proofs.Place.{tokenHere, tokensNext, head-next, stands, leading-is, trailing-is, in-rows, next-token, leads}
+use Rattle.formatter.proofs.Going.{Going, starts, few-tokens, depth-signature, leads-full, lead-fits, leads-deep, fit, goes-full, goes-on}
+use Rattle.formatter.proofs.Ahead.{kind-known, next-there, skips, only-at, last-known, stretches}
+use Rattle.formatter.proofs.Along.{steady-of, kinds-known}
+use Rattle.formatter.proofs.Stack.{top-length}
+
+-- ---- the invariant: nothing is being skipped
+
+pub record Loop (rows text : List ℕ) (o : Options.Options) (k₀ l₀ : List ℕ) (i at : ℕ) (p : Pen) : Type 0 where
+  pub aside : Aside
+  pub going : Going rows text o k₀ l₀ i at aside p
+  pub no-skip : aside .skipNext ≡ false
+
+pub begins : {rows text : List ℕ} {f : Formatter} {k l : List ℕ} (o : Options.Options) → Walks rows text → Fresh f k → Loop rows text o k l 0 0 (on f k l)
+begins o ω φ = record { aside = asideOf definition.new; going = starts o ω φ; no-skip = refl }
+
+-- the trailing trivia, written or not
+pub data Trailed (tr : List Trivia) (b : Bool) (f : Formatter) (l : List ℕ) (g : Formatter) (m : List ℕ) : Type 0 where
+  written : b ≡ true → {r : Formatter} {u : List ℕ} → Puts (trailingTrivia tr) f l r u → g ≡ r → m ≡ u → Trailed tr b f l g m
+  left-out : b ≡ false → g ≡ f → m ≡ l → Trailed tr b f l g m
+
+-- the state with another fn state
+abbrev pub withFnState : ℕ → Formatter → Formatter
+withFnState n f =
+    record {
+      «at_line_start» = f .«at_line_start»;
+      len = f .len;
+      «prev_minus_is_unary» = f .«prev_minus_is_unary»;
+      indent = f .indent;
+      «record_pending» = f .«record_pending»;
+      «group_depth» = f .«group_depth»;
+      «just_closed_inline» = f .«just_closed_inline»;
+      «in_record» = f .«in_record»;
+      «inline_depth» = f .«inline_depth»;
+      «record_depth» = f .«record_depth»;
+      «fn_state» = n;
+      «break_count» = f .«break_count»;
+      prev = f .prev;
+      «suppress_newline_at» = f .«suppress_newline_at»;
+      «sig_break_depth» = f .«sig_break_depth»;
+      commas = f .commas;
+    }
+
+-- what the calls of one turn say, behind the leading trivia: refusal 4's test, the mark, the test for trailing trivia, the arm, trailing trivia, the fn state
+pub record Calls (options : Options) (rows text : List ℕ) (token : TokenAt) (f : Formatter) (k : List ℕ) (g : Formatter) (m : List ℕ) (r close b : Bool) (g₂ : Formatter) (k₂ m₂ : List ℕ) (g₃ : Formatter) (m₃ : List ℕ) (n : ℕ) : Type 0 where
+  pub overflow : Here token rows text (λ t ts. r ≡ overflows (optionsOf options) t ts (fieldsOn g k))
+  pub calm : r ≡ false
+  pub taken : close ≡ (eqb (token .lead) (token .own) && f .«just_closed_inline»)
+  pub trailing : Here token rows text (λ t ts. b ≡ (ltb (token .own + 16) (token .next) && not (returnsEarly t ts (fieldsOn g k))))
+  pub arms : Here token rows text (λ t ts. (y : Aside) → y .inlineClose ≡ close → overflows (optionsOf options) t ts (fieldsOn g k) ≡ false → Does (arm (optionsOf options) (token .index) t ts) y (on g k m) (on g₂ k₂ m₂))
+  pub trailed : Trailed (triviaIn rows text (token .own + 16) (token .next)) b g₂ m₂ g₃ m₃
+  pub tracked : n ≡ trackFnState (token .kind) (fieldsOf g₃) .fnState
+
+-- a token without leading rows has no leading trivia
+empty-is : (rows text : List ℕ) (from to : ℕ) → Part rows text from to → eqb from to ≡ isEmpty (triviaIn rows text from to)
+unfolding firstRows
+empty-is rows text from to π = go ((to - from) / 16) (π .whole)
+  where
+    go : (n : ℕ) → to ≡ from + 16 * n → eqb from to ≡ isEmpty (map (triviaOf text) (firstRows n (drop from rows)))
+    go zero e = eq-eqb from to (omega arith)
+    go (suc n) e = ne-eqb from to (λ x. omega arith)
+
+kinds-same : (p : Prev) → Last.kindOf (prevOf p) ≡ kindOf p
+kinds-same Nothing = refl
+kinds-same (Kind k) = refl
+
+module _ (options : Options) {rows text : List ℕ} {k₀ l₀ k l : List ℕ} {f : Formatter} {i at : ℕ} {token : TokenAt} (ω : Walks rows text) (ι : Loop rows text (optionsOf options) k₀ l₀ i at (on f k l)) (h : at < length rows) (τ : TokenRows rows at i token) where
+  abbrev o : Options.Options
+  o = optionsOf options
+
+  abbrev x : Aside
+  x = ι .aside
+
+  abbrev p : Pen
+  p = on f k l
+
+  abbrev t : Token
+  t = tokenHere rows text at
+
+  abbrev ts : List Token
+  ts = tokensNext rows text at
+
+  few : i ≤ 65535
+  few = few-tokens ω (ι .going)
+
+  pub small-indent : f .indent ≤ 4294967295
+  small-indent = let a = ι .going .counts .indent in let b = few in omega arith
+
+  pub its-rows : InRows token rows text
+  its-rows = in-rows ω (ι .going .head) h τ (let b = few in omega arith)
+
+  -- ---- behind the leading trivia
+
+  module _ {g : Formatter} {m : List ℕ} (δ : Puts (leadToken o (triviaIn rows text (token .lead) (token .own))) f l g m) where
+    its-lead : Does (leadToken o (t .leading)) x p (on g k m)
+    its-lead = subst (λ ls. Does (leadToken o ls) x p (on g k m)) (sym (leading-is ω (ι .going .head) h τ)) (δ k x)
+
+    pub lead-size : length m ≡ length l₀
+    lead-size = δ k x .size ∙ ι .going .size
+
+    pub full-lead : length m < g .len → walkOf rows text o l₀ ≡ stopped full i
+    full-lead z = leads-full ω (ι .going) h (ι .no-skip) its-lead z
+
+    module _ (z : g .len ≤ length m) where
+      abbrev s : State
+      s = led o i t ts (stateOf x p)
+
+      u : Arrives s p (on g k m)
+      u = lead-fits ω (ι .going) h (ι .no-skip) its-lead z
+
+      form : formatterOf g k (asideOf (s .formatter)) ≡ s .formatter
+      form = ap (λ (v : State). v .formatter) (u .state)
+
+      -- leading trivia change no count
+      same : Same (stateOf x p .formatter) (run (Rattle.push_token.specs.Emit.leadingTrivia o (t .leading)) (stateOf x p) .formatter)
+      same = lead-same o (t .leading) (stateOf x p)
+
+      field : {A : Type 0} (φ : definition.Formatter → A) → φ (s .formatter) ≡ φ (stateOf x p .formatter) → φ (formatterOf g k (asideOf (s .formatter))) ≡ φ (stateOf x p .formatter)
+      field φ e = ap φ form ∙ e
+
+      commas-same : g .commas ≡ f .commas
+      unfolding run
+      commas-same = ap (λ (v : State). v .commas) (u .state) ∙ Rattle.formatter.proofs.Asides.lead-commas o (t .leading) (stateOf x p)
+
+      pub ready : options .«indent_width» ≤ 16 → Ready options g m
+      unfolding run
+      ready w =
+          let b = few in
+          let c = ι .going .counts in
+          let indent : g .indent ≡ f .indent = field (λ v. v .indent) (same .indent) in
+          let group : g .«group_depth» .0 ≡ f .«group_depth» .0 = field (λ v. v .groupDepth) (same .groupDepth) in
+          let inline : g .«inline_depth» .0 ≡ f .«inline_depth» .0 = field (λ v. v .inlineDepth) (same .inlineDepth) in
+          let records : g .«record_depth» .0 ≡ f .«record_depth» .0 = field (λ v. v .recordDepth) (same .recordDepth) in
+          let signature : depthOf (g .«sig_break_depth» .0) ≡ depthOf (f .«sig_break_depth» .0) = sym (depth-signature (g .«sig_break_depth» .0)) ∙ field (λ v. depth (v .sigBreakDepth)) (ap depth (same .sigBreakDepth)) ∙ depth-signature (f .«sig_break_depth» .0) in
+          let last : kindOf (g .prev .kind) ≡ kindOf (f .prev .kind) = sym (kinds-same (g .prev .kind)) ∙ field (λ v. Last.kindOf (v .prev)) (ap Last.kindOf (same .prev)) ∙ kinds-same (f .prev .kind) in
+          record {
+            fits = record { within = z; width = w; indent = let a = c .indent in omega arith };
+            group = let a = c .group in omega arith;
+            inline = let a = c .inline in omega arith;
+            records = let a = c .records in omega arith;
+            signature = let a = c .signature in omega arith;
+            commas = let a = c .commas in let e = commas-same in omega arith;
+            last = rw last (rw (kinds-same (f .prev .kind)) at (ι .going .told .last));
+          }
+
+      pub stack-room : StackRoom g k
+      unfolding run
+      stack-room =
+          let a = ι .going .entries in
+          let e : length (topFirst (g .«break_count») k) ≡ length (topFirst (f .«break_count») k) = field (λ v. length (v .breakStack)) (ap length (same .breakStack)) in
+          record { most = omega (arith, top-length (g .«break_count») k, top-length (f .«break_count») k); size = ι .going .stack }
+
+      its-overflow : {r b : Bool} → Here token rows text (λ t ts. r ≡ overflows o t ts (fieldsOn g k)) → r ≡ b → overflows o t ts (s .formatter) ≡ b
+      its-overflow v e = ap (λ y. overflows o t ts y) (sym form) ∙ sym (v t ts (stands ω (ι .going .head) h τ)) ∙ e
+
+      pub deep-at : {r : Bool} → Here token rows text (λ t ts. r ≡ overflows o t ts (fieldsOn g k)) → r ≡ true → walkOf rows text o l₀ ≡ stopped deep i
+      deep-at v e = leads-deep ω (ι .going) h (ι .no-skip) its-lead u (its-overflow v e)
+
+      -- ---- the whole turn
+
+      closes : {close : Bool} → close ≡ (eqb (token .lead) (token .own) && f .«just_closed_inline») → asideOf (s .formatter) .inlineClose ≡ close
+      unfolding run
+      closes e =
+          ap (λ y. isEmpty (t .leading) && y) (same .justClosedInline)
+          ∙ ap (λ y. y && f .«just_closed_inline») (ap isEmpty (leading-is ω (ι .going .head) h τ) ∙ sym (empty-is rows text (token .lead) (token .own) (leads ω (ι .going .head) h τ)))
+          ∙ sym e
+
+      module _ {r close b : Bool} {g₂ g₃ : Formatter} {k₂ m₂ m₃ : List ℕ} {n : ℕ} (κ : Calls options rows text token f k g m r close b g₂ k₂ m₂ g₃ m₃ n) where
+        abbrev q : Formatter
+        q = withFnState n g₃
+
+        calm : overflows o t ts (s .formatter) ≡ false
+        calm = its-overflow (κ .overflow) (κ .calm)
+
+        σ : Rattle.formatter.specs.Token.Stands token rows text t ts
+        σ = stands ω (ι .going .head) h τ
+
+        abbrev y : Aside
+        y = asideOf (s .formatter)
+
+        not-returned : y .returned ≡ false
+        unfolding run
+        not-returned = refl
+
+        its-arm : Does (arm o i t ts) y (on g k m) (on g₂ k₂ m₂)
+        its-arm = subst (λ n. Does (arm o n t ts) y (on g k m) (on g₂ k₂ m₂)) (τ .index) (κ .arms t ts σ y (closes (κ .taken)) (sym (κ .overflow t ts σ) ∙ κ .calm))
+
+        abbrev left : Aside
+        left = asideOf (run (arm o i t ts) (stateOf y (on g k m)) .formatter)
+
+        its-trail : Does (trailToken (t .trailing)) left (on g₂ k₂ m₂) (on g₃ k₂ m₃)
+        its-trail = go (κ .trailed)
+          where
+            go : Trailed (triviaIn rows text (token .own + 16) (token .next)) b g₂ m₂ g₃ m₃ → Does (trailToken (t .trailing)) left (on g₂ k₂ m₂) (on g₃ k₂ m₃)
+            go (written e d eg em) =
+                trails o i t ts y (on g k m) not-returned (ltb (token .own + 16) (token .next)) (κ .trailing t ts σ) e
+                (subst (λ ls. Does (trailingTrivia ls) left (on g₂ k₂ m₂) (on g₃ k₂ m₃)) (sym (trailing-is ω (ι .going .head) h τ)) (rw (eg, em) (d k₂ left)))
+            go (left-out e eg em) =
+                rw (eg, em)
+                (trails-not o i t ts y (on g k m) not-returned (ltb (token .own + 16) (token .next)) (κ .trailing t ts σ) e
+                (λ n. trailing-is ω (ι .going .head) h τ ∙ no-trivia rows text (ltb-false (token .own + 16) (token .next) n)))
+
+        its-track : (z : Aside) → Does (Rattle.push_token.specs.Act.update (trackFnState (t .kind))) z (on g₃ k₂ m₃) (on q k₂ m₃)
+        its-track z =
+            updated (ap (λ n. trackFnState n (formatterOf g₃ k₂ z)) (σ .kind) ∙ ap (λ n. definition.setFnState n (formatterOf g₃ k₂ z)) (sym (κ .tracked))) refl nothing
+
+        pub turned : Does (turn o i t ts) x p (on q k₂ m₃)
+        turned = turns o i t ts x p (ι .going .shallow) (ι .no-skip) its-lead calm (seq its-arm (seq its-trail (its-track _)))
+
+        pub turn-size : length m₃ ≡ length l₀
+        turn-size = turned .size ∙ ι .going .size
+
+        pub full-turn : length m₃ < q .len → walkOf rows text o l₀ ≡ stopped full i
+        full-turn e = goes-full ω (ι .going) h turned e
+
+        -- ---- behind the turn
+
+        module _ (fits : q .len ≤ length m₃) (lent : length k₂ ≡ length k) where
+          abbrev after : State
+          after = run (turn o i t ts) (stateOf x p)
+
+          went : Going rows text o k₀ l₀ (i + 1) (nextRow rows (ownRow rows at)) (asideOf (after .formatter)) (on q k₂ m₃)
+          went = goes-on ω (ι .going) h turned fits (turn-shallow o i t ts (stateOf x p) (ι .going .shallow) (ι .no-skip) calm) (kind-known ω (ι .going .head) h) lent
+
+          took : after .formatter .skipNext ≡ tookNext (token .kind) (q .prev .kind)
+          took =
+              turn-skip o i t ts (stateOf x p) (ι .going .shallow) (ι .no-skip) calm
+              ∙ ap (λ n. eqb n LeftBrace && isAt (after .formatter .prev) RightBrace) (σ .kind)
+              ∙ ap (λ (w : State). eqb (token .kind) LeftBrace && isAt (w .formatter .prev) RightBrace) (sym (fit ω (ι .going) h turned fits .state))
+
+          next-is : token .next ≡ nextRow rows (ownRow rows at)
+          next-is = τ .next ∙ ap (nextRow rows) (τ .own)
+
+          next-in : tookNext (token .kind) (q .prev .kind) ≡ true → token .next < length rows
+          next-in e = rw next-is (next-there ω (ι .going .head) h RightBrace (turn-taken o i t ts (stateOf x p) (ι .going .shallow) (ι .no-skip) calm (took ∙ e)))
+
+          its-head : Rattle.formatter.proofs.Place.Head rows text (token .next)
+          its-head = rw next-is (head-next ω (ι .going .head) h)
+
+          -- the token that was taken along is there
+          pub next-there-too : {bare : Bool} → (bare ≡ true → onlyTokens (rowsOf rows) ≡ true) → tookNext (token .kind) (q .prev .kind) ≡ true → NextToken rows (token .next) bare
+          next-there-too only e = next-token ω its-head (next-in e) only
+
+          pub next-bounds : (token .next ≤ length rows) × (token .index < 4294967294)
+          next-bounds = (its-head .within, let b = few in let e = τ .index in omega arith)
+
+          place-taken : {n : ℕ} {j : ℕ} → n ≡ nextRow rows (ownRow rows (token .next)) → j ≡ token .index + 2 → tookNext (token .kind) (q .prev .kind) ≡ true → Loop rows text o k₀ l₀ j n (on q k₂ m₃)
+          place-taken {n} {j} e d c =
+              let γ : Going rows text o k₀ l₀ (i + 1) (token .next) (asideOf (after .formatter)) (on q k₂ m₃) = rw next-is went in
+              let z : i + 1 + 1 ≡ j = let a = τ .index in omega arith in
+              record { aside = asideOf (definition.setSkipNext false (stateOf (asideOf (after .formatter)) (on q k₂ m₃) .formatter)); going = rw (e, ← z) (skips ω γ (next-in c) (took ∙ c)); no-skip = refl }
+
+          place-next : {n : ℕ} {j : ℕ} → n ≡ token .next → j ≡ token .index + 1 → tookNext (token .kind) (q .prev .kind) ≡ false → Loop rows text o k₀ l₀ j n (on q k₂ m₃)
+          place-next {n} {j} e d c =
+              let z : i + 1 ≡ j = let a = τ .index in omega arith in
+              record { aside = asideOf (after .formatter); going = rw (e, next-is, ← z) went; no-skip = took ∙ c }
+
+          -- the loop's invariant at the next place
+          pub placed : {place : Place} → NextPlace rows token (tookNext (token .kind) (q .prev .kind)) place → Loop rows text o k₀ l₀ (place .index) (place .at) (on q k₂ m₃)
+          placed π =
+              split (tookNext (token .kind) (q .prev .kind))
+              (λ c. place-taken (rw c at (π .at)) (rw c at (π .index)) c)
+              (λ c. place-next (rw c at (π .at)) (rw c at (π .index)) c)
+
+          -- which lies further on
+          pub further : {place : Place} → NextPlace rows token (tookNext (token .kind) (q .prev .kind)) place → at < place .at
+          further π =
+              split (tookNext (token .kind) (q .prev .kind))
+              (λ c. let a = rw c at (π .at) in let b = next-is in omega arith)
+              (λ c. let a = rw c at (π .at) in let b = next-is in omega arith)
+
+-- ---- tokens that only write their lexeme
+
+module _ {rows text : List ℕ} {o : Options.Options} {k₀ l₀ k l : List ℕ} {f : Formatter} {i at : ℕ} {bare : Bool} (ω : Walks rows text) (ι : Loop rows text o k₀ l₀ i at (on f k l)) (only : bare ≡ true → onlyTokens (rowsOf rows) ≡ true) (ρ : MayBegin f bare) where
+  only-here : onlyTokens (rowsOf (drop at rows)) ≡ true
+  only-here = only-at rows at (ι .going .head .whole) (only (ρ .bare))
+
+  pub steady-room : StackRoom f k × (kindOf (f .prev .kind) ≤ Other)
+  steady-room = (record { most = ι .going .entries; size = ι .going .stack }, rw (kinds-same (f .prev .kind)) at (ι .going .told .last))
+
+  pub steady-place : (f .len ≤ length l) × ((at ≤ length rows) × (length rows % 16 ≡ at % 16))
+  steady-place = (ι .going .room, (ι .going .head .within, let a = ω .whole in let b = ι .going .head .whole in omega arith))
+
+  pub steady-rows : (onlyTokens (rowsOf (drop at rows)) ≡ true) × (InBounds text (rowsOf (drop at rows)) × KnownKinds (rowsOf (drop at rows)))
+  steady-rows =
+      let η = ι .going .head .checked in
+      (only-here, (in-bounds text (η .before) (η .number) (rowsOf (drop at rows)) (η .good), kinds-known (length text) (η .before) (η .number) (rowsOf (drop at rows)) (η .good) only-here))
+
+  module _ {m : List ℕ} {r : code.Steady} (σ : Stretched rows text at (f .len) (kindOf (f .prev .kind)) (f .«prev_minus_is_unary») (keepsCommas f k) l m r) where
+    -- g is f with the length and the last kind behind them
+    pub steadied : {g : Formatter} → ((y : Aside) → formatterOf g k y ≡ definition.setPrev (some (r .prev)) (formatterOf f k y)) → g .len ≡ r .len → g .commas ≡ f .commas → g .«break_count» ≡ f .«break_count» → g .«sig_break_depth» ≡ f .«sig_break_depth» → Loop rows text o k₀ l₀ (i + (r .at - at) / 16) (r .at) (on g k m)
+    steadied form len commas count signature =
+        record {
+          aside = asideOf (behind (ltb at (r .at)) (r .prev) (formatterOf f k (ι .aside)));
+          going = stretches ω (ι .going) (only (ρ .bare)) (steady-of ρ k (ι .aside) (last-known ω (ι .going) (ρ .mid-line)) (ι .no-skip) (ι .going .shallow)) σ (form _) len commas count signature;
+          no-skip = ι .no-skip;
+        }
+
+    pub steady-within : (at ≤ r .at) × (r .at ≤ 1048560)
+    steady-within = (let a = σ .whole in omega arith, let a = σ .within in let b = ω .few in omega arith)
+
+    pub steady-few : i + (r .at - at) / 16 ≤ 65535
+    steady-few = let a = ι .going .index in let b = σ .whole in let c = σ .within in let d = ω .few in omega arith

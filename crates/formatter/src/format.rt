@@ -1,0 +1,202 @@
+// `format`: the loop over the tokens, and `push_token`: the arm of a token's kind.
+use crate::Ends;
+use crate::Formatted;
+use crate::Formatter;
+use crate::Options;
+use crate::TokenAt;
+use crate::ended_by;
+use crate::token::Place;
+use crate::token::ends_of;
+use crate::token::rows_between;
+use crate::token::token_at;
+use rows::ROW_BYTES;
+use rows::kinds;
+ghost use mathlib.Core.Bool.{true, false, not, _&&_};
+ghost use mathlib.Core.List.{List};
+ghost use mathlib.Core.Path.{_≡_};
+ghost use Prim.Native.Nat.{ℕ, _+_, _≤_, _<_};
+ghost use lib.Dec.{eqb, ltb};
+ghost use lib.ListN.{length};
+ghost use Rattle.rows.specs.Row.{rowsOf};
+ghost use Rattle.push_token.specs.PushToken.{arm, overflows};
+ghost use Rattle.formatter.specs.Pen.{Aside, on, fieldsOn, optionsOf};
+ghost use Rattle.formatter.specs.Does.{Does};
+ghost use Rattle.formatter.specs.Token.{Ready, StackRoom, InRows, Ahead, Here};
+ghost use Rattle.formatter.specs.Parts.{returnsEarly, tookNext};
+ghost use Rattle.formatter.specs.Format.{Fresh, Walks, Laid, NextToken, NextPlace, onlyTokens};
+
+impl Formatter {
+    // Lays out all tokens of checked rows. `bare` tells that no trivia is among them, if the caller knows it. What
+    // `push_token` of format.rs does around its arms stands here: in a method between, the state would be copied.
+    pub fn format(
+        mut self,
+        options: Options,
+        out: &mut [u8],
+        stack: &mut [u32],
+        rows: &[u8],
+        text: &[u8],
+        bare: bool,
+    ) -> Formatted
+        requires { ⌜ Fresh self (now stack) × (options .«indent_width» ≤ 16) ⌝ }
+        requires { ⌜ Walks (now rows) (now text) ⌝ }
+        requires { ⌜ (bare ≡ true → onlyTokens (rowsOf (now rows)) ≡ true) ⌝ }
+        ensures { λ r. ⌜ Laid (now (rows .entry)) (now (text .entry)) (optionsOf options) (now (out .entry))
+            r (now (out .exit)) ⌝ }
+    {
+        let ends = ends_of(rows, options.list_width);
+        let mut at = 0;
+        let mut index: u32 = 0;
+        while at < rows.len() {
+            let token = token_at(rows, at, index, bare);
+            let kind = token.kind;
+            let inline_close = self.takes_inline_close(token);
+            self = self.push_leading(options, out, rows, text, token);
+            if out.len() < self.len {
+                return Formatted::Full(index as usize);
+            }
+            if self.overflows(options, ends, rows, token) {
+                return Formatted::Deep(index as usize);
+            }
+            let trails = self.writes_trailing(stack, rows, token);
+            self = self.push_token(options, ends, out, stack, rows, text, token, inline_close);
+            if trails {
+                self = self.push_trailing(out, rows, text, token);
+            }
+            let state = self.track_fn_state(kind);
+            self.fn_state = state;
+            if out.len() < self.len {
+                return Formatted::Full(index as usize);
+            }
+            let next = self.next_place(rows, token, bare);
+            at = next.at;
+            index = next.index;
+            if self.is_steady(bare) {
+                let ahead = self.push_steady(out, stack, rows, text, at);
+                let prev = ended_by(ahead.prev);
+                self.len = ahead.len;
+                self.prev = prev;
+                index += rows_between(at, ahead.at);
+                at = ahead.at;
+            }
+        }
+        Formatted::Finished(self.len, self.commas)
+    }
+
+    // The arms, in the order of format.rs. `inline_close`: a one-line block's `}` stands right before the token.
+    fn push_token(
+        mut self,
+        options: Options,
+        ends: Ends,
+        out: &mut [u8],
+        stack: &mut [u32],
+        rows: &[u8],
+        text: &[u8],
+        token: TokenAt,
+        inline_close: bool,
+    ) -> Self
+        requires { ⌜ Ready options self (now out) × StackRoom self (now stack) ⌝ }
+        requires { ⌜ InRows token (now rows) (now text) × Ahead ends (token .lead) (now rows) ⌝ }
+        ensures { λ r. ⌜ Here token (now (rows .entry)) (now (text .entry))
+            (λ t ts. (x : Aside) → x .inlineClose ≡ «inline_close»
+            → overflows (optionsOf options) t ts (fieldsOn self (now (stack .entry))) ≡ false
+            → Does (arm (optionsOf options) (token .index) t ts) x
+            (on self (now (stack .entry)) (now (out .entry))) (on r (now (stack .exit)) (now (out .exit)))) ⌝ }
+    {
+        let kind = token.kind;
+        match kind {
+            kinds::EOF => self.eof_arm(),
+            kinds::NEWLINE => self.newline_arm(out, rows, token),
+            kinds::RIGHT_BRACE => self.right_brace_arm(options, out),
+            kinds::LEFT_BRACE => self.left_brace_arm(options, ends, out, rows, text, token),
+            kinds::LEFT_PAREN => self.left_paren_arm(options, ends, out, stack, rows, text, token),
+            kinds::LEFT_BRACKET => self.left_bracket_arm(
+                options,
+                ends,
+                out,
+                stack,
+                rows,
+                text,
+                token,
+            ),
+            kinds::RIGHT_PAREN => self.right_paren_arm(options, out, stack, rows, text, token),
+            kinds::RIGHT_BRACKET => self.right_bracket_arm(options, out, stack, rows, text, token),
+            kinds::COMMA => self.comma_arm(options, out, stack, rows, text, token),
+            kinds::ELSE => self.else_arm(options, out, rows, text, token, inline_close),
+            _ => self.other_arm(options, out, rows, text, token),
+        }
+    }
+
+    // A one-line block's `}` stands right before the token, without trivia between.
+    fn takes_inline_close(self, token: TokenAt) -> bool
+        ensures { λ r. ⌜ r ≡ eqb (token .lead) (token .own) && self .«just_closed_inline» ⌝ }
+    {
+        if token.lead == token.own {
+            return self.just_closed_inline;
+        }
+        false
+    }
+
+    // Refusal 4: the stack is full, and the token would open one more broken list.
+    fn overflows(self, options: Options, ends: Ends, rows: &[u8], token: TokenAt) -> bool
+        requires { ⌜ token .lead ≤ length (now rows) ⌝ }
+        requires { ⌜ Ahead ends (token .lead) (now rows) ⌝ }
+        ensures { λ r. ⌜ ((s text : List ℕ) → Here token (now (rows .entry)) text
+            (λ t ts. r ≡ overflows (optionsOf options) t ts (fieldsOn self s))) ⌝ }
+    {
+        if self.break_count < 64 {
+            return false;
+        }
+        let kind = token.kind;
+        if kind == kinds::LEFT_PAREN {
+            if self.at_signature() {
+                return false;
+            }
+            return self.breaks_list(options, ends, rows, token);
+        }
+        if kind == kinds::LEFT_BRACKET {
+            return self.breaks_list(options, ends, rows, token);
+        }
+        false
+    }
+
+    // Whether there is trailing trivia, and the arm does not return before it.
+    fn writes_trailing(self, stack: &[u32], rows: &[u8], token: TokenAt) -> bool
+        requires { ⌜ StackRoom self (now stack) ⌝ }
+        requires { ⌜ (token .own + 16 ≤ token .next) × (token .next ≤ length (now rows)) ⌝ }
+        ensures { λ r. ⌜ ((text : List ℕ) → Here token (now (rows .entry)) text
+            (λ t ts. r ≡ ltb (token .own + 16) (token .next)
+            && not (returnsEarly t ts (fieldsOn self (now (stack .entry)))))) ⌝ }
+    {
+        if token.next == token.own + ROW_BYTES {
+            return false;
+        }
+        let kind = token.kind;
+        match kind {
+            kinds::LEFT_BRACE => !self.empties_record(rows, token),
+            kinds::RIGHT_PAREN => !self.closes_broken(stack),
+            kinds::RIGHT_BRACKET => !self.in_broken_list(stack),
+            _ => true,
+        }
+    }
+
+    // Where the next token's rows start, and its index. Behind `record E {}` the `}` was taken along.
+    fn next_place(self, rows: &[u8], token: TokenAt, bare: bool) -> Place
+        requires { ⌜ (token .next ≤ length (now rows)) × (token .index < 4294967294) ⌝ }
+        requires { ⌜ (tookNext (token .kind) (self .prev .kind) ≡ true → NextToken (now rows) (token .next) bare) ⌝ }
+        ensures { λ r. ⌜ NextPlace (now (rows .entry)) token (tookNext (token .kind) (self .prev .kind)) r ⌝ }
+    {
+        let at = token.next;
+        let index = token.index + 1;
+        if token.kind == kinds::LEFT_BRACE {
+            if self.prev_is(kinds::RIGHT_BRACE) {
+                let taken = token_at(rows, at, index, bare);
+                return Place {
+                    at: taken.next,
+                    index: index + 1,
+                };
+            }
+            return Place { at, index };
+        }
+        Place { at, index }
+    }
+}

@@ -1,0 +1,96 @@
+// A token's rows, and what all rows tell.
+use crate::Ends;
+use crate::TokenAt;
+use lookahead::behind_last;
+use lookahead::total_width;
+use rows::ROW_BYTES;
+use rows::kinds;
+use rows::number_at;
+use rows::row_at;
+ghost use mathlib.Core.Path.{_≡_};
+ghost use Prim.Native.Nat.{_+_, _-_, _*_, _/_, _≤_};
+ghost use lib.ListN.{length, drop};
+ghost use Rattle.rows.specs.Row.{rowsOf};
+ghost use Rattle.formatter.specs.Format.{Ending, NextToken, TokenRows, runRows, ownRow, nextRow};
+
+// Where a token's rows start, and its index among the tokens.
+pub struct Place {
+    pub at: usize,
+    pub index: u32,
+}
+
+// The list width from which on all tokens are measured together; below it a list's measure ends within so many tokens.
+const WIDE: u32 = 1024;
+
+// The token whose rows start at `lead`: its own row alone, where there is no trivia.
+pub fn token_at(rows: &[u8], lead: usize, index: u32, bare: bool) -> TokenAt
+    requires { ⌜ NextToken (now rows) lead bare ⌝ }
+    ensures { λ r. ⌜ TokenRows (now (rows .entry)) lead index r ⌝ }
+{
+    if bare {
+        return token_of(rows, lead, lead, lead + ROW_BYTES, index);
+    }
+    let own = rows_end(rows, lead, kinds::LEADING);
+    let next = rows_end(rows, own + ROW_BYTES, kinds::TRAILING);
+    token_of(rows, lead, own, next, index)
+}
+
+fn token_of(rows: &[u8], lead: usize, own: usize, next: usize, index: u32) -> TokenAt
+    requires { ⌜ own + 16 ≤ length (now rows) ⌝ }
+    requires { ⌜ (own ≡ ownRow (now rows) lead) × (next ≡ nextRow (now rows) own) ⌝ }
+    ensures { λ r. ⌜ TokenRows (now (rows .entry)) lead index r ⌝ }
+{
+    TokenAt {
+        kind: number_at(rows, own + 4),
+        index,
+        lead,
+        own,
+        next,
+    }
+}
+
+// Where the rows of a what end that start at `at`.
+fn rows_end(rows: &[u8], at: usize, what: u32) -> usize
+    requires { ⌜ at ≤ length (now rows) ⌝ }
+    ensures { λ r. ⌜ r ≡ at + 16 * runRows what (rowsOf (drop at (now (rows .entry)))) ⌝ }
+{
+    let mut end = at;
+    while ROW_BYTES <= rows.len() - end {
+        let row = row_at(rows, end);
+        if row.what != what {
+            return end;
+        }
+        end += ROW_BYTES;
+    }
+    end
+}
+
+// What stands for the last time in the rows, and how wide all tokens are, found once.
+pub fn ends_of(rows: &[u8], list_width: u32) -> Ends
+    requires { ⌜ length (now rows) ≤ 1048560 ⌝ }
+    ensures { λ r. ⌜ Ending (now (rows .entry)) r ⌝ }
+{
+    let commas = behind_last(rows, kinds::COMMA);
+    let braces = behind_last(rows, kinds::RIGHT_BRACE);
+    if list_width < WIDE {
+        return Ends {
+            commas,
+            braces,
+            width: 0,
+        };
+    }
+    let width = total_width(rows);
+    Ends {
+        commas,
+        braces,
+        width,
+    }
+}
+
+// How many rows stand between two places.
+pub fn rows_between(from: usize, to: usize) -> u32
+    requires { ⌜ (from ≤ to) × (to ≤ 1048560) ⌝ }
+    ensures { λ r. ⌜ r ≡ (to - from) / 16 ⌝ }
+{
+    ((to - from) / ROW_BYTES) as u32
+}

@@ -1,0 +1,99 @@
+// Leading and trailing trivia of `push_token`.
+use crate::Formatter;
+use crate::Options;
+use crate::TokenAt;
+use rows::ROW_BYTES;
+use rows::Row;
+use rows::kinds;
+use rows::row_at;
+use sink::comments::write_blank_line;
+use sink::comments::write_lead;
+use sink::comments::write_trail;
+use sink::write::write_spaces;
+ghost use mathlib.Core.Path.{_≡_};
+ghost use Prim.Native.Nat.{_+_, _≤_, _<_};
+ghost use Rattle.rows.specs.Bounds.{Inside, rowOf};
+ghost use Rattle.rows.specs.Token.{triviaOf};
+ghost use Rattle.push_token.specs.Emit.{leadAct, trailingTrivia};
+ghost use Rattle.sink.specs.Sink.{Writes};
+ghost use Rattle.formatter.specs.Pen.{optionsOf};
+ghost use Rattle.formatter.specs.Does.{Puts};
+ghost use Rattle.formatter.specs.Trivia.{Part, triviaIn, leadToken, trailBytes};
+
+impl Formatter {
+    // Writes the leading rows, and takes the mark of a one-line block's `}`, which stays where trivia was seen.
+    pub fn push_leading(
+        mut self,
+        options: Options,
+        out: &mut [u8],
+        rows: &[u8],
+        text: &[u8],
+        token: TokenAt,
+    ) -> Self
+        requires { ⌜ (options .«indent_width» ≤ 16) × (self .indent ≤ 4294967295) ⌝ }
+        requires { ⌜ Part (now rows) (now text) (token .lead) (token .own) ⌝ }
+        ensures { λ r. ⌜ Puts (leadToken (optionsOf options)
+            (triviaIn (now (rows .entry)) (now (text .entry)) (token .lead) (token .own)))
+            self (now (out .entry)) r (now (out .exit)) ⌝ }
+    {
+        let end = token.own;
+        let mut at = token.lead;
+        if at == end {
+            self.just_closed_inline = false;
+        }
+        while at < end {
+            self = self.push_lead(options, out, text, row_at(rows, at));
+            at += ROW_BYTES;
+        }
+        self
+    }
+
+    // Leading trivia never breaks a line by itself, but for a blank line.
+    fn push_lead(mut self, options: Options, out: &mut [u8], text: &[u8], row: Row) -> Self
+        requires { ⌜ (options .«indent_width» ≤ 16) × (self .indent ≤ 4294967295) ⌝ }
+        requires { ⌜ Inside (now text) (rowOf row) ⌝ }
+        ensures does { λ r. ⌜ Puts (leadAct (optionsOf options) (triviaOf (now (text .entry)) (rowOf row)))
+            self (now (out .entry)) r (now (out .exit)) ⌝ }
+        ensures indent { λ r. ⌜ r .indent ≡ self .indent ⌝ }
+    {
+        if kinds::BLOCK_COMMENT < row.kind {
+            let fed = write_blank_line(out, self.len, self.in_record);
+            self.len = fed;
+            self.at_line_start = true;
+            return self;
+        }
+        let gap = self.indent_or_space(options);
+        let gapped = write_spaces(out, self.len, gap);
+        let len = write_lead(out, gapped, text, row);
+        self.len = len;
+        self
+    }
+
+    pub fn push_trailing(mut self, out: &mut [u8], rows: &[u8], text: &[u8], token: TokenAt) -> Self
+        requires { ⌜ Part (now rows) (now text) (token .own + 16) (token .next) ⌝ }
+        ensures { λ r. ⌜ Puts (trailingTrivia
+            (triviaIn (now (rows .entry)) (now (text .entry)) (token .own + 16) (token .next)))
+            self (now (out .entry)) r (now (out .exit)) ⌝ }
+    {
+        let end = token.next;
+        let mut at = token.own + ROW_BYTES;
+        let mut len = self.len;
+        while at < end {
+            len = push_trail(out, len, text, row_at(rows, at));
+            at += ROW_BYTES;
+        }
+        self.len = len;
+        self
+    }
+}
+
+fn push_trail(out: &mut [u8], len: usize, text: &[u8], row: Row) -> usize
+    requires { ⌜ Inside (now text) (rowOf row) ⌝ }
+    ensures { λ r. ⌜ Writes (now (out .entry)) len (trailBytes (triviaOf (now (text .entry)) (rowOf row)))
+        (now (out .exit)) r ⌝ }
+{
+    if kinds::BLOCK_COMMENT < row.kind {
+        return len;
+    }
+    write_trail(out, len, text, row)
+}

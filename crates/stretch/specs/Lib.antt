@@ -1,2 +1,0 @@
-pub mod Stretch
-pub mod Braces
