@@ -10,9 +10,9 @@ use Rattle.report.proofs.Logic.{either, impossible}
 use Rattle.rows.specs.Kinds.{Eof, Newline, LeftBrace, RightBrace, LeftParen, RightParen, LeftBracket, RightBracket, Comma, Else}
 use Rattle.rows.specs.Options.{Options}
 use Rattle.rows.specs.Token.{Trivia, lineComment, docComment, blockComment, blankLine, Token}
-use Rattle.push_token.specs.Formatter.{Formatter, setAtLineStart, setFnState}
+use Rattle.push_token.specs.Formatter.{Formatter, setAtLineStart}
 use Rattle.push_token.specs.Act.{State, Act, run, _⨾_, choose, nothing}
-use Rattle.push_token.specs.Emit.{isAt, trackFnState, leadingTrivia, trailingTrivia, openBlockMultiline}
+use Rattle.push_token.specs.Emit.{isAt, leadingTrivia, trailingTrivia, openBlockMultiline}
 use Rattle.push_token.specs.Arms.{newlineArm, rightBraceArm, emptyRecord, openBlock, leftBraceArm, leftParenArm, leftBracketArm, rightParenArm, closeArray, rightBracketArm, commaArm, elseArm, otherArm}
 use Rattle.push_token.specs.PushToken.{arm}
 use Rattle.formatter.specs.Parts.{returnsEarly}
@@ -89,14 +89,6 @@ trail-same (lineComment c ∷ ts) s = trail-same ts _
 trail-same (docComment c ∷ ts) s = trail-same ts _
 trail-same (blockComment c ∷ ts) s = trail-same ts _
 trail-same (blankLine ∷ ts) s = trail-same ts s
-
-pub trail-commas : (ts : List Trivia) (s : State) → run (trailingTrivia ts) s .commas ≡ s .commas
-unfolding run trailingTrivia
-trail-commas [] s = refl
-trail-commas (lineComment c ∷ ts) s = trail-commas ts _
-trail-commas (docComment c ∷ ts) s = trail-commas ts _
-trail-commas (blockComment c ∷ ts) s = trail-commas ts _
-trail-commas (blankLine ∷ ts) s = trail-commas ts s
 
 -- ---- acts that keep what `get` reads of the formatter
 
@@ -252,13 +244,3 @@ module _ (o : Options) (i : ℕ) (t : Token) (ts : List Token) (s : State) where
   -- The arm refuses nothing.
   pub arm-deep : run (arm o i t ts) s .formatter .tooDeep ≡ s .formatter .tooDeep
   arm-deep = ap (λ v. v .0) (does .holds .still)
-
-  -- The arm leaves the mark that the token took.
-  pub arm-close : run (arm o i t ts) s .formatter .inlineClose ≡ s .formatter .inlineClose
-  arm-close = ap (λ v. v .1) (does .holds .still)
-
--- ---- behind the arm
-
--- `trackFnState` sets `fnState` alone.
-pub track-same : (k : ℕ) (f : Formatter) → trackFnState k f ≡ setFnState (trackFnState k f .fnState) f
-track-same k f = refl

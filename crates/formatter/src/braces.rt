@@ -28,18 +28,21 @@ ghost use lib.ListN.{length};
 ghost use Rattle.rows.specs.Kinds.{Comma, LeftBrace, RightBrace};
 ghost use Rattle.push_token.specs.Act.{update};
 ghost use Rattle.push_token.specs.Emit.{prevIs, openAllman, openSameLine};
-ghost use Rattle.push_token.specs.Arms.{inOneLineBlock, nextIs, closeInline, closeRecord, closeBlock, rightBraceArm};
+ghost use Rattle.push_token.specs.Arms.{inOneLineBlock, nextIs, closeInline};
+ghost use Rattle.push_token.specs.Arms.{closeRecord, closeBlock, rightBraceArm};
 ghost use Rattle.push_token.specs.Arms.{emptyRecord, openBlock, leftBraceArm};
 ghost use Rattle.sink.specs.Sink.{Writes};
 ghost use Rattle.formatter.specs.Pen.{fieldsOf, optionsOf};
 ghost use Rattle.formatter.specs.Does.{Puts};
 ghost use Rattle.formatter.specs.Token.{Fits, Ready, InRows, Ahead, Here, bareToken, lexemeOf};
-ghost use Rattle.formatter.specs.Parts.{inlineCloseSize, opensBlock, recordEntered, openOneLine, oneLineBytes, braced};
+ghost use Rattle.formatter.specs.Parts.{inlineCloseSize, opensBlock, recordEntered};
+ghost use Rattle.formatter.specs.Parts.{openOneLine, oneLineBytes, braced};
 
 impl Formatter {
     pub fn right_brace_arm(mut self, options: Options, out: &mut [u8]) -> Self
         requires { ⌜ Ready options self (now out) ⌝ }
-        ensures { λ r. ⌜ Puts (rightBraceArm (optionsOf options)) self (now (out .entry)) r (now (out .exit)) ⌝ }
+        ensures { λ r. ⌜ Puts (rightBraceArm (optionsOf options))
+            self (now (out .entry)) r (now (out .exit)) ⌝ }
     {
         if self.in_one_line_block() {
             self = self.close_inline(options, out);
@@ -55,7 +58,8 @@ impl Formatter {
 
     fn close_inline(mut self, options: Options, out: &mut [u8]) -> Self
         requires { ⌜ Fits options self (now out) ⌝ }
-        ensures { λ r. ⌜ Puts (closeInline (optionsOf options)) self (now (out .entry)) r (now (out .exit)) ⌝ }
+        ensures { λ r. ⌜ Puts (closeInline (optionsOf options))
+            self (now (out .entry)) r (now (out .exit)) ⌝ }
     {
         let gap = self.inline_close_gap(options);
         let len = write_brace(out, self.len, gap, b'}');
@@ -86,7 +90,8 @@ impl Formatter {
 
     fn close_record(mut self, options: Options, out: &mut [u8]) -> Self
         requires { ⌜ Ready options self (now out) ⌝ }
-        ensures { λ r. ⌜ Puts (closeRecord (optionsOf options)) self (now (out .entry)) r (now (out .exit)) ⌝ }
+        ensures { λ r. ⌜ Puts (closeRecord (optionsOf options))
+            self (now (out .entry)) r (now (out .exit)) ⌝ }
     {
         let wanted = self.wants_record_comma();
         self.indent = less(self.indent);
@@ -131,7 +136,8 @@ impl Formatter {
 
     // The depth in a record behind a brace that closes a block.
     fn record_depth_outside(self) -> RecordDepth
-        ensures { λ r. ⌜ r .0 ≡ cond (self .«in_record») (self .«record_depth» .0 - 1) (self .«record_depth» .0) ⌝ }
+        ensures { λ r. ⌜ r .0 ≡ cond (self .«in_record»)
+            (self .«record_depth» .0 - 1) (self .«record_depth» .0) ⌝ }
     {
         let record = self.record_depth;
         if self.in_record {
@@ -255,7 +261,8 @@ impl Formatter {
     fn open_block_multiline(mut self, options: Options, out: &mut [u8], index: u32) -> Self
         requires { ⌜ Fits options self (now out) ⌝ }
         requires { ⌜ index < 4294967295 ⌝ }
-        ensures { λ r. ⌜ Puts (openBlock (optionsOf options) index) self (now (out .entry)) r (now (out .exit)) ⌝ }
+        ensures { λ r. ⌜ Puts (openBlock (optionsOf options) index)
+            self (now (out .entry)) r (now (out .exit)) ⌝ }
     {
         let style = options.brace_style;
         match style {
@@ -303,7 +310,8 @@ impl Formatter {
     // The braces of a one-line block.
     fn open_one_line(mut self, options: Options, out: &mut [u8]) -> Self
         requires { ⌜ Ready options self (now out) ⌝ }
-        ensures { λ r. ⌜ Puts (openOneLine (optionsOf options)) self (now (out .entry)) r (now (out .exit)) ⌝ }
+        ensures { λ r. ⌜ Puts (openOneLine (optionsOf options))
+            self (now (out .entry)) r (now (out .exit)) ⌝ }
     {
         let inline = self.inline_depth;
         let len = self.write_inline_opener(options, out);
@@ -318,7 +326,8 @@ impl Formatter {
 
     fn write_inline_opener(self, options: Options, out: &mut [u8]) -> usize
         requires { ⌜ Fits options self (now out) ⌝ }
-        ensures { λ r. ⌜ Writes (now (out .entry)) (self .len) (oneLineBytes (optionsOf options) (fieldsOf self))
+        ensures { λ r. ⌜ Writes (now (out .entry)) (self .len)
+            (oneLineBytes (optionsOf options) (fieldsOf self))
             (now (out .exit)) r ⌝ }
     {
         let gap = self.indent_or_space(options);

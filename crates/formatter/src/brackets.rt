@@ -28,12 +28,14 @@ ghost use lib.ListN.{length};
 ghost use Rattle.rows.specs.Kinds.{LeftParen, RightParen, LeftBracket, RightBracket, Comma};
 ghost use Rattle.lookahead.specs.Measure.{shouldBreakList};
 ghost use Rattle.push_token.specs.Arms.{atRecordFields, inBrokenList, atSignature, breaksList};
-ghost use Rattle.push_token.specs.Arms.{openList, openGroup, breakSignature, openSignature, leftParenArm, leftBracketArm};
+ghost use Rattle.push_token.specs.Arms.{openList, openGroup, breakSignature};
+ghost use Rattle.push_token.specs.Arms.{openSignature, leftParenArm, leftBracketArm};
 ghost use Rattle.push_token.specs.Arms.{closeSignature, closeGroup, rightParenArm, rightBracketArm, commaArm};
 ghost use Rattle.push_token.specs.PushToken.{overflows};
 ghost use Rattle.formatter.specs.Pen.{on, fieldsOf, fieldsOn, optionsOf, signatureOf};
 ghost use Rattle.formatter.specs.Does.{Done, Puts};
-ghost use Rattle.formatter.specs.Token.{Fits, Writable, Ready, StackRoom, InRows, Ahead, Here, bareToken, lexemeOf, depthOf};
+ghost use Rattle.formatter.specs.Token.{Fits, Writable, Ready, StackRoom, InRows};
+ghost use Rattle.formatter.specs.Token.{Ahead, Here, bareToken, lexemeOf, depthOf};
 ghost use Rattle.formatter.specs.Parts.{closesSignature, closeList};
 
 impl Formatter {
@@ -53,7 +55,8 @@ impl Formatter {
         ensures { λ r. ⌜ Here token (now (rows .entry)) (now (text .entry))
             (λ t ts. overflows (optionsOf options) t ts (fieldsOn self (now (stack .entry))) ≡ false
             → Done (leftParenArm (optionsOf options) (token .index) t ts)
-            (on self (now (stack .entry)) (now (out .entry))) (on r (now (stack .exit)) (now (out .exit)))) ⌝ }
+            (on self (now (stack .entry)) (now (out .entry)))
+            (on r (now (stack .exit)) (now (out .exit)))) ⌝ }
     {
         if self.at_signature() {
             self = self.open_signature(options, out, rows, text, token);
@@ -126,7 +129,8 @@ impl Formatter {
     fn break_signature(mut self, options: Options, out: &mut [u8], index: u32) -> Self
         requires { ⌜ Ready options self (now out) ⌝ }
         requires { ⌜ index < 4294967295 ⌝ }
-        ensures { λ r. ⌜ Puts (breakSignature (optionsOf options) index) self (now (out .entry)) r (now (out .exit)) ⌝ }
+        ensures { λ r. ⌜ Puts (breakSignature (optionsOf options) index)
+            self (now (out .entry)) r (now (out .exit)) ⌝ }
     {
         self.indent = self.indent + 1;
         let spaces = self.indent_size(options);
@@ -161,7 +165,8 @@ impl Formatter {
         ensures { λ r. ⌜ (self .«break_count» < 64
             → Done (openList (optionsOf options) (token .index)
             (bareToken kind (lexemeOf token (now (rows .entry)) (now (text .entry)))))
-            (on self (now (stack .entry)) (now (out .entry))) (on r (now (stack .exit)) (now (out .exit)))) ⌝ }
+            (on self (now (stack .entry)) (now (out .entry)))
+            (on r (now (stack .exit)) (now (out .exit)))) ⌝ }
     {
         self = self.emit_token_text(options, out, rows, text, token, kind, Tail::Feed);
         let count = self.break_count;
@@ -217,7 +222,8 @@ impl Formatter {
         ensures { λ r. ⌜ Here token (now (rows .entry)) (now (text .entry))
             (λ t ts. overflows (optionsOf options) t ts (fieldsOn self (now (stack .entry))) ≡ false
             → Done (leftBracketArm (optionsOf options) (token .index) t ts)
-            (on self (now (stack .entry)) (now (out .entry))) (on r (now (stack .exit)) (now (out .exit)))) ⌝ }
+            (on self (now (stack .entry)) (now (out .entry)))
+            (on r (now (stack .exit)) (now (out .exit)))) ⌝ }
     {
         if self.breaks_list(options, ends, rows, token) {
             self = self.open_list(options, out, stack, rows, text, token, kinds::LEFT_BRACKET);
@@ -239,7 +245,8 @@ impl Formatter {
         requires { ⌜ Ready options self (now out) × StackRoom self (now stack) ⌝ }
         requires { ⌜ InRows token (now rows) (now text) × (token .kind ≡ RightParen) ⌝ }
         ensures { λ r. ⌜ Here token (now (rows .entry)) (now (text .entry))
-            (λ t ts. Done (rightParenArm (optionsOf options) t) (on self (now (stack .entry)) (now (out .entry)))
+            (λ t ts. Done (rightParenArm (optionsOf options) t)
+            (on self (now (stack .entry)) (now (out .entry)))
             (on r (now (stack .entry)) (now (out .exit)))) ⌝ }
     {
         if self.closes_signature() {
@@ -271,7 +278,8 @@ impl Formatter {
     // `)` of a broken signature or list.
     pub fn closes_broken(self, stack: &[u32]) -> bool
         requires { ⌜ StackRoom self (now stack) ⌝ }
-        ensures { λ r. ⌜ r ≡ closesSignature (fieldsOf self) || inBrokenList (fieldsOn self (now (stack .entry))) ⌝ }
+        ensures { λ r. ⌜ r ≡ closesSignature (fieldsOf self)
+            || inBrokenList (fieldsOn self (now (stack .entry))) ⌝ }
     {
         if self.closes_signature() {
             return true;
@@ -282,7 +290,8 @@ impl Formatter {
     // `)` stays at the indent of the params; the indent goes after it.
     fn close_signature(mut self, options: Options, out: &mut [u8]) -> Self
         requires { ⌜ Fits options self (now out) ⌝ }
-        ensures { λ r. ⌜ Puts (closeSignature (optionsOf options)) self (now (out .entry)) r (now (out .exit)) ⌝ }
+        ensures { λ r. ⌜ Puts (closeSignature (optionsOf options))
+            self (now (out .entry)) r (now (out .exit)) ⌝ }
     {
         let spaces = self.indent_size(options);
         let len = write_closer(out, self.len, false, self.at_line_start, spaces, b')');
@@ -362,7 +371,8 @@ impl Formatter {
         requires { ⌜ Ready options self (now out) × StackRoom self (now stack) ⌝ }
         requires { ⌜ InRows token (now rows) (now text) × (token .kind ≡ RightBracket) ⌝ }
         ensures { λ r. ⌜ Here token (now (rows .entry)) (now (text .entry))
-            (λ t ts. Done (rightBracketArm (optionsOf options) t) (on self (now (stack .entry)) (now (out .entry)))
+            (λ t ts. Done (rightBracketArm (optionsOf options) t)
+            (on self (now (stack .entry)) (now (out .entry)))
             (on r (now (stack .entry)) (now (out .exit)))) ⌝ }
     {
         if self.in_broken_list(stack) {
@@ -387,7 +397,8 @@ impl Formatter {
         requires { ⌜ InRows token (now rows) (now text) × (token .kind ≡ Comma) ⌝ }
         ensures { λ r. ⌜ Here token (now (rows .entry)) (now (text .entry))
             (λ t ts. Done (commaArm (optionsOf options) (token .index) t)
-            (on self (now (stack .entry)) (now (out .entry))) (on r (now (stack .entry)) (now (out .exit)))) ⌝ }
+            (on self (now (stack .entry)) (now (out .entry)))
+            (on r (now (stack .entry)) (now (out .exit)))) ⌝ }
     {
         if self.breaks_comma(stack) {
             let len = write_comma_line(out, self.len);
@@ -406,7 +417,8 @@ impl Formatter {
     // A record's field or a broken list's item ends its line.
     pub fn breaks_comma(self, stack: &[u32]) -> bool
         requires { ⌜ StackRoom self (now stack) ⌝ }
-        ensures { λ r. ⌜ r ≡ atRecordFields (fieldsOf self) || inBrokenList (fieldsOn self (now (stack .entry))) ⌝ }
+        ensures { λ r. ⌜ r ≡ atRecordFields (fieldsOf self)
+            || inBrokenList (fieldsOn self (now (stack .entry))) ⌝ }
     {
         if self.at_record_fields() {
             return true;

@@ -100,7 +100,8 @@ impl Formatter {
             (λ t ts. (x : Aside) → x .inlineClose ≡ «inline_close»
             → overflows (optionsOf options) t ts (fieldsOn self (now (stack .entry))) ≡ false
             → Does (arm (optionsOf options) (token .index) t ts) x
-            (on self (now (stack .entry)) (now (out .entry))) (on r (now (stack .exit)) (now (out .exit)))) ⌝ }
+            (on self (now (stack .entry)) (now (out .entry)))
+            (on r (now (stack .exit)) (now (out .exit)))) ⌝ }
     {
         let kind = token.kind;
         match kind {
@@ -182,7 +183,8 @@ impl Formatter {
     // Where the next token's rows start, and its index. Behind `record E {}` the `}` was taken along.
     fn next_place(self, rows: &[u8], token: TokenAt, bare: bool) -> Place
         requires { ⌜ (token .next ≤ length (now rows)) × (token .index < 4294967294) ⌝ }
-        requires { ⌜ (tookNext (token .kind) (self .prev .kind) ≡ true → NextToken (now rows) (token .next) bare) ⌝ }
+        requires { ⌜ (tookNext (token .kind) (self .prev .kind) ≡ true
+            → NextToken (now rows) (token .next) bare) ⌝ }
         ensures { λ r. ⌜ NextPlace (now (rows .entry)) token (tookNext (token .kind) (self .prev .kind)) r ⌝ }
     {
         let at = token.next;

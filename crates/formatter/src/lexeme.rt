@@ -24,7 +24,8 @@ ghost use Rattle.push_token.specs.Arms.{elseArm, elseOnNewLine, otherArm};
 ghost use Rattle.sink.specs.Tail.{tailBytes};
 ghost use Rattle.formatter.specs.Pen.{Aside, on, fieldsOf, formatterOf, optionsOf, signatureOf};
 ghost use Rattle.formatter.specs.Does.{Does, Puts};
-ghost use Rattle.formatter.specs.Token.{Writable, Ready, InRows, Kept, Here, bareToken, lexemeOf, kindOf};
+ghost use Rattle.formatter.specs.Token.{Writable, Ready, InRows, Kept};
+ghost use Rattle.formatter.specs.Token.{Here, bareToken, lexemeOf, kindOf};
 ghost use Rattle.formatter.specs.Parts.{gapSize, indentOrSpaceSize, emitTail};
 
 impl Formatter {
@@ -41,7 +42,8 @@ impl Formatter {
         requires { ⌜ InRows token (now rows) (now text) × (token .kind ≡ Else) ⌝ }
         ensures { λ r. ⌜ Here token (now (rows .entry)) (now (text .entry))
             (λ t ts. (s : List ℕ) (x : Aside) → x .inlineClose ≡ «inline_close»
-            → Does (elseArm (optionsOf options) t) x (on self s (now (out .entry))) (on r s (now (out .exit)))) ⌝ }
+            → Does (elseArm (optionsOf options) t) x (on self s (now (out .entry)))
+            (on r s (now (out .exit)))) ⌝ }
     {
         if self.else_on_new_line(inline_close) {
             let spaces = self.indent_size(options);

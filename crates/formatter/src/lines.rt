@@ -67,7 +67,8 @@ impl Formatter {
     // one-line block, and no third line feed.
     fn feeds(self, out: &[u8], rows: &[u8]) -> bool
         ensures { λ r. ⌜ ((s text : List ℕ) (x : Aside) → self .len ≤ length (now (out .entry))
-            → r ≡ feedsLine (tokensOf (now (rows .entry)) text) (stateOf x (on self s (now (out .entry))))) ⌝ }
+            → r ≡ feedsLine (tokensOf (now (rows .entry)) text) (stateOf x
+            (on self s (now (out .entry))))) ⌝ }
     {
         let len = self.len;
         if len == 0 {

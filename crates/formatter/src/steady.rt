@@ -60,9 +60,11 @@ impl Formatter {
         from: usize,
     ) -> Steady
         requires { ⌜ StackRoom self (now stack) × (kindOf (self .prev .kind) ≤ Other) ⌝ }
-        requires { ⌜ (self .len ≤ length (now out)) × ((from ≤ length (now rows)) × (length (now rows) % 16 ≡ from % 16)) ⌝ }
+        requires { ⌜ (self .len ≤ length (now out))
+            × ((from ≤ length (now rows)) × (length (now rows) % 16 ≡ from % 16)) ⌝ }
         requires { ⌜ onlyTokens (rowsOf (drop from (now rows))) ≡ true ⌝ }
-        requires { ⌜ InBounds (now text) (rowsOf (drop from (now rows))) × KnownKinds (rowsOf (drop from (now rows))) ⌝ }
+        requires { ⌜ InBounds (now text) (rowsOf (drop from (now rows)))
+            × KnownKinds (rowsOf (drop from (now rows))) ⌝ }
         ensures { λ r. ⌜ Stretched (now (rows .entry)) (now (text .entry)) from (self .len)
             (kindOf (self .prev .kind)) (self .«prev_minus_is_unary») (keepsCommas self (now (stack .entry)))
             (now (out .entry)) (now (out .exit)) r ⌝ }

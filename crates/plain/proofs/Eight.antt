@@ -17,7 +17,7 @@ use Rattle.pieces.specs.Sets.{all}
 use Rattle.pieces.specs.Eight.{eightAt, eightOnes}
 use Rattle.pieces.proofs.Eight.{Bytes, Each, same-each, and-each, or-each, xor-each, add-each, eight-test}
 use Rattle.plain.specs.Scan.{isWordByte, runOf}
-use Rattle.plain.specs.Eight.{bytesWithin}
+use Rattle.plain.specs.Eight.{bytesWithin, lettersIn, wordsIn}
 use Rattle.plain.proofs.Runs.{both-ends}
 
 -- ---- bits under a mask
@@ -65,15 +65,6 @@ and-both a b h =
     first e = ap (bitAnd a) (sym e ∙ bits-assoc a b h) ∙ sym (bits-assoc a a (bitAnd b h)) ∙ rw (and-self a) (sym (bits-assoc a b h) ∙ e)
 
 -- ---- the code's tests, of as many bytes as `ones` has the byte 1
-
--- letters but for the high bit
-abbrev pub lettersIn : ℕ → ℕ → ℕ
-lettersIn ones x = bytesWithin ones (bitOr (bitAnd x (127 * ones)) (32 * ones)) 97 122
-
-abbrev pub wordsIn : ℕ → ℕ → ℕ
-wordsIn ones x =
-    let low = bitAnd x (127 * ones) in
-    bitOr (bitOr (bitOr (lettersIn ones x) (bytesWithin ones low 48 57)) (bitXor low (32 * ones) + 1 * ones)) x
 
 -- the high bits alone
 abbrev pub highs : ℕ → ℕ → ℕ

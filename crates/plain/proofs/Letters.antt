@@ -17,7 +17,8 @@ use Rattle.pieces.specs.Sets.{all}
 use Rattle.pieces.specs.Eight.{eightOnes}
 use Rattle.pieces.proofs.Eight.{Bytes, Each, same-each, and-each, xor-each, eight-test}
 use Rattle.plain.specs.Scan.{isWordByte, runOf}
-use Rattle.plain.proofs.Eight.{lettersIn, wordsIn, highs, letters-each, highs-each, eight-words}
+use Rattle.plain.specs.Eight.{lettersIn, wordsIn}
+use Rattle.plain.proofs.Eight.{highs, letters-each, highs-each, eight-words}
 use Rattle.plain.proofs.Runs.{all-parts, both-ends}
 
 -- the code's test, of as many bytes as `ones` has the byte 1: with its high bit set a byte is no letter

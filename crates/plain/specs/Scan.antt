@@ -12,7 +12,7 @@ use Rattle.rows.specs.Row.{Row}
 use Rattle.rows.specs.Token.{bytesOf}
 use Rattle.pieces.specs.Class.{class, isWord}
 use Rattle.pieces.specs.Sets.{all}
-use Rattle.push_token.specs.Plain.{operatorByte, hasItsLexeme, readsWhole, beginsOperator, endsOperator, beginsDigit, tightBefore, tightBehind}
+use Rattle.push_token.specs.Plain.{hasItsLexeme, readsWhole, beginsOperator, endsOperator, beginsDigit, tightBefore, tightBehind}
 
 -- ---- what the clauses ask of the tokens before a token
 

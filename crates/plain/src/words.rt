@@ -5,7 +5,7 @@ use rows::number_at;
 ghost use mathlib.Core.Bool.{true, cond};
 ghost use mathlib.Core.Path.{_≡_};
 ghost use Prim.Native.Nat.{_+_, _-_, _*_, _≤_, min};
-ghost use lib.Bits.{bitAnd, bitOr, bitXor};
+ghost use lib.Bits.{bitAnd};
 ghost use lib.Dec.{eqb};
 ghost use lib.ListN.{length, take, drop};
 ghost use Rattle.report.specs.Bytes.{within};
@@ -13,7 +13,7 @@ ghost use Rattle.rows.specs.Row.{number};
 ghost use Rattle.pieces.specs.Sets.{all};
 ghost use Rattle.pieces.specs.Eight.{eightOnes};
 ghost use Rattle.plain.specs.Scan.{isWordByte, runOf};
-ghost use Rattle.plain.specs.Eight.{bytesWithin};
+ghost use Rattle.plain.specs.Eight.{bytesWithin, lettersIn, wordsIn};
 
 // Whether there are bytes, and all are word bytes. No loop tests a lexeme of one byte, or of four to sixteen.
 pub fn is_words(lexeme: &[u8]) -> bool
@@ -184,7 +184,8 @@ fn is_letters(s: &[u8]) -> bool
 // The first four and the last four bytes, which may overlap, in one number.
 fn fours(s: &[u8]) -> u64
     requires { ⌜ 4 ≤ length (now s) ⌝ }
-    ensures { λ r. ⌜ r ≡ number (now (s .entry)) 0 + number (now (s .entry)) (length (now (s .entry)) - 4) * 0x1_0000_0000 ⌝ }
+    ensures { λ r. ⌜ r ≡ number (now (s .entry)) 0
+        + number (now (s .entry)) (length (now (s .entry)) - 4) * 0x1_0000_0000 ⌝ }
 {
     let first = wide(number_at(s, 0));
     let last = wide(number_at(s, s.len() - 4));
@@ -205,10 +206,10 @@ fn all_high(x: u64) -> bool
     x & eights::HIGH == eights::HIGH
 }
 
-// Which bytes are word bytes: letters, digits, `_` and those with the high bit set. `_` with its bit of SMALL changed is 127: of the low
-// parts that one alone reaches the high bit when 1 is added.
+// Which bytes are word bytes: letters, digits, `_` and those with the high bit set. `_` with its bit of SMALL changed is
+// 127: of the low parts that one alone reaches the high bit when 1 is added.
 fn words_in(x: u64) -> u64
-    ensures { λ r. ⌜ (let low = bitAnd x (127 * eightOnes) in r ≡ bitOr (bitOr (bitOr (bytesWithin eightOnes (bitOr low (32 * eightOnes)) 97 122) (bytesWithin eightOnes low 48 57)) (bitXor low (32 * eightOnes) + eightOnes)) x) ⌝ }
+    ensures { λ r. ⌜ r ≡ wordsIn eightOnes x ⌝ }
 {
     let low = x & eights::LOW;
     letters_in(x) | bytes_within(low, b'0', b'9') | ((low ^ SMALL) + eights::ONES) | x
@@ -216,7 +217,7 @@ fn words_in(x: u64) -> u64
 
 // Which bytes are letters but for the high bit: each is made small first.
 fn letters_in(x: u64) -> u64
-    ensures { λ r. ⌜ r ≡ bytesWithin eightOnes (bitOr (bitAnd x (127 * eightOnes)) (32 * eightOnes)) 97 122 ⌝ }
+    ensures { λ r. ⌜ r ≡ lettersIn eightOnes x ⌝ }
 {
     bytes_within((x & eights::LOW) | SMALL, b'a', b'z')
 }

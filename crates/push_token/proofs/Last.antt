@@ -81,10 +81,6 @@ trailing (docComment c ∷ ts) = commented then trailing ts
 trailing (blockComment c ∷ ts) = commented then trailing ts
 trailing (blankLine ∷ ts) = idle then trailing ts
 
--- Leading trivia keep it.
-pub leads-told : (o : Options) (ls : List Trivia) (s : State) → Told (s .formatter) → Told (run (leadingTrivia o ls) s .formatter)
-leads-told o ls = leading o ls .told
-
 -- ---- the arms
 
 newline-arm : (i : ℕ) (ts : List Token) → Keeps (newlineArm i ts)

@@ -1,2 +1,2 @@
 // The layout of format.rs as a definition (specs/), demand 3 and the stated cases (proofs/). Its code is in the
-// crates `plain`, `walk` and those below `walk`; `format_tokens` is the call.
+// crates `plain`, `sink` and `formatter`; `format_tokens` is the call.

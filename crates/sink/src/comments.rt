@@ -37,7 +37,9 @@ pub fn write_lead(out: &mut [u8], len: usize, text: &[u8], row: Row) -> usize
 pub fn write_trail(out: &mut [u8], len: usize, text: &[u8], row: Row) -> usize
     requires { ⌜ Inside (now text) (rowOf row) ⌝ }
     requires { ⌜ row .kind < 3 ⌝ }
-    ensures { λ r. ⌜ Writes (now (out .entry)) len (trailHead (row .kind) ++ (bytesOf (now (text .entry)) (rowOf row) ++ trailTail (row .kind))) (now (out .exit)) r ⌝ }
+    ensures { λ r. ⌜ Writes (now (out .entry)) len
+        (trailHead (row .kind) ++ (bytesOf (now (text .entry)) (rowOf row) ++ trailTail (row .kind)))
+        (now (out .exit)) r ⌝ }
 {
     let headed = write_head(out, len, row.kind);
     let start = row.start as usize;

@@ -16,7 +16,8 @@ pub fn copy(out: &mut [u8], to: usize, text: &[u8], from: usize, size: usize)
     requires { ⌜ 2 ≤ size ⌝ }
     requires { ⌜ from + size ≤ length (now text) ⌝ }
     requires { ⌜ to + size ≤ length (now out) ⌝ }
-    ensures { λ r. ⌜ Writes (now (out .entry)) to (slice from (from + size) (now (text .entry))) (now (out .exit)) (to + size) ⌝ }
+    ensures { λ r. ⌜ Writes (now (out .entry)) to (slice from (from + size) (now (text .entry)))
+        (now (out .exit)) (to + size) ⌝ }
 {
     if size < FOUR {
         copy_twos(out, to, text, from, size);
@@ -29,11 +30,12 @@ pub fn copy(out: &mut [u8], to: usize, text: &[u8], from: usize, size: usize)
     copy_eights(out, to, text, from, size);
 }
 
-// The same byte by byte. `write_part` takes it: with the eights there, the whole layout counted more instructions.
+// The same byte by byte, for the bytes of comments.
 pub fn copy_bytes(out: &mut [u8], to: usize, text: &[u8], from: usize, size: usize)
     requires { ⌜ from + size ≤ length (now text) ⌝ }
     requires { ⌜ to + size ≤ length (now out) ⌝ }
-    ensures { λ r. ⌜ Writes (now (out .entry)) to (slice from (from + size) (now (text .entry))) (now (out .exit)) (to + size) ⌝ }
+    ensures { λ r. ⌜ Writes (now (out .entry)) to (slice from (from + size) (now (text .entry)))
+        (now (out .exit)) (to + size) ⌝ }
 {
     for i in 0..size {
         let at = to + i;
@@ -47,7 +49,8 @@ fn copy_twos(out: &mut [u8], to: usize, text: &[u8], from: usize, size: usize)
     requires { ⌜ (2 ≤ size) × (size ≤ 4) ⌝ }
     requires { ⌜ from + size ≤ length (now text) ⌝ }
     requires { ⌜ to + size ≤ length (now out) ⌝ }
-    ensures { λ r. ⌜ Writes (now (out .entry)) to (slice from (from + size) (now (text .entry))) (now (out .exit)) (to + size) ⌝ }
+    ensures { λ r. ⌜ Writes (now (out .entry)) to (slice from (from + size) (now (text .entry)))
+        (now (out .exit)) (to + size) ⌝ }
 {
     let last = size - 2;
     copy_two(out, to, text, from);
@@ -59,7 +62,8 @@ fn copy_fours(out: &mut [u8], to: usize, text: &[u8], from: usize, size: usize)
     requires { ⌜ (4 ≤ size) × (size ≤ 8) ⌝ }
     requires { ⌜ from + size ≤ length (now text) ⌝ }
     requires { ⌜ to + size ≤ length (now out) ⌝ }
-    ensures { λ r. ⌜ Writes (now (out .entry)) to (slice from (from + size) (now (text .entry))) (now (out .exit)) (to + size) ⌝ }
+    ensures { λ r. ⌜ Writes (now (out .entry)) to (slice from (from + size) (now (text .entry)))
+        (now (out .exit)) (to + size) ⌝ }
 {
     let last = size - FOUR;
     copy_four(out, to, text, from);
@@ -71,7 +75,8 @@ fn copy_eights(out: &mut [u8], to: usize, text: &[u8], from: usize, size: usize)
     requires { ⌜ 8 ≤ size ⌝ }
     requires { ⌜ from + size ≤ length (now text) ⌝ }
     requires { ⌜ to + size ≤ length (now out) ⌝ }
-    ensures { λ r. ⌜ Writes (now (out .entry)) to (slice from (from + size) (now (text .entry))) (now (out .exit)) (to + size) ⌝ }
+    ensures { λ r. ⌜ Writes (now (out .entry)) to (slice from (from + size) (now (text .entry)))
+        (now (out .exit)) (to + size) ⌝ }
 {
     let last = size - EIGHT;
     let mut i = 0;
@@ -95,7 +100,8 @@ fn least(a: usize, b: usize) -> usize
 fn copy_two(out: &mut [u8], to: usize, text: &[u8], from: usize)
     requires { ⌜ from + 2 ≤ length (now text) ⌝ }
     requires { ⌜ to + 2 ≤ length (now out) ⌝ }
-    ensures { λ r. ⌜ Writes (now (out .entry)) to (slice from (from + 2) (now (text .entry))) (now (out .exit)) (to + 2) ⌝ }
+    ensures { λ r. ⌜ Writes (now (out .entry)) to (slice from (from + 2) (now (text .entry)))
+        (now (out .exit)) (to + 2) ⌝ }
 {
     let b0 = text[from];
     let b1 = text[from + 1];
@@ -106,7 +112,8 @@ fn copy_two(out: &mut [u8], to: usize, text: &[u8], from: usize)
 fn copy_four(out: &mut [u8], to: usize, text: &[u8], from: usize)
     requires { ⌜ from + 4 ≤ length (now text) ⌝ }
     requires { ⌜ to + 4 ≤ length (now out) ⌝ }
-    ensures { λ r. ⌜ Writes (now (out .entry)) to (slice from (from + 4) (now (text .entry))) (now (out .exit)) (to + 4) ⌝ }
+    ensures { λ r. ⌜ Writes (now (out .entry)) to (slice from (from + 4) (now (text .entry)))
+        (now (out .exit)) (to + 4) ⌝ }
 {
     let b0 = text[from];
     let b1 = text[from + 1];
@@ -121,7 +128,8 @@ fn copy_four(out: &mut [u8], to: usize, text: &[u8], from: usize)
 fn copy_eight(out: &mut [u8], to: usize, text: &[u8], from: usize)
     requires { ⌜ from + 8 ≤ length (now text) ⌝ }
     requires { ⌜ to + 8 ≤ length (now out) ⌝ }
-    ensures { λ r. ⌜ Writes (now (out .entry)) to (slice from (from + 8) (now (text .entry))) (now (out .exit)) (to + 8) ⌝ }
+    ensures { λ r. ⌜ Writes (now (out .entry)) to (slice from (from + 8) (now (text .entry)))
+        (now (out .exit)) (to + 8) ⌝ }
 {
     let b0 = text[from];
     let b1 = text[from + 1];

@@ -11,7 +11,8 @@ ghost use Rattle.push_token.specs.Arms.{endsWithTwoFeeds, nextIs};
 
 // Whether the text so far ends with two line feeds.
 pub fn ends_with_two_feeds(out: &[u8], len: usize) -> bool
-    ensures { λ r. ⌜ (len ≤ length (now (out .entry)) → r ≡ endsWithTwoFeeds (take len (now (out .entry)))) ⌝ }
+    ensures { λ r. ⌜ (len ≤ length (now (out .entry))
+        → r ≡ endsWithTwoFeeds (take len (now (out .entry)))) ⌝ }
 {
     if len < 2 {
         return false;

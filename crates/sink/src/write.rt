@@ -235,7 +235,8 @@ pub fn write_spaces(out: &mut [u8], len: usize, n: usize) -> usize
 // The bytes of `text` from `start` to `end`.
 pub fn write_part(out: &mut [u8], len: usize, text: &[u8], start: usize, end: usize) -> usize
     requires { ⌜ (start ≤ end) × (end ≤ length (now text)) ⌝ }
-    ensures { λ r. ⌜ Writes (now (out .entry)) len (slice start end (now (text .entry))) (now (out .exit)) r ⌝ }
+    ensures { λ r. ⌜ Writes (now (out .entry)) len (slice start end (now (text .entry)))
+        (now (out .exit)) r ⌝ }
 {
     let size = out.len();
     let n = end - start;
