@@ -18,6 +18,8 @@ pub mod Lone
 pub mod Turn
 pub mod SteadyTurn
 pub mod Along
+pub mod Brace
+pub mod Inline
 pub mod Going
 pub mod Ahead
 pub mod Loop

@@ -37,7 +37,9 @@ use Rattle.formatter.specs.Token.{Ready, StackRoom, InRows, Here, kindOf
 use Rattle.formatter.specs.Trivia.{Part, triviaIn, leadToken}
 use Rattle.formatter.specs.Parts.{returnsEarly, tookNext}
 use Rattle.formatter.specs.declared.steady.Steady as code
-use Rattle.formatter.specs.Steady.{MayBegin, KnownKinds, Stretched, behind, keepsCommas}
+use Rattle.formatter.specs.Steady.{MayBegin, KnownKinds, Stretched, Changed, behind, keepsCommas}
+use Rattle.formatter.specs.declared.nested.Braces.{Braces}
+use Rattle.formatter.specs.Nested.{MayNest, Braced, atBraces, behindBraces, placeOf}
 use Rattle.formatter.specs.Format.{Fresh, Walks, TokenRows, NextToken, NextPlace, walkOf, onlyTokens, ownRow, nextRow}
 use Rattle.formatter.proofs.Does.{seq, updated}
 use Rattle.formatter.proofs.Asides.{Same, lead-same}
@@ -45,8 +47,9 @@ use Rattle.formatter.proofs.Turned.{trailToken, led, turns, trails, tra
 use Rattle.formatter.proofs.Comments.{no-trivia}
 use Rattle.formatter.proofs.Place.{tokenHere, tokensNext, head-next, stands, leading-is, trailing-is, in-rows, next-token, leads}
 use Rattle.formatter.proofs.Going.{Going, starts, few-tokens, depth-signature, leads-full, lead-fits, leads-deep, fit, goes-full, goes-on}
-use Rattle.formatter.proofs.Ahead.{kind-known, next-there, skips, only-at, last-known, stretches}
+use Rattle.formatter.proofs.Ahead.{kind-known, next-there, skips, only-at, last-known, stretches, nests}
 use Rattle.formatter.proofs.Along.{steady-of, kinds-known}
+use Rattle.formatter.proofs.Inline.{inline-of}
 use Rattle.formatter.proofs.Stack.{top-length}
 
 -- ---- the invariant: nothing is being skipped
@@ -314,35 +317,74 @@ module _ (options : Options) {rows text : List ℕ} {k₀ l₀ k l : List ℕ} {
               (λ c. let a = rw c at (π .at) in let b = next-is in omega arith)
               (λ c. let a = rw c at (π .at) in let b = next-is in omega arith)
 
--- ---- tokens that only write their lexeme
+-- ---- tokens that a second form lays out
 
-module _ {rows text : List ℕ} {o : Options.Options} {k₀ l₀ k l : List ℕ} {f : Formatter} {i at : ℕ} {bare : Bool} (ω : Walks rows text) (ι : Loop rows text o k₀ l₀ i at (on f k l)) (only : bare ≡ true → onlyTokens (rowsOf rows) ≡ true) (ρ : MayBegin f bare) where
-  only-here : onlyTokens (rowsOf (drop at rows)) ≡ true
-  only-here = only-at rows at (ι .going .head .whole) (only (ρ .bare))
+module _ {rows text : List ℕ} {o : Options.Options} {k₀ l₀ k l : List ℕ} {f : Formatter} {i at : ℕ} {bare : Bool} (ω : Walks rows text) (ι : Loop rows text o k₀ l₀ i at (on f k l)) (only : bare ≡ true → onlyTokens (rowsOf rows) ≡ true) where
+  last-kind : kindOf (f .prev .kind) ≤ Other
+  last-kind = rw (kinds-same (f .prev .kind)) at (ι .going .told .last)
 
-  pub steady-room : StackRoom f k × (kindOf (f .prev .kind) ≤ Other)
-  steady-room = (record { most = ι .going .entries; size = ι .going .stack }, rw (kinds-same (f .prev .kind)) at (ι .going .told .last))
+  -- the rows up to a later place are few
+  pub past-within : {to : ℕ} → to ≡ at + 16 * ((to - at) / 16) → to ≤ length rows → (at ≤ to) × (to ≤ 1048560)
+  past-within w h = (omega arith, let b = ω .few in omega arith)
 
-  pub steady-place : (f .len ≤ length l) × ((at ≤ length rows) × (length rows % 16 ≡ at % 16))
-  steady-place = (ι .going .room, (ι .going .head .within, let a = ω .whole in let b = ι .going .head .whole in omega arith))
+  pub past-few : {to : ℕ} → to ≡ at + 16 * ((to - at) / 16) → to ≤ length rows → i + (to - at) / 16 ≤ 65535
+  past-few w h = let a = ι .going .index in let d = ω .few in omega arith
 
-  pub steady-rows : (onlyTokens (rowsOf (drop at rows)) ≡ true) × (InBounds text (rowsOf (drop at rows)) × KnownKinds (rowsOf (drop at rows)))
-  steady-rows =
-      let η = ι .going .head .checked in
-      (only-here, (in-bounds text (η .before) (η .number) (rowsOf (drop at rows)) (η .good), kinds-known (length text) (η .before) (η .number) (rowsOf (drop at rows)) (η .good) only-here))
+  -- the loop goes on with the state g and the output m, at the row n, which is not before this one, and the token j
+  pub record On (g : Formatter) (m : List ℕ) (n j : ℕ) : Type 0 where
+    pub inv : Loop rows text o k₀ l₀ j n (on g k m)
+    pub far : at ≤ n
 
-  module _ {m : List ℕ} {r : code.Steady} (σ : Stretched rows text at (f .len) (kindOf (f .prev .kind)) (f .«prev_minus_is_unary») (keepsCommas f k) l m r) where
-    -- g is f with the length and the last kind behind them
-    pub steadied : {g : Formatter} → ((y : Aside) → formatterOf g k y ≡ definition.setPrev (some (r .prev)) (formatterOf f k y)) → g .len ≡ r .len → g .commas ≡ f .commas → g .«break_count» ≡ f .«break_count» → g .«sig_break_depth» ≡ f .«sig_break_depth» → Loop rows text o k₀ l₀ (i + (r .at - at) / 16) (r .at) (on g k m)
-    steadied form len commas count signature =
+  pub on-same : {g g₀ : Formatter} {m m₀ : List ℕ} {n n₀ j j₀ : ℕ} → g ≡ g₀ → m ≡ m₀ → n ≡ n₀ → j ≡ j₀ → On g₀ m₀ n₀ j₀ → On g m n j
+  on-same a b c d h = rw (a, b, c, d) h
+
+  pub stays-on : On f l at i
+  stays-on = record { inv = ι; far = omega arith }
+
+  -- those that only write their lexeme
+
+  module _ (ρ : MayBegin f bare) where
+    steady-only : onlyTokens (rowsOf (drop at rows)) ≡ true
+    steady-only = only-at rows at (ι .going .head .whole) (only (ρ .bare))
+
+    pub steady-room : StackRoom f k × (kindOf (f .prev .kind) ≤ Other)
+    steady-room = (record { most = ι .going .entries; size = ι .going .stack }, last-kind)
+
+    pub steady-place : (f .len ≤ length l) × ((at ≤ length rows) × (length rows % 16 ≡ at % 16))
+    steady-place = (ι .going .room, (ι .going .head .within, let a = ω .whole in let b = ι .going .head .whole in omega arith))
+
+    pub steady-rows : (onlyTokens (rowsOf (drop at rows)) ≡ true) × (InBounds text (rowsOf (drop at rows)) × KnownKinds (rowsOf (drop at rows)))
+    steady-rows =
+        let η = ι .going .head .checked in
+        (steady-only, (in-bounds text (η .before) (η .number) (rowsOf (drop at rows)) (η .good), kinds-known (length text) (η .before) (η .number) (rowsOf (drop at rows)) (η .good) steady-only))
+
+    pub steadied : {m : List ℕ} {r : code.Steady} {g : Formatter} {d : ℕ} → Stretched rows text at (f .len) (kindOf (f .prev .kind)) (f .«prev_minus_is_unary») (keepsCommas f k) l m r → Changed (definition.setPrev (some (r .prev))) (r .len) f g → d ≡ (r .at - at) / 16 → On g m (r .at) (i + d)
+    steadied {r = r} σ β e =
         record {
-          aside = asideOf (behind (ltb at (r .at)) (r .prev) (formatterOf f k (ι .aside)));
-          going = stretches ω (ι .going) (only (ρ .bare)) (steady-of ρ k (ι .aside) (last-known ω (ι .going) (ρ .mid-line)) (ι .no-skip) (ι .going .shallow)) σ (form _) len commas count signature;
-          no-skip = ι .no-skip;
+          inv =
+              rw e
+              (record {
+                aside = asideOf (behind (ltb at (r .at)) (r .prev) (formatterOf f k (ι .aside)));
+                going = stretches ω (ι .going) (only (ρ .bare)) (steady-of ρ k (ι .aside) (last-known ω (ι .going) (ρ .mid-line)) (ι .no-skip) (ι .going .shallow)) σ β;
+                no-skip = ι .no-skip;
+              });
+          far = let a = σ .whole in omega arith;
         }
 
-    pub steady-within : (at ≤ r .at) × (r .at ≤ 1048560)
-    steady-within = (let a = σ .whole in omega arith, let a = σ .within in let b = ω .few in omega arith)
+  -- braces of a one-line block
 
-    pub steady-few : i + (r .at - at) / 16 ≤ 65535
-    steady-few = let a = ι .going .index in let b = σ .whole in let c = σ .within in let d = ω .few in omega arith
+  module _ (ρ : MayNest f bare) where
+    pub nested-place : (at ≤ length rows) × (f .len ≤ length l)
+    nested-place = (ι .going .head .within, ι .going .room)
+
+    pub nested-rows : (onlyTokens (rowsOf (drop at rows)) ≡ true) × (f .«inline_depth» .0 + length rows < 18446744073709551616)
+    nested-rows =
+        (only-at rows at (ι .going .head .whole) (only (ρ .bare)), let a = ι .going .counts .inline in let b = few-tokens ω (ι .going) in let c = ω .few in omega arith)
+
+    pub nested-on : {m : List ℕ} {r : Braces} {g : Formatter} → Braced rows (placeOf f at) l m r → Changed (atBraces r) (r .len) f g → Loop rows text o k₀ l₀ (i + (r .at - at) / 16) (r .at) (on g k m)
+    nested-on {r = r} σ β =
+        record {
+          aside = asideOf (behindBraces (ltb at (r .at)) (σ .close) r (formatterOf f k (ι .aside)));
+          going = nests ω (ι .going) (only (ρ .bare)) (inline-of ρ at k (ι .aside) (last-known ω (ι .going) (ρ .mid-line)) (ι .no-skip) (ι .going .shallow)) σ last-kind β;
+          no-skip = ι .no-skip;
+        }

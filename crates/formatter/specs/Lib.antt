@@ -5,3 +5,4 @@ pub mod Parts
 pub mod Trivia
 pub mod Format
 pub mod Steady
+pub mod Nested

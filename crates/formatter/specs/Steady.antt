@@ -18,7 +18,7 @@ use Rattle.push_token.specs.Arms.{atRecordFields, inBrokenList}
 use Rattle.push_token.specs.Layout.{finished, layFrom}
 use Rattle.formatter.specs.declared.Formatter as code
 use Rattle.formatter.specs.declared.steady.Steady as code-steady
-use Rattle.formatter.specs.Pen.{fieldsOf, fieldsOn}
+use Rattle.formatter.specs.Pen.{Aside, fieldsOf, fieldsOn, formatterOf}
 
 -- a kind of the last arm but Minus, Fn and Record; and Comma, where it does not break
 unfoldable pub onlyWrites : Bool → ℕ → Bool
@@ -60,6 +60,14 @@ pub record Steady (f : Formatter) (p : ℕ) (unary commas : Bool) : Type 0 where
 -- the state behind them: the last kind, and what each token takes anew, if there was one
 abbrev pub behind : Bool → ℕ → Formatter → Formatter
 behind taken k f = setPrev (some k) (setInlineClose (not taken && f .inlineClose) (setReturned (not taken && f .returned) f))
+
+-- g is the code's state f with the change, and a text of the length n
+pub record Changed (change : Formatter → Formatter) (n : ℕ) (f g : code.Formatter) : Type 0 where
+  pub form : (stack : List ℕ) (x : Aside) → formatterOf g stack x ≡ change (formatterOf f stack x)
+  pub len : g .len ≡ n
+  pub commas : g .commas ≡ f .commas
+  pub count : g .«break_count» ≡ f .«break_count»
+  pub signature : g .«sig_break_depth» ≡ f .«sig_break_depth»
 
 -- from the row at `from`, the length n and the output l, such tokens come to r and the output m
 pub record Stretched (rows text : List ℕ) (from n prev : ℕ) (unary commas : Bool) (l m : List ℕ) (r : code-steady.Steady) : Type 0 where

@@ -4,7 +4,6 @@ use crate::Formatted;
 use crate::Formatter;
 use crate::Options;
 use crate::TokenAt;
-use crate::ended_by;
 use crate::token::Place;
 use crate::token::ends_of;
 use crate::token::rows_between;
@@ -48,7 +47,6 @@ impl Formatter {
         let mut index: u32 = 0;
         while at < rows.len() {
             let token = token_at(rows, at, index, bare);
-            let kind = token.kind;
             let inline_close = self.takes_inline_close(token);
             self = self.push_leading(options, out, rows, text, token);
             if out.len() < self.len {
@@ -62,7 +60,7 @@ impl Formatter {
             if trails {
                 self = self.push_trailing(out, rows, text, token);
             }
-            let state = self.track_fn_state(kind);
+            let state = self.track_fn_state(token.kind);
             self.fn_state = state;
             if out.len() < self.len {
                 return Formatted::Full(index as usize);
@@ -72,11 +70,15 @@ impl Formatter {
             index = next.index;
             if self.is_steady(bare) {
                 let ahead = self.push_steady(out, stack, rows, text, at);
-                let prev = ended_by(ahead.prev);
-                self.len = ahead.len;
-                self.prev = prev;
+                self = self.behind_steady(ahead);
                 index += rows_between(at, ahead.at);
                 at = ahead.at;
+            }
+            if self.is_nested(bare, rows, at) {
+                let braces = self.push_nested(out, rows, at);
+                self = self.behind_braces(braces);
+                index += rows_between(at, braces.at);
+                at = braces.at;
             }
         }
         Formatted::Finished(self.len, self.commas)

@@ -15,6 +15,7 @@ pub mod brackets;
 pub mod format;
 pub mod lexeme;
 pub mod lines;
+pub mod nested;
 pub mod steady;
 pub mod token;
 pub mod trivia;

@@ -1,6 +1,7 @@
 // Where the next tokens may only write their lexemes, they are laid out in a tight loop: a second form of their arms.
 use crate::Formatter;
 use crate::Prev;
+use crate::ended_by;
 use rows::ROW_BYTES;
 use rows::kinds;
 use rows::row_at;
@@ -8,15 +9,17 @@ use sink::put::put_token;
 use sink::space::spaces_between;
 use sink::space::tight_behind;
 ghost use mathlib.Core.Bool.{true};
+ghost use mathlib.Core.Option.{some};
 ghost use mathlib.Core.Path.{_≡_};
 ghost use Prim.Native.Nat.{_+_, _-_, _%_, _≤_, _<_};
 ghost use lib.ListN.{length, drop};
 ghost use Rattle.rows.specs.Kinds.{Other};
 ghost use Rattle.rows.specs.Row.{rowsOf};
 ghost use Rattle.rows.specs.Bounds.{InBounds};
+ghost use Rattle.push_token.specs.Formatter.{setPrev};
 ghost use Rattle.formatter.specs.Token.{StackRoom, kindOf};
 ghost use Rattle.formatter.specs.Format.{onlyTokens};
-ghost use Rattle.formatter.specs.Steady.{MayBegin, KnownKinds, Stretched, steadyKinds, keepsCommas};
+ghost use Rattle.formatter.specs.Steady.{MayBegin, KnownKinds, Stretched, Changed, steadyKinds, keepsCommas};
 
 // The kinds that only write their lexeme, as the bits of a number: Colon to BangHash, Identifier to Other.
 const STEADY: u64 = 0x7_ffc3_fe00;
@@ -95,6 +98,16 @@ impl Formatter {
         Steady { at, len, prev }
     }
 
+    // The state behind steady tokens.
+    pub fn behind_steady(mut self, ahead: Steady) -> Self
+        ensures { λ r. ⌜ Changed (setPrev (some (ahead .prev))) (ahead .len) self r ⌝ }
+    {
+        let prev = ended_by(ahead.prev);
+        self.len = ahead.len;
+        self.prev = prev;
+        self
+    }
+
     // The kinds that only write their lexeme; a Comma where it does not break its line.
     fn steady_kinds(self, stack: &[u32]) -> u64
         requires { ⌜ StackRoom self (now stack) ⌝ }
@@ -120,7 +133,7 @@ fn has_room(room: usize, space: usize, start: usize, end: usize) -> bool
 }
 
 // The last token's kind; 0 where there is none.
-fn kind_of(prev: Prev) -> u32
+pub fn kind_of(prev: Prev) -> u32
     ensures { λ r. ⌜ r ≡ kindOf prev ⌝ }
 {
     match prev {

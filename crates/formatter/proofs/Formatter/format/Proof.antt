@@ -1,5 +1,5 @@
 -- `formatter::Formatter::format` meets its contract. Assumes nothing.
-use Rattle.formatter.proofs.Loop.{Loop, Calls, written, left-out, begins, small-indent, its-rows, lead-size, full-lead, ready, stack-room, deep-at, turn-size, full-turn, next-bounds, next-there-too, placed, further, steady-room, steady-place, steady-rows, steadied, steady-within, steady-few}
+use Rattle.formatter.proofs.Loop.{Loop, Calls, written, left-out, begins, small-indent, its-rows, lead-size, full-lead, ready, stack-room, deep-at, turn-size, full-turn, next-bounds, next-there-too, placed, further, past-within, past-few, On, on-same, stays-on, steady-room, steady-place, steady-rows, steadied, nested-place, nested-rows, nested-on}
 use Rattle.formatter.proofs.Going.{laid-stopped, laid-done}
 use Rattle.formatter.proofs.Place.{ahead, leads, next-token, trails}
 use Rattle.formatter.specs.Pen.{on, optionsOf}
@@ -8,7 +8,7 @@ use lib.ListN.{length}
 use borrow.Author.Needs.{needs}
 use native.Mathlib.Omega.{arith}
 use Prim.Native.Nat.{_-_}
-use mathlib.Core.Path.{refl, _∙_}
+use mathlib.Core.Path.{_∙_}
 use mathlib.Core.Logic.{⊎-elim}
 use Rattle.formatter.proofs.Formatter.format.Statement.{statement}
 use Rattle.formatter.proofs.Formatter.format.Tie as tie
@@ -34,8 +34,8 @@ takes-inline-close-requires c κs = search needs
 push-leading-requires : tie.Need-push-leading-requires Inv-loop μ-loop
 push-leading-requires c κs = ((c .before .before .before .before .before .before .before .before .before .before .pre .0 .1, small-indent (c .before .before .before .before .before .before .before .before .before .before .args .options) (c .before .before .before .before .before .before .before .before .before .before .pre .1 .0) (c .before .before .before .before .loop .inv) (c .before .before .before .loop-test .taken) (c .before .before .token-at .ensures)), leads (c .before .before .before .before .before .before .before .before .before .before .pre .1 .0) (c .before .before .before .before .loop .inv .going .head) (c .before .before .before .loop-test .taken) (c .before .before .token-at .ensures))
 
-cast-t23 : tie.Need-cast-t23 Inv-loop μ-loop
-cast-t23 c = search needs
+cast-t22 : tie.Need-cast-t22 Inv-loop μ-loop
+cast-t22 c = search needs
 
 same-length : tie.Need-same-length Inv-loop μ-loop
 same-length c = lead-size (c .before .before .before .before .before .before .before .before .before .before .before .before .before .before .before .args .options) (c .before .before .before .before .before .before .before .before .before .before .before .before .before .before .before .pre .1 .0) (c .before .before .before .before .before .before .before .before .before .loop .inv) (c .before .before .before .before .before .before .before .before .loop-test .taken) (c .before .before .before .before .before .before .before .token-at .ensures) (c .before .before .before .before .push-leading .ensures)
@@ -49,8 +49,8 @@ returns c = laid-stopped full (full-lead (c .before .before .before .before .bef
 overflows-requires : tie.Need-overflows-requires Inv-loop μ-loop
 overflows-requires c κs = (let ρ = its-rows (c .before .before .before .before .before .before .before .before .before .before .before .before .before .before .before .args .options) (c .before .before .before .before .before .before .before .before .before .before .before .before .before .before .before .pre .1 .0) (c .before .before .before .before .before .before .before .before .before .loop .inv) (c .before .before .before .before .before .before .before .before .loop-test .taken) (c .before .before .before .before .before .before .before .token-at .ensures) in let a = ρ .lead in let b = ρ .own in let d = ρ .next in omega arith, ahead (c .before .before .before .before .before .before .before .before .before .before .before .before .before .before .before .pre .1 .0) (c .before .before .before .before .before .before .before .before .before .loop .inv .going .head) (c .before .before .before .before .before .before .before .before .loop-test .taken) (c .before .before .before .before .before .before .before .token-at .ensures) (c .before .before .before .before .before .before .before .before .before .before .ends-of .ensures))
 
-cast-t25 : tie.Need-cast-t25 Inv-loop μ-loop
-cast-t25 c = record { fits = let a = c .before .before .before .before .before .before .before .before .before .before .before .loop .inv .going .index in let b = c .before .before .before .before .before .before .before .before .before .before .before .loop .inv .going .head .within in let d = c .before .before .before .before .before .before .before .before .before .before .before .before .before .before .before .before .before .pre .1 .0 .few in omega arith }
+cast-t24 : tie.Need-cast-t24 Inv-loop μ-loop
+cast-t24 c = record { fits = let a = c .before .before .before .before .before .before .before .before .before .before .before .loop .inv .going .index in let b = c .before .before .before .before .before .before .before .before .before .before .before .loop .inv .going .head .within in let d = c .before .before .before .before .before .before .before .before .before .before .before .before .before .before .before .before .before .pre .1 .0 .few in omega arith }
 
 same-length-3 : tie.Need-same-length-3 Inv-loop μ-loop
 same-length-3 c = lead-size (c .before .before .before .before .before .before .before .before .before .before .before .before .before .before .before .before .before .args .options) (c .before .before .before .before .before .before .before .before .before .before .before .before .before .before .before .before .before .pre .1 .0) (c .before .before .before .before .before .before .before .before .before .before .before .loop .inv) (c .before .before .before .before .before .before .before .before .before .before .loop-test .taken) (c .before .before .before .before .before .before .before .before .before .token-at .ensures) (c .before .before .before .before .before .before .push-leading .ensures)
@@ -73,8 +73,8 @@ push-trailing-requires c κs = trails (c .before .before .before .before .before
 track-fn-state-requires : tie.Need-track-fn-state-requires Inv-loop μ-loop
 track-fn-state-requires c κs = search needs
 
-cast-t34 : tie.Need-cast-t34 Inv-loop μ-loop
-cast-t34 c = record { fits = let a = c .before .before .before .before .before .before .before .before .before .before .before .before .before .before .before .before .before .before .before .before .before .before .before .before .loop .inv .going .index in let b = c .before .before .before .before .before .before .before .before .before .before .before .before .before .before .before .before .before .before .before .before .before .before .before .before .loop .inv .going .head .within in let d = c .before .before .before .before .before .before .before .before .before .before .before .before .before .before .before .before .before .before .before .before .before .before .before .before .before .before .before .before .before .before .pre .1 .0 .few in omega arith }
+cast-t33 : tie.Need-cast-t33 Inv-loop μ-loop
+cast-t33 c = record { fits = let a = c .before .before .before .before .before .before .before .before .before .before .before .before .before .before .before .before .before .before .before .before .before .before .before .before .loop .inv .going .index in let b = c .before .before .before .before .before .before .before .before .before .before .before .before .before .before .before .before .before .before .before .before .before .before .before .before .loop .inv .going .head .within in let d = c .before .before .before .before .before .before .before .before .before .before .before .before .before .before .before .before .before .before .before .before .before .before .before .before .before .before .before .before .before .before .pre .1 .0 .few in omega arith }
 
 same-length-5 : tie.Need-same-length-5 Inv-loop μ-loop
 same-length-5 c = let κ : Calls _ _ _ _ _ _ _ _ _ _ _ _ _ _ _ _ _ = record { overflow = c .before .before .before .before .before .before .before .before .before .before .before .before .before .before .overflows .ensures _ _; calm = c .before .before .before .before .before .before .before .before .before .before .before .before .before .if2 .left; taken = c .before .before .before .before .before .before .before .before .before .before .before .before .before .before .before .before .before .before .before .before .before .takes-inline-close .ensures; trailing = c .before .before .before .before .before .before .before .before .before .before .before .writes-trailing .ensures _; arms = c .before .before .before .before .before .before .before .before .push-token .ensures; trailed = ⊎-elim (λ w. written (w .0 .taken) (w .2 .ensures) (w .5) (w .6)) (λ w. left-out (w .0 .left) (w .1) (w .2)) (c .before .before .before .if3 .came); tracked = c .before .before .track-fn-state .ensures } in turn-size (c .before .before .before .before .before .before .before .before .before .before .before .before .before .before .before .before .before .before .before .before .before .before .before .before .before .before .before .before .before .before .args .options) (c .before .before .before .before .before .before .before .before .before .before .before .before .before .before .before .before .before .before .before .before .before .before .before .before .before .before .before .before .before .before .pre .1 .0) (c .before .before .before .before .before .before .before .before .before .before .before .before .before .before .before .before .before .before .before .before .before .before .before .before .loop .inv) (c .before .before .before .before .before .before .before .before .before .before .before .before .before .before .before .before .before .before .before .before .before .before .before .loop-test .taken) (c .before .before .before .before .before .before .before .before .before .before .before .before .before .before .before .before .before .before .before .before .before .before .token-at .ensures) (c .before .before .before .before .before .before .before .before .before .before .before .before .before .before .before .before .before .before .before .push-leading .ensures) (c .before .before .before .before .before .before .before .before .before .before .before .before .before .before .before .if1 .left) κ
@@ -94,26 +94,41 @@ is-steady-requires c κs = search needs
 push-steady-requires : tie.Need-push-steady-requires Inv-loop μ-loop
 push-steady-requires c κs = let κ : Calls _ _ _ _ _ _ _ _ _ _ _ _ _ _ _ _ _ = record { overflow = c .before .before .before .before .before .before .before .before .before .before .before .before .before .before .before .before .before .before .before .overflows .ensures _ _; calm = c .before .before .before .before .before .before .before .before .before .before .before .before .before .before .before .before .before .before .if2 .left; taken = c .before .before .before .before .before .before .before .before .before .before .before .before .before .before .before .before .before .before .before .before .before .before .before .before .before .before .takes-inline-close .ensures; trailing = c .before .before .before .before .before .before .before .before .before .before .before .before .before .before .before .before .writes-trailing .ensures _; arms = c .before .before .before .before .before .before .before .before .before .before .before .before .before .push-token .ensures; trailed = ⊎-elim (λ w. written (w .0 .taken) (w .2 .ensures) (w .5) (w .6)) (λ w. left-out (w .0 .left) (w .1) (w .2)) (c .before .before .before .before .before .before .before .before .if3 .came); tracked = c .before .before .before .before .before .before .before .track-fn-state .ensures } in let ι = placed (c .before .before .before .before .before .before .before .before .before .before .before .before .before .before .before .before .before .before .before .before .before .before .before .before .before .before .before .before .before .before .before .before .before .before .before .args .options) (c .before .before .before .before .before .before .before .before .before .before .before .before .before .before .before .before .before .before .before .before .before .before .before .before .before .before .before .before .before .before .before .before .before .before .before .pre .1 .0) (c .before .before .before .before .before .before .before .before .before .before .before .before .before .before .before .before .before .before .before .before .before .before .before .before .before .before .before .before .before .loop .inv) (c .before .before .before .before .before .before .before .before .before .before .before .before .before .before .before .before .before .before .before .before .before .before .before .before .before .before .before .before .loop-test .taken) (c .before .before .before .before .before .before .before .before .before .before .before .before .before .before .before .before .before .before .before .before .before .before .before .before .before .before .before .token-at .ensures) (c .before .before .before .before .before .before .before .before .before .before .before .before .before .before .before .before .before .before .before .before .before .before .before .before .push-leading .ensures) (c .before .before .before .before .before .before .before .before .before .before .before .before .before .before .before .before .before .before .before .before .if1 .left) κ (c .before .before .before .before .before .if4 .left) (c .before .before .before .before .before .before .before .before .before .before .stack .given) (c .before .before .before .before .next-place .ensures) in (steady-room (c .before .before .before .before .before .before .before .before .before .before .before .before .before .before .before .before .before .before .before .before .before .before .before .before .before .before .before .before .before .before .before .before .before .before .before .pre .1 .0) ι (c .before .before .before .before .before .before .before .before .before .before .before .before .before .before .before .before .before .before .before .before .before .before .before .before .before .before .before .before .before .before .before .before .before .before .before .pre .1 .1) (c .before .before .before .is-steady .ensures (c .before .before .if5 .taken)), (steady-place (c .before .before .before .before .before .before .before .before .before .before .before .before .before .before .before .before .before .before .before .before .before .before .before .before .before .before .before .before .before .before .before .before .before .before .before .pre .1 .0) ι (c .before .before .before .before .before .before .before .before .before .before .before .before .before .before .before .before .before .before .before .before .before .before .before .before .before .before .before .before .before .before .before .before .before .before .before .pre .1 .1) (c .before .before .before .is-steady .ensures (c .before .before .if5 .taken)), steady-rows (c .before .before .before .before .before .before .before .before .before .before .before .before .before .before .before .before .before .before .before .before .before .before .before .before .before .before .before .before .before .before .before .before .before .before .before .pre .1 .0) ι (c .before .before .before .before .before .before .before .before .before .before .before .before .before .before .before .before .before .before .before .before .before .before .before .before .before .before .before .before .before .before .before .before .before .before .before .pre .1 .1) (c .before .before .before .is-steady .ensures (c .before .before .if5 .taken))))
 
-ended-by-requires : tie.Need-ended-by-requires Inv-loop μ-loop
-ended-by-requires c κs = search needs
+behind-steady-requires : tie.Need-behind-steady-requires Inv-loop μ-loop
+behind-steady-requires c κs = search needs
 
 rows-between-requires : tie.Need-rows-between-requires Inv-loop μ-loop
-rows-between-requires c κs = let κ : Calls _ _ _ _ _ _ _ _ _ _ _ _ _ _ _ _ _ = record { overflow = c .before .before .before .before .before .before .before .before .before .before .before .before .before .before .before .before .before .before .before .before .before .before .before .overflows .ensures _ _; calm = c .before .before .before .before .before .before .before .before .before .before .before .before .before .before .before .before .before .before .before .before .before .before .if2 .left; taken = c .before .before .before .before .before .before .before .before .before .before .before .before .before .before .before .before .before .before .before .before .before .before .before .before .before .before .before .before .before .before .takes-inline-close .ensures; trailing = c .before .before .before .before .before .before .before .before .before .before .before .before .before .before .before .before .before .before .before .before .writes-trailing .ensures _; arms = c .before .before .before .before .before .before .before .before .before .before .before .before .before .before .before .before .before .push-token .ensures; trailed = ⊎-elim (λ w. written (w .0 .taken) (w .2 .ensures) (w .5) (w .6)) (λ w. left-out (w .0 .left) (w .1) (w .2)) (c .before .before .before .before .before .before .before .before .before .before .before .before .if3 .came); tracked = c .before .before .before .before .before .before .before .before .before .before .before .track-fn-state .ensures } in let ι = placed (c .before .before .before .before .before .before .before .before .before .before .before .before .before .before .before .before .before .before .before .before .before .before .before .before .before .before .before .before .before .before .before .before .before .before .before .before .before .before .before .args .options) (c .before .before .before .before .before .before .before .before .before .before .before .before .before .before .before .before .before .before .before .before .before .before .before .before .before .before .before .before .before .before .before .before .before .before .before .before .before .before .before .pre .1 .0) (c .before .before .before .before .before .before .before .before .before .before .before .before .before .before .before .before .before .before .before .before .before .before .before .before .before .before .before .before .before .before .before .before .before .loop .inv) (c .before .before .before .before .before .before .before .before .before .before .before .before .before .before .before .before .before .before .before .before .before .before .before .before .before .before .before .before .before .before .before .before .loop-test .taken) (c .before .before .before .before .before .before .before .before .before .before .before .before .before .before .before .before .before .before .before .before .before .before .before .before .before .before .before .before .before .before .before .token-at .ensures) (c .before .before .before .before .before .before .before .before .before .before .before .before .before .before .before .before .before .before .before .before .before .before .before .before .before .before .before .before .push-leading .ensures) (c .before .before .before .before .before .before .before .before .before .before .before .before .before .before .before .before .before .before .before .before .before .before .before .before .if1 .left) κ (c .before .before .before .before .before .before .before .before .before .if4 .left) (c .before .before .before .before .before .before .before .before .before .before .before .before .before .before .stack .given) (c .before .before .before .before .before .before .before .before .next-place .ensures) in steady-within (c .before .before .before .before .before .before .before .before .before .before .before .before .before .before .before .before .before .before .before .before .before .before .before .before .before .before .before .before .before .before .before .before .before .before .before .before .before .before .before .pre .1 .0) ι (c .before .before .before .before .before .before .before .before .before .before .before .before .before .before .before .before .before .before .before .before .before .before .before .before .before .before .before .before .before .before .before .before .before .before .before .before .before .before .before .pre .1 .1) (c .before .before .before .before .before .before .before .is-steady .ensures (c .before .before .before .before .before .before .if5 .taken)) (c .before .before .before .push-steady .ensures)
+rows-between-requires c κs = let κ : Calls _ _ _ _ _ _ _ _ _ _ _ _ _ _ _ _ _ = record { overflow = c .before .before .before .before .before .before .before .before .before .before .before .before .before .before .before .before .before .before .before .before .before .before .before .overflows .ensures _ _; calm = c .before .before .before .before .before .before .before .before .before .before .before .before .before .before .before .before .before .before .before .before .before .before .if2 .left; taken = c .before .before .before .before .before .before .before .before .before .before .before .before .before .before .before .before .before .before .before .before .before .before .before .before .before .before .before .before .before .before .takes-inline-close .ensures; trailing = c .before .before .before .before .before .before .before .before .before .before .before .before .before .before .before .before .before .before .before .before .writes-trailing .ensures _; arms = c .before .before .before .before .before .before .before .before .before .before .before .before .before .before .before .before .before .push-token .ensures; trailed = ⊎-elim (λ w. written (w .0 .taken) (w .2 .ensures) (w .5) (w .6)) (λ w. left-out (w .0 .left) (w .1) (w .2)) (c .before .before .before .before .before .before .before .before .before .before .before .before .if3 .came); tracked = c .before .before .before .before .before .before .before .before .before .before .before .track-fn-state .ensures } in let ι = placed (c .before .before .before .before .before .before .before .before .before .before .before .before .before .before .before .before .before .before .before .before .before .before .before .before .before .before .before .before .before .before .before .before .before .before .before .before .before .before .before .args .options) (c .before .before .before .before .before .before .before .before .before .before .before .before .before .before .before .before .before .before .before .before .before .before .before .before .before .before .before .before .before .before .before .before .before .before .before .before .before .before .before .pre .1 .0) (c .before .before .before .before .before .before .before .before .before .before .before .before .before .before .before .before .before .before .before .before .before .before .before .before .before .before .before .before .before .before .before .before .before .loop .inv) (c .before .before .before .before .before .before .before .before .before .before .before .before .before .before .before .before .before .before .before .before .before .before .before .before .before .before .before .before .before .before .before .before .loop-test .taken) (c .before .before .before .before .before .before .before .before .before .before .before .before .before .before .before .before .before .before .before .before .before .before .before .before .before .before .before .before .before .before .before .token-at .ensures) (c .before .before .before .before .before .before .before .before .before .before .before .before .before .before .before .before .before .before .before .before .before .before .before .before .before .before .before .before .push-leading .ensures) (c .before .before .before .before .before .before .before .before .before .before .before .before .before .before .before .before .before .before .before .before .before .before .before .before .if1 .left) κ (c .before .before .before .before .before .before .before .before .before .if4 .left) (c .before .before .before .before .before .before .before .before .before .before .before .before .before .before .stack .given) (c .before .before .before .before .before .before .before .before .next-place .ensures) in past-within (c .before .before .before .before .before .before .before .before .before .before .before .before .before .before .before .before .before .before .before .before .before .before .before .before .before .before .before .before .before .before .before .before .before .before .before .before .before .before .before .pre .1 .0) ι (c .before .before .before .before .before .before .before .before .before .before .before .before .before .before .before .before .before .before .before .before .before .before .before .before .before .before .before .before .before .before .before .before .before .before .before .before .before .before .before .pre .1 .1) (c .before .before .before .push-steady .ensures .whole) (c .before .before .before .push-steady .ensures .within)
 
 add-index : tie.Need-add-index Inv-loop μ-loop
-add-index c = let κ : Calls _ _ _ _ _ _ _ _ _ _ _ _ _ _ _ _ _ = record { overflow = c .before .before .before .before .before .before .before .before .before .before .before .before .before .before .before .before .before .before .before .before .before .before .before .before .overflows .ensures _ _; calm = c .before .before .before .before .before .before .before .before .before .before .before .before .before .before .before .before .before .before .before .before .before .before .before .if2 .left; taken = c .before .before .before .before .before .before .before .before .before .before .before .before .before .before .before .before .before .before .before .before .before .before .before .before .before .before .before .before .before .before .before .takes-inline-close .ensures; trailing = c .before .before .before .before .before .before .before .before .before .before .before .before .before .before .before .before .before .before .before .before .before .writes-trailing .ensures _; arms = c .before .before .before .before .before .before .before .before .before .before .before .before .before .before .before .before .before .before .push-token .ensures; trailed = ⊎-elim (λ w. written (w .0 .taken) (w .2 .ensures) (w .5) (w .6)) (λ w. left-out (w .0 .left) (w .1) (w .2)) (c .before .before .before .before .before .before .before .before .before .before .before .before .before .if3 .came); tracked = c .before .before .before .before .before .before .before .before .before .before .before .before .track-fn-state .ensures } in let ι = placed (c .before .before .before .before .before .before .before .before .before .before .before .before .before .before .before .before .before .before .before .before .before .before .before .before .before .before .before .before .before .before .before .before .before .before .before .before .before .before .before .before .args .options) (c .before .before .before .before .before .before .before .before .before .before .before .before .before .before .before .before .before .before .before .before .before .before .before .before .before .before .before .before .before .before .before .before .before .before .before .before .before .before .before .before .pre .1 .0) (c .before .before .before .before .before .before .before .before .before .before .before .before .before .before .before .before .before .before .before .before .before .before .before .before .before .before .before .before .before .before .before .before .before .before .loop .inv) (c .before .before .before .before .before .before .before .before .before .before .before .before .before .before .before .before .before .before .before .before .before .before .before .before .before .before .before .before .before .before .before .before .before .loop-test .taken) (c .before .before .before .before .before .before .before .before .before .before .before .before .before .before .before .before .before .before .before .before .before .before .before .before .before .before .before .before .before .before .before .before .token-at .ensures) (c .before .before .before .before .before .before .before .before .before .before .before .before .before .before .before .before .before .before .before .before .before .before .before .before .before .before .before .before .before .push-leading .ensures) (c .before .before .before .before .before .before .before .before .before .before .before .before .before .before .before .before .before .before .before .before .before .before .before .before .before .if1 .left) κ (c .before .before .before .before .before .before .before .before .before .before .if4 .left) (c .before .before .before .before .before .before .before .before .before .before .before .before .before .before .before .stack .given) (c .before .before .before .before .before .before .before .before .before .next-place .ensures) in let e = c .rows-between .ensures in let few = steady-few (c .before .before .before .before .before .before .before .before .before .before .before .before .before .before .before .before .before .before .before .before .before .before .before .before .before .before .before .before .before .before .before .before .before .before .before .before .before .before .before .before .pre .1 .0) ι (c .before .before .before .before .before .before .before .before .before .before .before .before .before .before .before .before .before .before .before .before .before .before .before .before .before .before .before .before .before .before .before .before .before .before .before .before .before .before .before .before .pre .1 .1) (c .before .before .before .before .before .before .before .before .is-steady .ensures (c .before .before .before .before .before .before .before .if5 .taken)) (c .before .before .before .before .push-steady .ensures) in record { fits = omega arith }
+add-index c = let κ : Calls _ _ _ _ _ _ _ _ _ _ _ _ _ _ _ _ _ = record { overflow = c .before .before .before .before .before .before .before .before .before .before .before .before .before .before .before .before .before .before .before .before .before .before .before .before .overflows .ensures _ _; calm = c .before .before .before .before .before .before .before .before .before .before .before .before .before .before .before .before .before .before .before .before .before .before .before .if2 .left; taken = c .before .before .before .before .before .before .before .before .before .before .before .before .before .before .before .before .before .before .before .before .before .before .before .before .before .before .before .before .before .before .before .takes-inline-close .ensures; trailing = c .before .before .before .before .before .before .before .before .before .before .before .before .before .before .before .before .before .before .before .before .before .writes-trailing .ensures _; arms = c .before .before .before .before .before .before .before .before .before .before .before .before .before .before .before .before .before .before .push-token .ensures; trailed = ⊎-elim (λ w. written (w .0 .taken) (w .2 .ensures) (w .5) (w .6)) (λ w. left-out (w .0 .left) (w .1) (w .2)) (c .before .before .before .before .before .before .before .before .before .before .before .before .before .if3 .came); tracked = c .before .before .before .before .before .before .before .before .before .before .before .before .track-fn-state .ensures } in let ι = placed (c .before .before .before .before .before .before .before .before .before .before .before .before .before .before .before .before .before .before .before .before .before .before .before .before .before .before .before .before .before .before .before .before .before .before .before .before .before .before .before .before .args .options) (c .before .before .before .before .before .before .before .before .before .before .before .before .before .before .before .before .before .before .before .before .before .before .before .before .before .before .before .before .before .before .before .before .before .before .before .before .before .before .before .before .pre .1 .0) (c .before .before .before .before .before .before .before .before .before .before .before .before .before .before .before .before .before .before .before .before .before .before .before .before .before .before .before .before .before .before .before .before .before .before .loop .inv) (c .before .before .before .before .before .before .before .before .before .before .before .before .before .before .before .before .before .before .before .before .before .before .before .before .before .before .before .before .before .before .before .before .before .loop-test .taken) (c .before .before .before .before .before .before .before .before .before .before .before .before .before .before .before .before .before .before .before .before .before .before .before .before .before .before .before .before .before .before .before .before .token-at .ensures) (c .before .before .before .before .before .before .before .before .before .before .before .before .before .before .before .before .before .before .before .before .before .before .before .before .before .before .before .before .before .push-leading .ensures) (c .before .before .before .before .before .before .before .before .before .before .before .before .before .before .before .before .before .before .before .before .before .before .before .before .before .if1 .left) κ (c .before .before .before .before .before .before .before .before .before .before .if4 .left) (c .before .before .before .before .before .before .before .before .before .before .before .before .before .before .before .stack .given) (c .before .before .before .before .before .before .before .before .before .next-place .ensures) in let e = c .rows-between .ensures in let few = past-few (c .before .before .before .before .before .before .before .before .before .before .before .before .before .before .before .before .before .before .before .before .before .before .before .before .before .before .before .before .before .before .before .before .before .before .before .before .before .before .before .before .pre .1 .0) ι (c .before .before .before .before .before .before .before .before .before .before .before .before .before .before .before .before .before .before .before .before .before .before .before .before .before .before .before .before .before .before .before .before .before .before .before .before .before .before .before .before .pre .1 .1) (c .before .before .before .before .push-steady .ensures .whole) (c .before .before .before .before .push-steady .ensures .within) in record { fits = omega arith }
+
+is-nested-requires : tie.Need-is-nested-requires Inv-loop μ-loop
+is-nested-requires c κs = let κ : Calls _ _ _ _ _ _ _ _ _ _ _ _ _ _ _ _ _ = record { overflow = c .before .before .before .before .before .before .before .before .before .before .before .before .before .before .before .before .before .overflows .ensures _ _; calm = c .before .before .before .before .before .before .before .before .before .before .before .before .before .before .before .before .if2 .left; taken = c .before .before .before .before .before .before .before .before .before .before .before .before .before .before .before .before .before .before .before .before .before .before .before .before .takes-inline-close .ensures; trailing = c .before .before .before .before .before .before .before .before .before .before .before .before .before .before .writes-trailing .ensures _; arms = c .before .before .before .before .before .before .before .before .before .before .before .push-token .ensures; trailed = ⊎-elim (λ w. written (w .0 .taken) (w .2 .ensures) (w .5) (w .6)) (λ w. left-out (w .0 .left) (w .1) (w .2)) (c .before .before .before .before .before .before .if3 .came); tracked = c .before .before .before .before .before .track-fn-state .ensures } in let ι = placed (c .before .before .before .before .before .before .before .before .before .before .before .before .before .before .before .before .before .before .before .before .before .before .before .before .before .before .before .before .before .before .before .before .before .args .options) (c .before .before .before .before .before .before .before .before .before .before .before .before .before .before .before .before .before .before .before .before .before .before .before .before .before .before .before .before .before .before .before .before .before .pre .1 .0) (c .before .before .before .before .before .before .before .before .before .before .before .before .before .before .before .before .before .before .before .before .before .before .before .before .before .before .before .loop .inv) (c .before .before .before .before .before .before .before .before .before .before .before .before .before .before .before .before .before .before .before .before .before .before .before .before .before .before .loop-test .taken) (c .before .before .before .before .before .before .before .before .before .before .before .before .before .before .before .before .before .before .before .before .before .before .before .before .before .token-at .ensures) (c .before .before .before .before .before .before .before .before .before .before .before .before .before .before .before .before .before .before .before .before .before .before .push-leading .ensures) (c .before .before .before .before .before .before .before .before .before .before .before .before .before .before .before .before .before .before .if1 .left) κ (c .before .before .before .if4 .left) (c .before .before .before .before .before .before .before .before .stack .given) (c .before .before .next-place .ensures) in let ν : On (c .before .before .before .before .before .before .before .before .before .before .before .before .before .before .before .before .before .before .before .before .before .before .before .before .before .before .before .before .before .before .before .before .before .pre .1 .0) ι (c .before .before .before .before .before .before .before .before .before .before .before .before .before .before .before .before .before .before .before .before .before .before .before .before .before .before .before .before .before .before .before .before .before .pre .1 .1) (c .if5 .self) (c .if5 .out) (c .if5 .at) (c .if5 .index) = ⊎-elim (λ w. on-same (c .before .before .before .before .before .before .before .before .before .before .before .before .before .before .before .before .before .before .before .before .before .before .before .before .before .before .before .before .before .before .before .before .before .pre .1 .0) ι (c .before .before .before .before .before .before .before .before .before .before .before .before .before .before .before .before .before .before .before .before .before .before .before .before .before .before .before .before .before .before .before .before .before .pre .1 .1) (w .8) (w .9) (w .10) (w .11) (steadied (c .before .before .before .before .before .before .before .before .before .before .before .before .before .before .before .before .before .before .before .before .before .before .before .before .before .before .before .before .before .before .before .before .before .pre .1 .0) ι (c .before .before .before .before .before .before .before .before .before .before .before .before .before .before .before .before .before .before .before .before .before .before .before .before .before .before .before .before .before .before .before .before .before .pre .1 .1) (c .before .is-steady .ensures (w .0 .taken)) (w .3 .ensures) (w .6 .ensures) (w .7 .ensures))) (λ w. on-same (c .before .before .before .before .before .before .before .before .before .before .before .before .before .before .before .before .before .before .before .before .before .before .before .before .before .before .before .before .before .before .before .before .before .pre .1 .0) ι (c .before .before .before .before .before .before .before .before .before .before .before .before .before .before .before .before .before .before .before .before .before .before .before .before .before .before .before .before .before .before .before .before .before .pre .1 .1) (w .1) (w .2) (w .3) (w .4) (stays-on (c .before .before .before .before .before .before .before .before .before .before .before .before .before .before .before .before .before .before .before .before .before .before .before .before .before .before .before .before .before .before .before .before .before .pre .1 .0) ι (c .before .before .before .before .before .before .before .before .before .before .before .before .before .before .before .before .before .before .before .before .before .before .before .before .before .before .before .before .before .before .before .before .before .pre .1 .1))) (c .if5 .came) in ν .inv .going .head .within
+
+push-nested-requires : tie.Need-push-nested-requires Inv-loop μ-loop
+push-nested-requires c κs = let κ : Calls _ _ _ _ _ _ _ _ _ _ _ _ _ _ _ _ _ = record { overflow = c .before .before .before .before .before .before .before .before .before .before .before .before .before .before .before .before .before .before .before .before .overflows .ensures _ _; calm = c .before .before .before .before .before .before .before .before .before .before .before .before .before .before .before .before .before .before .before .if2 .left; taken = c .before .before .before .before .before .before .before .before .before .before .before .before .before .before .before .before .before .before .before .before .before .before .before .before .before .before .before .takes-inline-close .ensures; trailing = c .before .before .before .before .before .before .before .before .before .before .before .before .before .before .before .before .before .writes-trailing .ensures _; arms = c .before .before .before .before .before .before .before .before .before .before .before .before .before .before .push-token .ensures; trailed = ⊎-elim (λ w. written (w .0 .taken) (w .2 .ensures) (w .5) (w .6)) (λ w. left-out (w .0 .left) (w .1) (w .2)) (c .before .before .before .before .before .before .before .before .before .if3 .came); tracked = c .before .before .before .before .before .before .before .before .track-fn-state .ensures } in let ι = placed (c .before .before .before .before .before .before .before .before .before .before .before .before .before .before .before .before .before .before .before .before .before .before .before .before .before .before .before .before .before .before .before .before .before .before .before .before .args .options) (c .before .before .before .before .before .before .before .before .before .before .before .before .before .before .before .before .before .before .before .before .before .before .before .before .before .before .before .before .before .before .before .before .before .before .before .before .pre .1 .0) (c .before .before .before .before .before .before .before .before .before .before .before .before .before .before .before .before .before .before .before .before .before .before .before .before .before .before .before .before .before .before .loop .inv) (c .before .before .before .before .before .before .before .before .before .before .before .before .before .before .before .before .before .before .before .before .before .before .before .before .before .before .before .before .before .loop-test .taken) (c .before .before .before .before .before .before .before .before .before .before .before .before .before .before .before .before .before .before .before .before .before .before .before .before .before .before .before .before .token-at .ensures) (c .before .before .before .before .before .before .before .before .before .before .before .before .before .before .before .before .before .before .before .before .before .before .before .before .before .push-leading .ensures) (c .before .before .before .before .before .before .before .before .before .before .before .before .before .before .before .before .before .before .before .before .before .if1 .left) κ (c .before .before .before .before .before .before .if4 .left) (c .before .before .before .before .before .before .before .before .before .before .before .stack .given) (c .before .before .before .before .before .next-place .ensures) in let ν : On (c .before .before .before .before .before .before .before .before .before .before .before .before .before .before .before .before .before .before .before .before .before .before .before .before .before .before .before .before .before .before .before .before .before .before .before .before .pre .1 .0) ι (c .before .before .before .before .before .before .before .before .before .before .before .before .before .before .before .before .before .before .before .before .before .before .before .before .before .before .before .before .before .before .before .before .before .before .before .before .pre .1 .1) (c .before .before .before .if5 .self) (c .before .before .before .if5 .out) (c .before .before .before .if5 .at) (c .before .before .before .if5 .index) = ⊎-elim (λ w. on-same (c .before .before .before .before .before .before .before .before .before .before .before .before .before .before .before .before .before .before .before .before .before .before .before .before .before .before .before .before .before .before .before .before .before .before .before .before .pre .1 .0) ι (c .before .before .before .before .before .before .before .before .before .before .before .before .before .before .before .before .before .before .before .before .before .before .before .before .before .before .before .before .before .before .before .before .before .before .before .before .pre .1 .1) (w .8) (w .9) (w .10) (w .11) (steadied (c .before .before .before .before .before .before .before .before .before .before .before .before .before .before .before .before .before .before .before .before .before .before .before .before .before .before .before .before .before .before .before .before .before .before .before .before .pre .1 .0) ι (c .before .before .before .before .before .before .before .before .before .before .before .before .before .before .before .before .before .before .before .before .before .before .before .before .before .before .before .before .before .before .before .before .before .before .before .before .pre .1 .1) (c .before .before .before .before .is-steady .ensures (w .0 .taken)) (w .3 .ensures) (w .6 .ensures) (w .7 .ensures))) (λ w. on-same (c .before .before .before .before .before .before .before .before .before .before .before .before .before .before .before .before .before .before .before .before .before .before .before .before .before .before .before .before .before .before .before .before .before .before .before .before .pre .1 .0) ι (c .before .before .before .before .before .before .before .before .before .before .before .before .before .before .before .before .before .before .before .before .before .before .before .before .before .before .before .before .before .before .before .before .before .before .before .before .pre .1 .1) (w .1) (w .2) (w .3) (w .4) (stays-on (c .before .before .before .before .before .before .before .before .before .before .before .before .before .before .before .before .before .before .before .before .before .before .before .before .before .before .before .before .before .before .before .before .before .before .before .before .pre .1 .0) ι (c .before .before .before .before .before .before .before .before .before .before .before .before .before .before .before .before .before .before .before .before .before .before .before .before .before .before .before .before .before .before .before .before .before .before .before .before .pre .1 .1))) (c .before .before .before .if5 .came) in (nested-place (c .before .before .before .before .before .before .before .before .before .before .before .before .before .before .before .before .before .before .before .before .before .before .before .before .before .before .before .before .before .before .before .before .before .before .before .before .pre .1 .0) (ν .inv) (c .before .before .before .before .before .before .before .before .before .before .before .before .before .before .before .before .before .before .before .before .before .before .before .before .before .before .before .before .before .before .before .before .before .before .before .before .pre .1 .1) (c .before .before .is-nested .ensures (c .before .if6 .taken)), nested-rows (c .before .before .before .before .before .before .before .before .before .before .before .before .before .before .before .before .before .before .before .before .before .before .before .before .before .before .before .before .before .before .before .before .before .before .before .before .pre .1 .0) (ν .inv) (c .before .before .before .before .before .before .before .before .before .before .before .before .before .before .before .before .before .before .before .before .before .before .before .before .before .before .before .before .before .before .before .before .before .before .before .before .pre .1 .1) (c .before .before .is-nested .ensures (c .before .if6 .taken)))
+
+behind-braces-requires : tie.Need-behind-braces-requires Inv-loop μ-loop
+behind-braces-requires c κs = search needs
+
+rows-between-requires-2 : tie.Need-rows-between-requires-2 Inv-loop μ-loop
+rows-between-requires-2 c κs = let κ : Calls _ _ _ _ _ _ _ _ _ _ _ _ _ _ _ _ _ = record { overflow = c .before .before .before .before .before .before .before .before .before .before .before .before .before .before .before .before .before .before .before .before .before .before .before .before .overflows .ensures _ _; calm = c .before .before .before .before .before .before .before .before .before .before .before .before .before .before .before .before .before .before .before .before .before .before .before .if2 .left; taken = c .before .before .before .before .before .before .before .before .before .before .before .before .before .before .before .before .before .before .before .before .before .before .before .before .before .before .before .before .before .before .before .takes-inline-close .ensures; trailing = c .before .before .before .before .before .before .before .before .before .before .before .before .before .before .before .before .before .before .before .before .before .writes-trailing .ensures _; arms = c .before .before .before .before .before .before .before .before .before .before .before .before .before .before .before .before .before .before .push-token .ensures; trailed = ⊎-elim (λ w. written (w .0 .taken) (w .2 .ensures) (w .5) (w .6)) (λ w. left-out (w .0 .left) (w .1) (w .2)) (c .before .before .before .before .before .before .before .before .before .before .before .before .before .if3 .came); tracked = c .before .before .before .before .before .before .before .before .before .before .before .before .track-fn-state .ensures } in let ι = placed (c .before .before .before .before .before .before .before .before .before .before .before .before .before .before .before .before .before .before .before .before .before .before .before .before .before .before .before .before .before .before .before .before .before .before .before .before .before .before .before .before .args .options) (c .before .before .before .before .before .before .before .before .before .before .before .before .before .before .before .before .before .before .before .before .before .before .before .before .before .before .before .before .before .before .before .before .before .before .before .before .before .before .before .before .pre .1 .0) (c .before .before .before .before .before .before .before .before .before .before .before .before .before .before .before .before .before .before .before .before .before .before .before .before .before .before .before .before .before .before .before .before .before .before .loop .inv) (c .before .before .before .before .before .before .before .before .before .before .before .before .before .before .before .before .before .before .before .before .before .before .before .before .before .before .before .before .before .before .before .before .before .loop-test .taken) (c .before .before .before .before .before .before .before .before .before .before .before .before .before .before .before .before .before .before .before .before .before .before .before .before .before .before .before .before .before .before .before .before .token-at .ensures) (c .before .before .before .before .before .before .before .before .before .before .before .before .before .before .before .before .before .before .before .before .before .before .before .before .before .before .before .before .before .push-leading .ensures) (c .before .before .before .before .before .before .before .before .before .before .before .before .before .before .before .before .before .before .before .before .before .before .before .before .before .if1 .left) κ (c .before .before .before .before .before .before .before .before .before .before .if4 .left) (c .before .before .before .before .before .before .before .before .before .before .before .before .before .before .before .stack .given) (c .before .before .before .before .before .before .before .before .before .next-place .ensures) in let ν : On (c .before .before .before .before .before .before .before .before .before .before .before .before .before .before .before .before .before .before .before .before .before .before .before .before .before .before .before .before .before .before .before .before .before .before .before .before .before .before .before .before .pre .1 .0) ι (c .before .before .before .before .before .before .before .before .before .before .before .before .before .before .before .before .before .before .before .before .before .before .before .before .before .before .before .before .before .before .before .before .before .before .before .before .before .before .before .before .pre .1 .1) (c .before .before .before .before .before .before .before .if5 .self) (c .before .before .before .before .before .before .before .if5 .out) (c .before .before .before .before .before .before .before .if5 .at) (c .before .before .before .before .before .before .before .if5 .index) = ⊎-elim (λ w. on-same (c .before .before .before .before .before .before .before .before .before .before .before .before .before .before .before .before .before .before .before .before .before .before .before .before .before .before .before .before .before .before .before .before .before .before .before .before .before .before .before .before .pre .1 .0) ι (c .before .before .before .before .before .before .before .before .before .before .before .before .before .before .before .before .before .before .before .before .before .before .before .before .before .before .before .before .before .before .before .before .before .before .before .before .before .before .before .before .pre .1 .1) (w .8) (w .9) (w .10) (w .11) (steadied (c .before .before .before .before .before .before .before .before .before .before .before .before .before .before .before .before .before .before .before .before .before .before .before .before .before .before .before .before .before .before .before .before .before .before .before .before .before .before .before .before .pre .1 .0) ι (c .before .before .before .before .before .before .before .before .before .before .before .before .before .before .before .before .before .before .before .before .before .before .before .before .before .before .before .before .before .before .before .before .before .before .before .before .before .before .before .before .pre .1 .1) (c .before .before .before .before .before .before .before .before .is-steady .ensures (w .0 .taken)) (w .3 .ensures) (w .6 .ensures) (w .7 .ensures))) (λ w. on-same (c .before .before .before .before .before .before .before .before .before .before .before .before .before .before .before .before .before .before .before .before .before .before .before .before .before .before .before .before .before .before .before .before .before .before .before .before .before .before .before .before .pre .1 .0) ι (c .before .before .before .before .before .before .before .before .before .before .before .before .before .before .before .before .before .before .before .before .before .before .before .before .before .before .before .before .before .before .before .before .before .before .before .before .before .before .before .before .pre .1 .1) (w .1) (w .2) (w .3) (w .4) (stays-on (c .before .before .before .before .before .before .before .before .before .before .before .before .before .before .before .before .before .before .before .before .before .before .before .before .before .before .before .before .before .before .before .before .before .before .before .before .before .before .before .before .pre .1 .0) ι (c .before .before .before .before .before .before .before .before .before .before .before .before .before .before .before .before .before .before .before .before .before .before .before .before .before .before .before .before .before .before .before .before .before .before .before .before .before .before .before .before .pre .1 .1))) (c .before .before .before .before .before .before .before .if5 .came) in past-within (c .before .before .before .before .before .before .before .before .before .before .before .before .before .before .before .before .before .before .before .before .before .before .before .before .before .before .before .before .before .before .before .before .before .before .before .before .before .before .before .before .pre .1 .0) (ν .inv) (c .before .before .before .before .before .before .before .before .before .before .before .before .before .before .before .before .before .before .before .before .before .before .before .before .before .before .before .before .before .before .before .before .before .before .before .before .before .before .before .before .pre .1 .1) (c .before .before .before .push-nested .ensures .whole) (c .before .before .before .push-nested .ensures .within)
+
+add-index-2 : tie.Need-add-index-2 Inv-loop μ-loop
+add-index-2 c = let κ : Calls _ _ _ _ _ _ _ _ _ _ _ _ _ _ _ _ _ = record { overflow = c .before .before .before .before .before .before .before .before .before .before .before .before .before .before .before .before .before .before .before .before .before .before .before .before .before .before .overflows .ensures _ _; calm = c .before .before .before .before .before .before .before .before .before .before .before .before .before .before .before .before .before .before .before .before .before .before .before .before .before .if2 .left; taken = c .before .before .before .before .before .before .before .before .before .before .before .before .before .before .before .before .before .before .before .before .before .before .before .before .before .before .before .before .before .before .before .before .before .takes-inline-close .ensures; trailing = c .before .before .before .before .before .before .before .before .before .before .before .before .before .before .before .before .before .before .before .before .before .before .before .writes-trailing .ensures _; arms = c .before .before .before .before .before .before .before .before .before .before .before .before .before .before .before .before .before .before .before .before .push-token .ensures; trailed = ⊎-elim (λ w. written (w .0 .taken) (w .2 .ensures) (w .5) (w .6)) (λ w. left-out (w .0 .left) (w .1) (w .2)) (c .before .before .before .before .before .before .before .before .before .before .before .before .before .before .before .if3 .came); tracked = c .before .before .before .before .before .before .before .before .before .before .before .before .before .before .track-fn-state .ensures } in let ι = placed (c .before .before .before .before .before .before .before .before .before .before .before .before .before .before .before .before .before .before .before .before .before .before .before .before .before .before .before .before .before .before .before .before .before .before .before .before .before .before .before .before .before .before .args .options) (c .before .before .before .before .before .before .before .before .before .before .before .before .before .before .before .before .before .before .before .before .before .before .before .before .before .before .before .before .before .before .before .before .before .before .before .before .before .before .before .before .before .before .pre .1 .0) (c .before .before .before .before .before .before .before .before .before .before .before .before .before .before .before .before .before .before .before .before .before .before .before .before .before .before .before .before .before .before .before .before .before .before .before .before .loop .inv) (c .before .before .before .before .before .before .before .before .before .before .before .before .before .before .before .before .before .before .before .before .before .before .before .before .before .before .before .before .before .before .before .before .before .before .before .loop-test .taken) (c .before .before .before .before .before .before .before .before .before .before .before .before .before .before .before .before .before .before .before .before .before .before .before .before .before .before .before .before .before .before .before .before .before .before .token-at .ensures) (c .before .before .before .before .before .before .before .before .before .before .before .before .before .before .before .before .before .before .before .before .before .before .before .before .before .before .before .before .before .before .before .push-leading .ensures) (c .before .before .before .before .before .before .before .before .before .before .before .before .before .before .before .before .before .before .before .before .before .before .before .before .before .before .before .if1 .left) κ (c .before .before .before .before .before .before .before .before .before .before .before .before .if4 .left) (c .before .before .before .before .before .before .before .before .before .before .before .before .before .before .before .before .before .stack .given) (c .before .before .before .before .before .before .before .before .before .before .before .next-place .ensures) in let ν : On (c .before .before .before .before .before .before .before .before .before .before .before .before .before .before .before .before .before .before .before .before .before .before .before .before .before .before .before .before .before .before .before .before .before .before .before .before .before .before .before .before .before .before .pre .1 .0) ι (c .before .before .before .before .before .before .before .before .before .before .before .before .before .before .before .before .before .before .before .before .before .before .before .before .before .before .before .before .before .before .before .before .before .before .before .before .before .before .before .before .before .before .pre .1 .1) (c .before .before .before .before .before .before .before .before .before .if5 .self) (c .before .before .before .before .before .before .before .before .before .if5 .out) (c .before .before .before .before .before .before .before .before .before .if5 .at) (c .before .before .before .before .before .before .before .before .before .if5 .index) = ⊎-elim (λ w. on-same (c .before .before .before .before .before .before .before .before .before .before .before .before .before .before .before .before .before .before .before .before .before .before .before .before .before .before .before .before .before .before .before .before .before .before .before .before .before .before .before .before .before .before .pre .1 .0) ι (c .before .before .before .before .before .before .before .before .before .before .before .before .before .before .before .before .before .before .before .before .before .before .before .before .before .before .before .before .before .before .before .before .before .before .before .before .before .before .before .before .before .before .pre .1 .1) (w .8) (w .9) (w .10) (w .11) (steadied (c .before .before .before .before .before .before .before .before .before .before .before .before .before .before .before .before .before .before .before .before .before .before .before .before .before .before .before .before .before .before .before .before .before .before .before .before .before .before .before .before .before .before .pre .1 .0) ι (c .before .before .before .before .before .before .before .before .before .before .before .before .before .before .before .before .before .before .before .before .before .before .before .before .before .before .before .before .before .before .before .before .before .before .before .before .before .before .before .before .before .before .pre .1 .1) (c .before .before .before .before .before .before .before .before .before .before .is-steady .ensures (w .0 .taken)) (w .3 .ensures) (w .6 .ensures) (w .7 .ensures))) (λ w. on-same (c .before .before .before .before .before .before .before .before .before .before .before .before .before .before .before .before .before .before .before .before .before .before .before .before .before .before .before .before .before .before .before .before .before .before .before .before .before .before .before .before .before .before .pre .1 .0) ι (c .before .before .before .before .before .before .before .before .before .before .before .before .before .before .before .before .before .before .before .before .before .before .before .before .before .before .before .before .before .before .before .before .before .before .before .before .before .before .before .before .before .before .pre .1 .1) (w .1) (w .2) (w .3) (w .4) (stays-on (c .before .before .before .before .before .before .before .before .before .before .before .before .before .before .before .before .before .before .before .before .before .before .before .before .before .before .before .before .before .before .before .before .before .before .before .before .before .before .before .before .before .before .pre .1 .0) ι (c .before .before .before .before .before .before .before .before .before .before .before .before .before .before .before .before .before .before .before .before .before .before .before .before .before .before .before .before .before .before .before .before .before .before .before .before .before .before .before .before .before .before .pre .1 .1))) (c .before .before .before .before .before .before .before .before .before .if5 .came) in let e = c .before .rows-between2 .ensures in let few = past-few (c .before .before .before .before .before .before .before .before .before .before .before .before .before .before .before .before .before .before .before .before .before .before .before .before .before .before .before .before .before .before .before .before .before .before .before .before .before .before .before .before .before .before .pre .1 .0) (ν .inv) (c .before .before .before .before .before .before .before .before .before .before .before .before .before .before .before .before .before .before .before .before .before .before .before .before .before .before .before .before .before .before .before .before .before .before .before .before .before .before .before .before .before .before .pre .1 .1) (c .before .before .before .before .before .push-nested .ensures .whole) (c .before .before .before .before .before .push-nested .ensures .within) in record { fits = omega arith }
 
 loop-less : tie.Need-loop-less Inv-loop μ-loop
-loop-less c = let κ : Calls _ _ _ _ _ _ _ _ _ _ _ _ _ _ _ _ _ = record { overflow = c .before .before .before .before .before .before .before .before .before .before .before .before .before .before .before .before .before .before .before .before .before .before .before .before .overflows .ensures _ _; calm = c .before .before .before .before .before .before .before .before .before .before .before .before .before .before .before .before .before .before .before .before .before .before .before .if2 .left; taken = c .before .before .before .before .before .before .before .before .before .before .before .before .before .before .before .before .before .before .before .before .before .before .before .before .before .before .before .before .before .before .before .takes-inline-close .ensures; trailing = c .before .before .before .before .before .before .before .before .before .before .before .before .before .before .before .before .before .before .before .before .before .writes-trailing .ensures _; arms = c .before .before .before .before .before .before .before .before .before .before .before .before .before .before .before .before .before .before .push-token .ensures; trailed = ⊎-elim (λ w. written (w .0 .taken) (w .2 .ensures) (w .5) (w .6)) (λ w. left-out (w .0 .left) (w .1) (w .2)) (c .before .before .before .before .before .before .before .before .before .before .before .before .before .if3 .came); tracked = c .before .before .before .before .before .before .before .before .before .before .before .before .track-fn-state .ensures } in let g = further (c .before .before .before .before .before .before .before .before .before .before .before .before .before .before .before .before .before .before .before .before .before .before .before .before .before .before .before .before .before .before .before .before .before .before .before .before .before .before .before .before .args .options) (c .before .before .before .before .before .before .before .before .before .before .before .before .before .before .before .before .before .before .before .before .before .before .before .before .before .before .before .before .before .before .before .before .before .before .before .before .before .before .before .before .pre .1 .0) (c .before .before .before .before .before .before .before .before .before .before .before .before .before .before .before .before .before .before .before .before .before .before .before .before .before .before .before .before .before .before .before .before .before .before .loop .inv) (c .before .before .before .before .before .before .before .before .before .before .before .before .before .before .before .before .before .before .before .before .before .before .before .before .before .before .before .before .before .before .before .before .before .loop-test .taken) (c .before .before .before .before .before .before .before .before .before .before .before .before .before .before .before .before .before .before .before .before .before .before .before .before .before .before .before .before .before .before .before .before .token-at .ensures) (c .before .before .before .before .before .before .before .before .before .before .before .before .before .before .before .before .before .before .before .before .before .before .before .before .before .before .before .before .before .push-leading .ensures) (c .before .before .before .before .before .before .before .before .before .before .before .before .before .before .before .before .before .before .before .before .before .before .before .before .before .if1 .left) κ (c .before .before .before .before .before .before .before .before .before .before .if4 .left) (c .before .before .before .before .before .before .before .before .before .before .before .before .before .before .before .stack .given) (c .before .before .before .before .before .before .before .before .before .next-place .ensures) in let a = c .before .before .before .before .push-steady .ensures .whole in let b = c .before .before .before .before .push-steady .ensures .within in omega arith
+loop-less c = let κ : Calls _ _ _ _ _ _ _ _ _ _ _ _ _ _ _ _ _ = record { overflow = c .before .before .before .before .before .before .before .before .before .before .before .before .before .before .before .before .before .before .before .before .before .before .before .before .before .before .overflows .ensures _ _; calm = c .before .before .before .before .before .before .before .before .before .before .before .before .before .before .before .before .before .before .before .before .before .before .before .before .before .if2 .left; taken = c .before .before .before .before .before .before .before .before .before .before .before .before .before .before .before .before .before .before .before .before .before .before .before .before .before .before .before .before .before .before .before .before .before .takes-inline-close .ensures; trailing = c .before .before .before .before .before .before .before .before .before .before .before .before .before .before .before .before .before .before .before .before .before .before .before .writes-trailing .ensures _; arms = c .before .before .before .before .before .before .before .before .before .before .before .before .before .before .before .before .before .before .before .before .push-token .ensures; trailed = ⊎-elim (λ w. written (w .0 .taken) (w .2 .ensures) (w .5) (w .6)) (λ w. left-out (w .0 .left) (w .1) (w .2)) (c .before .before .before .before .before .before .before .before .before .before .before .before .before .before .before .if3 .came); tracked = c .before .before .before .before .before .before .before .before .before .before .before .before .before .before .track-fn-state .ensures } in let g = further (c .before .before .before .before .before .before .before .before .before .before .before .before .before .before .before .before .before .before .before .before .before .before .before .before .before .before .before .before .before .before .before .before .before .before .before .before .before .before .before .before .before .before .args .options) (c .before .before .before .before .before .before .before .before .before .before .before .before .before .before .before .before .before .before .before .before .before .before .before .before .before .before .before .before .before .before .before .before .before .before .before .before .before .before .before .before .before .before .pre .1 .0) (c .before .before .before .before .before .before .before .before .before .before .before .before .before .before .before .before .before .before .before .before .before .before .before .before .before .before .before .before .before .before .before .before .before .before .before .before .loop .inv) (c .before .before .before .before .before .before .before .before .before .before .before .before .before .before .before .before .before .before .before .before .before .before .before .before .before .before .before .before .before .before .before .before .before .before .before .loop-test .taken) (c .before .before .before .before .before .before .before .before .before .before .before .before .before .before .before .before .before .before .before .before .before .before .before .before .before .before .before .before .before .before .before .before .before .before .token-at .ensures) (c .before .before .before .before .before .before .before .before .before .before .before .before .before .before .before .before .before .before .before .before .before .before .before .before .before .before .before .before .before .before .before .push-leading .ensures) (c .before .before .before .before .before .before .before .before .before .before .before .before .before .before .before .before .before .before .before .before .before .before .before .before .before .before .before .if1 .left) κ (c .before .before .before .before .before .before .before .before .before .before .before .before .if4 .left) (c .before .before .before .before .before .before .before .before .before .before .before .before .before .before .before .before .before .stack .given) (c .before .before .before .before .before .before .before .before .before .before .before .next-place .ensures) in let ι = placed (c .before .before .before .before .before .before .before .before .before .before .before .before .before .before .before .before .before .before .before .before .before .before .before .before .before .before .before .before .before .before .before .before .before .before .before .before .before .before .before .before .before .before .args .options) (c .before .before .before .before .before .before .before .before .before .before .before .before .before .before .before .before .before .before .before .before .before .before .before .before .before .before .before .before .before .before .before .before .before .before .before .before .before .before .before .before .before .before .pre .1 .0) (c .before .before .before .before .before .before .before .before .before .before .before .before .before .before .before .before .before .before .before .before .before .before .before .before .before .before .before .before .before .before .before .before .before .before .before .before .loop .inv) (c .before .before .before .before .before .before .before .before .before .before .before .before .before .before .before .before .before .before .before .before .before .before .before .before .before .before .before .before .before .before .before .before .before .before .before .loop-test .taken) (c .before .before .before .before .before .before .before .before .before .before .before .before .before .before .before .before .before .before .before .before .before .before .before .before .before .before .before .before .before .before .before .before .before .before .token-at .ensures) (c .before .before .before .before .before .before .before .before .before .before .before .before .before .before .before .before .before .before .before .before .before .before .before .before .before .before .before .before .before .before .before .push-leading .ensures) (c .before .before .before .before .before .before .before .before .before .before .before .before .before .before .before .before .before .before .before .before .before .before .before .before .before .before .before .if1 .left) κ (c .before .before .before .before .before .before .before .before .before .before .before .before .if4 .left) (c .before .before .before .before .before .before .before .before .before .before .before .before .before .before .before .before .before .stack .given) (c .before .before .before .before .before .before .before .before .before .before .before .next-place .ensures) in let ν : On (c .before .before .before .before .before .before .before .before .before .before .before .before .before .before .before .before .before .before .before .before .before .before .before .before .before .before .before .before .before .before .before .before .before .before .before .before .before .before .before .before .before .before .pre .1 .0) ι (c .before .before .before .before .before .before .before .before .before .before .before .before .before .before .before .before .before .before .before .before .before .before .before .before .before .before .before .before .before .before .before .before .before .before .before .before .before .before .before .before .before .before .pre .1 .1) (c .before .before .before .before .before .before .before .before .before .if5 .self) (c .before .before .before .before .before .before .before .before .before .if5 .out) (c .before .before .before .before .before .before .before .before .before .if5 .at) (c .before .before .before .before .before .before .before .before .before .if5 .index) = ⊎-elim (λ w. on-same (c .before .before .before .before .before .before .before .before .before .before .before .before .before .before .before .before .before .before .before .before .before .before .before .before .before .before .before .before .before .before .before .before .before .before .before .before .before .before .before .before .before .before .pre .1 .0) ι (c .before .before .before .before .before .before .before .before .before .before .before .before .before .before .before .before .before .before .before .before .before .before .before .before .before .before .before .before .before .before .before .before .before .before .before .before .before .before .before .before .before .before .pre .1 .1) (w .8) (w .9) (w .10) (w .11) (steadied (c .before .before .before .before .before .before .before .before .before .before .before .before .before .before .before .before .before .before .before .before .before .before .before .before .before .before .before .before .before .before .before .before .before .before .before .before .before .before .before .before .before .before .pre .1 .0) ι (c .before .before .before .before .before .before .before .before .before .before .before .before .before .before .before .before .before .before .before .before .before .before .before .before .before .before .before .before .before .before .before .before .before .before .before .before .before .before .before .before .before .before .pre .1 .1) (c .before .before .before .before .before .before .before .before .before .before .is-steady .ensures (w .0 .taken)) (w .3 .ensures) (w .6 .ensures) (w .7 .ensures))) (λ w. on-same (c .before .before .before .before .before .before .before .before .before .before .before .before .before .before .before .before .before .before .before .before .before .before .before .before .before .before .before .before .before .before .before .before .before .before .before .before .before .before .before .before .before .before .pre .1 .0) ι (c .before .before .before .before .before .before .before .before .before .before .before .before .before .before .before .before .before .before .before .before .before .before .before .before .before .before .before .before .before .before .before .before .before .before .before .before .before .before .before .before .before .before .pre .1 .1) (w .1) (w .2) (w .3) (w .4) (stays-on (c .before .before .before .before .before .before .before .before .before .before .before .before .before .before .before .before .before .before .before .before .before .before .before .before .before .before .before .before .before .before .before .before .before .before .before .before .before .before .before .before .before .before .pre .1 .0) ι (c .before .before .before .before .before .before .before .before .before .before .before .before .before .before .before .before .before .before .before .before .before .before .before .before .before .before .before .before .before .before .before .before .before .before .before .before .before .before .before .before .before .before .pre .1 .1))) (c .before .before .before .before .before .before .before .before .before .if5 .came) in let h = ν .far in let a = c .before .before .before .before .before .push-nested .ensures .whole in let b = c .before .before .before .before .before .push-nested .ensures .within in omega arith
 
 loop-again : tie.Need-loop-again Inv-loop μ-loop
-loop-again c = let κ : Calls _ _ _ _ _ _ _ _ _ _ _ _ _ _ _ _ _ = record { overflow = c .before .before .before .before .before .before .before .before .before .before .before .before .before .before .before .before .before .before .before .before .before .before .before .before .overflows .ensures _ _; calm = c .before .before .before .before .before .before .before .before .before .before .before .before .before .before .before .before .before .before .before .before .before .before .before .if2 .left; taken = c .before .before .before .before .before .before .before .before .before .before .before .before .before .before .before .before .before .before .before .before .before .before .before .before .before .before .before .before .before .before .before .takes-inline-close .ensures; trailing = c .before .before .before .before .before .before .before .before .before .before .before .before .before .before .before .before .before .before .before .before .before .writes-trailing .ensures _; arms = c .before .before .before .before .before .before .before .before .before .before .before .before .before .before .before .before .before .before .push-token .ensures; trailed = ⊎-elim (λ w. written (w .0 .taken) (w .2 .ensures) (w .5) (w .6)) (λ w. left-out (w .0 .left) (w .1) (w .2)) (c .before .before .before .before .before .before .before .before .before .before .before .before .before .if3 .came); tracked = c .before .before .before .before .before .before .before .before .before .before .before .before .track-fn-state .ensures } in let ι = placed (c .before .before .before .before .before .before .before .before .before .before .before .before .before .before .before .before .before .before .before .before .before .before .before .before .before .before .before .before .before .before .before .before .before .before .before .before .before .before .before .before .args .options) (c .before .before .before .before .before .before .before .before .before .before .before .before .before .before .before .before .before .before .before .before .before .before .before .before .before .before .before .before .before .before .before .before .before .before .before .before .before .before .before .before .pre .1 .0) (c .before .before .before .before .before .before .before .before .before .before .before .before .before .before .before .before .before .before .before .before .before .before .before .before .before .before .before .before .before .before .before .before .before .before .loop .inv) (c .before .before .before .before .before .before .before .before .before .before .before .before .before .before .before .before .before .before .before .before .before .before .before .before .before .before .before .before .before .before .before .before .before .loop-test .taken) (c .before .before .before .before .before .before .before .before .before .before .before .before .before .before .before .before .before .before .before .before .before .before .before .before .before .before .before .before .before .before .before .before .token-at .ensures) (c .before .before .before .before .before .before .before .before .before .before .before .before .before .before .before .before .before .before .before .before .before .before .before .before .before .before .before .before .before .push-leading .ensures) (c .before .before .before .before .before .before .before .before .before .before .before .before .before .before .before .before .before .before .before .before .before .before .before .before .before .if1 .left) κ (c .before .before .before .before .before .before .before .before .before .before .if4 .left) (c .before .before .before .before .before .before .before .before .before .before .before .before .before .before .before .stack .given) (c .before .before .before .before .before .before .before .before .before .next-place .ensures) in rw (c .rows-between .ensures) (steadied (c .before .before .before .before .before .before .before .before .before .before .before .before .before .before .before .before .before .before .before .before .before .before .before .before .before .before .before .before .before .before .before .before .before .before .before .before .before .before .before .before .pre .1 .0) ι (c .before .before .before .before .before .before .before .before .before .before .before .before .before .before .before .before .before .before .before .before .before .before .before .before .before .before .before .before .before .before .before .before .before .before .before .before .before .before .before .before .pre .1 .1) (c .before .before .before .before .before .before .before .before .is-steady .ensures (c .before .before .before .before .before .before .before .if5 .taken)) (c .before .before .before .before .push-steady .ensures) (λ y. rw (c .before .ended-by .ensures)) refl refl refl refl)
+loop-again c = let κ : Calls _ _ _ _ _ _ _ _ _ _ _ _ _ _ _ _ _ = record { overflow = c .before .before .before .before .before .before .before .before .before .before .before .before .before .before .before .before .before .before .before .before .before .before .before .before .before .before .overflows .ensures _ _; calm = c .before .before .before .before .before .before .before .before .before .before .before .before .before .before .before .before .before .before .before .before .before .before .before .before .before .if2 .left; taken = c .before .before .before .before .before .before .before .before .before .before .before .before .before .before .before .before .before .before .before .before .before .before .before .before .before .before .before .before .before .before .before .before .before .takes-inline-close .ensures; trailing = c .before .before .before .before .before .before .before .before .before .before .before .before .before .before .before .before .before .before .before .before .before .before .before .writes-trailing .ensures _; arms = c .before .before .before .before .before .before .before .before .before .before .before .before .before .before .before .before .before .before .before .before .push-token .ensures; trailed = ⊎-elim (λ w. written (w .0 .taken) (w .2 .ensures) (w .5) (w .6)) (λ w. left-out (w .0 .left) (w .1) (w .2)) (c .before .before .before .before .before .before .before .before .before .before .before .before .before .before .before .if3 .came); tracked = c .before .before .before .before .before .before .before .before .before .before .before .before .before .before .track-fn-state .ensures } in let ι = placed (c .before .before .before .before .before .before .before .before .before .before .before .before .before .before .before .before .before .before .before .before .before .before .before .before .before .before .before .before .before .before .before .before .before .before .before .before .before .before .before .before .before .before .args .options) (c .before .before .before .before .before .before .before .before .before .before .before .before .before .before .before .before .before .before .before .before .before .before .before .before .before .before .before .before .before .before .before .before .before .before .before .before .before .before .before .before .before .before .pre .1 .0) (c .before .before .before .before .before .before .before .before .before .before .before .before .before .before .before .before .before .before .before .before .before .before .before .before .before .before .before .before .before .before .before .before .before .before .before .before .loop .inv) (c .before .before .before .before .before .before .before .before .before .before .before .before .before .before .before .before .before .before .before .before .before .before .before .before .before .before .before .before .before .before .before .before .before .before .before .loop-test .taken) (c .before .before .before .before .before .before .before .before .before .before .before .before .before .before .before .before .before .before .before .before .before .before .before .before .before .before .before .before .before .before .before .before .before .before .token-at .ensures) (c .before .before .before .before .before .before .before .before .before .before .before .before .before .before .before .before .before .before .before .before .before .before .before .before .before .before .before .before .before .before .before .push-leading .ensures) (c .before .before .before .before .before .before .before .before .before .before .before .before .before .before .before .before .before .before .before .before .before .before .before .before .before .before .before .if1 .left) κ (c .before .before .before .before .before .before .before .before .before .before .before .before .if4 .left) (c .before .before .before .before .before .before .before .before .before .before .before .before .before .before .before .before .before .stack .given) (c .before .before .before .before .before .before .before .before .before .before .before .next-place .ensures) in let ν : On (c .before .before .before .before .before .before .before .before .before .before .before .before .before .before .before .before .before .before .before .before .before .before .before .before .before .before .before .before .before .before .before .before .before .before .before .before .before .before .before .before .before .before .pre .1 .0) ι (c .before .before .before .before .before .before .before .before .before .before .before .before .before .before .before .before .before .before .before .before .before .before .before .before .before .before .before .before .before .before .before .before .before .before .before .before .before .before .before .before .before .before .pre .1 .1) (c .before .before .before .before .before .before .before .before .before .if5 .self) (c .before .before .before .before .before .before .before .before .before .if5 .out) (c .before .before .before .before .before .before .before .before .before .if5 .at) (c .before .before .before .before .before .before .before .before .before .if5 .index) = ⊎-elim (λ w. on-same (c .before .before .before .before .before .before .before .before .before .before .before .before .before .before .before .before .before .before .before .before .before .before .before .before .before .before .before .before .before .before .before .before .before .before .before .before .before .before .before .before .before .before .pre .1 .0) ι (c .before .before .before .before .before .before .before .before .before .before .before .before .before .before .before .before .before .before .before .before .before .before .before .before .before .before .before .before .before .before .before .before .before .before .before .before .before .before .before .before .before .before .pre .1 .1) (w .8) (w .9) (w .10) (w .11) (steadied (c .before .before .before .before .before .before .before .before .before .before .before .before .before .before .before .before .before .before .before .before .before .before .before .before .before .before .before .before .before .before .before .before .before .before .before .before .before .before .before .before .before .before .pre .1 .0) ι (c .before .before .before .before .before .before .before .before .before .before .before .before .before .before .before .before .before .before .before .before .before .before .before .before .before .before .before .before .before .before .before .before .before .before .before .before .before .before .before .before .before .before .pre .1 .1) (c .before .before .before .before .before .before .before .before .before .before .is-steady .ensures (w .0 .taken)) (w .3 .ensures) (w .6 .ensures) (w .7 .ensures))) (λ w. on-same (c .before .before .before .before .before .before .before .before .before .before .before .before .before .before .before .before .before .before .before .before .before .before .before .before .before .before .before .before .before .before .before .before .before .before .before .before .before .before .before .before .before .before .pre .1 .0) ι (c .before .before .before .before .before .before .before .before .before .before .before .before .before .before .before .before .before .before .before .before .before .before .before .before .before .before .before .before .before .before .before .before .before .before .before .before .before .before .before .before .before .before .pre .1 .1) (w .1) (w .2) (w .3) (w .4) (stays-on (c .before .before .before .before .before .before .before .before .before .before .before .before .before .before .before .before .before .before .before .before .before .before .before .before .before .before .before .before .before .before .before .before .before .before .before .before .before .before .before .before .before .before .pre .1 .0) ι (c .before .before .before .before .before .before .before .before .before .before .before .before .before .before .before .before .before .before .before .before .before .before .before .before .before .before .before .before .before .before .before .before .before .before .before .before .before .before .before .before .before .before .pre .1 .1))) (c .before .before .before .before .before .before .before .before .before .if5 .came) in rw (c .before .rows-between2 .ensures) (nested-on (c .before .before .before .before .before .before .before .before .before .before .before .before .before .before .before .before .before .before .before .before .before .before .before .before .before .before .before .before .before .before .before .before .before .before .before .before .before .before .before .before .before .before .pre .1 .0) (ν .inv) (c .before .before .before .before .before .before .before .before .before .before .before .before .before .before .before .before .before .before .before .before .before .before .before .before .before .before .before .before .before .before .before .before .before .before .before .before .before .before .before .before .before .before .pre .1 .1) (c .before .before .before .before .before .before .before .before .is-nested .ensures (c .before .before .before .before .before .before .before .if6 .taken)) (c .before .before .before .before .before .push-nested .ensures) (c .before .before .behind-braces .ensures))
 
 loop-less-2 : tie.Need-loop-less-2 Inv-loop μ-loop
-loop-less-2 c = let κ : Calls _ _ _ _ _ _ _ _ _ _ _ _ _ _ _ _ _ = record { overflow = c .before .before .before .before .before .before .before .before .before .before .before .before .before .before .before .before .before .overflows .ensures _ _; calm = c .before .before .before .before .before .before .before .before .before .before .before .before .before .before .before .before .if2 .left; taken = c .before .before .before .before .before .before .before .before .before .before .before .before .before .before .before .before .before .before .before .before .before .before .before .before .takes-inline-close .ensures; trailing = c .before .before .before .before .before .before .before .before .before .before .before .before .before .before .writes-trailing .ensures _; arms = c .before .before .before .before .before .before .before .before .before .before .before .push-token .ensures; trailed = ⊎-elim (λ w. written (w .0 .taken) (w .2 .ensures) (w .5) (w .6)) (λ w. left-out (w .0 .left) (w .1) (w .2)) (c .before .before .before .before .before .before .if3 .came); tracked = c .before .before .before .before .before .track-fn-state .ensures } in let g = further (c .before .before .before .before .before .before .before .before .before .before .before .before .before .before .before .before .before .before .before .before .before .before .before .before .before .before .before .before .before .before .before .before .before .args .options) (c .before .before .before .before .before .before .before .before .before .before .before .before .before .before .before .before .before .before .before .before .before .before .before .before .before .before .before .before .before .before .before .before .before .pre .1 .0) (c .before .before .before .before .before .before .before .before .before .before .before .before .before .before .before .before .before .before .before .before .before .before .before .before .before .before .before .loop .inv) (c .before .before .before .before .before .before .before .before .before .before .before .before .before .before .before .before .before .before .before .before .before .before .before .before .before .before .loop-test .taken) (c .before .before .before .before .before .before .before .before .before .before .before .before .before .before .before .before .before .before .before .before .before .before .before .before .before .token-at .ensures) (c .before .before .before .before .before .before .before .before .before .before .before .before .before .before .before .before .before .before .before .before .before .before .push-leading .ensures) (c .before .before .before .before .before .before .before .before .before .before .before .before .before .before .before .before .before .before .if1 .left) κ (c .before .before .before .if4 .left) (c .before .before .before .before .before .before .before .before .stack .given) (c .before .before .next-place .ensures) in let b = (placed (c .before .before .before .before .before .before .before .before .before .before .before .before .before .before .before .before .before .before .before .before .before .before .before .before .before .before .before .before .before .before .before .before .before .args .options) (c .before .before .before .before .before .before .before .before .before .before .before .before .before .before .before .before .before .before .before .before .before .before .before .before .before .before .before .before .before .before .before .before .before .pre .1 .0) (c .before .before .before .before .before .before .before .before .before .before .before .before .before .before .before .before .before .before .before .before .before .before .before .before .before .before .before .loop .inv) (c .before .before .before .before .before .before .before .before .before .before .before .before .before .before .before .before .before .before .before .before .before .before .before .before .before .before .loop-test .taken) (c .before .before .before .before .before .before .before .before .before .before .before .before .before .before .before .before .before .before .before .before .before .before .before .before .before .token-at .ensures) (c .before .before .before .before .before .before .before .before .before .before .before .before .before .before .before .before .before .before .before .before .before .before .push-leading .ensures) (c .before .before .before .before .before .before .before .before .before .before .before .before .before .before .before .before .before .before .if1 .left) κ (c .before .before .before .if4 .left) (c .before .before .before .before .before .before .before .before .stack .given) (c .before .before .next-place .ensures)) .going .head .within in omega arith
+loop-less-2 c = let κ : Calls _ _ _ _ _ _ _ _ _ _ _ _ _ _ _ _ _ = record { overflow = c .before .before .before .before .before .before .before .before .before .before .before .before .before .before .before .before .before .before .before .overflows .ensures _ _; calm = c .before .before .before .before .before .before .before .before .before .before .before .before .before .before .before .before .before .before .if2 .left; taken = c .before .before .before .before .before .before .before .before .before .before .before .before .before .before .before .before .before .before .before .before .before .before .before .before .before .before .takes-inline-close .ensures; trailing = c .before .before .before .before .before .before .before .before .before .before .before .before .before .before .before .before .writes-trailing .ensures _; arms = c .before .before .before .before .before .before .before .before .before .before .before .before .before .push-token .ensures; trailed = ⊎-elim (λ w. written (w .0 .taken) (w .2 .ensures) (w .5) (w .6)) (λ w. left-out (w .0 .left) (w .1) (w .2)) (c .before .before .before .before .before .before .before .before .if3 .came); tracked = c .before .before .before .before .before .before .before .track-fn-state .ensures } in let g = further (c .before .before .before .before .before .before .before .before .before .before .before .before .before .before .before .before .before .before .before .before .before .before .before .before .before .before .before .before .before .before .before .before .before .before .before .args .options) (c .before .before .before .before .before .before .before .before .before .before .before .before .before .before .before .before .before .before .before .before .before .before .before .before .before .before .before .before .before .before .before .before .before .before .before .pre .1 .0) (c .before .before .before .before .before .before .before .before .before .before .before .before .before .before .before .before .before .before .before .before .before .before .before .before .before .before .before .before .before .loop .inv) (c .before .before .before .before .before .before .before .before .before .before .before .before .before .before .before .before .before .before .before .before .before .before .before .before .before .before .before .before .loop-test .taken) (c .before .before .before .before .before .before .before .before .before .before .before .before .before .before .before .before .before .before .before .before .before .before .before .before .before .before .before .token-at .ensures) (c .before .before .before .before .before .before .before .before .before .before .before .before .before .before .before .before .before .before .before .before .before .before .before .before .push-leading .ensures) (c .before .before .before .before .before .before .before .before .before .before .before .before .before .before .before .before .before .before .before .before .if1 .left) κ (c .before .before .before .before .before .if4 .left) (c .before .before .before .before .before .before .before .before .before .before .stack .given) (c .before .before .before .before .next-place .ensures) in let ι = placed (c .before .before .before .before .before .before .before .before .before .before .before .before .before .before .before .before .before .before .before .before .before .before .before .before .before .before .before .before .before .before .before .before .before .before .before .args .options) (c .before .before .before .before .before .before .before .before .before .before .before .before .before .before .before .before .before .before .before .before .before .before .before .before .before .before .before .before .before .before .before .before .before .before .before .pre .1 .0) (c .before .before .before .before .before .before .before .before .before .before .before .before .before .before .before .before .before .before .before .before .before .before .before .before .before .before .before .before .before .loop .inv) (c .before .before .before .before .before .before .before .before .before .before .before .before .before .before .before .before .before .before .before .before .before .before .before .before .before .before .before .before .loop-test .taken) (c .before .before .before .before .before .before .before .before .before .before .before .before .before .before .before .before .before .before .before .before .before .before .before .before .before .before .before .token-at .ensures) (c .before .before .before .before .before .before .before .before .before .before .before .before .before .before .before .before .before .before .before .before .before .before .before .before .push-leading .ensures) (c .before .before .before .before .before .before .before .before .before .before .before .before .before .before .before .before .before .before .before .before .if1 .left) κ (c .before .before .before .before .before .if4 .left) (c .before .before .before .before .before .before .before .before .before .before .stack .given) (c .before .before .before .before .next-place .ensures) in let ν : On (c .before .before .before .before .before .before .before .before .before .before .before .before .before .before .before .before .before .before .before .before .before .before .before .before .before .before .before .before .before .before .before .before .before .before .before .pre .1 .0) ι (c .before .before .before .before .before .before .before .before .before .before .before .before .before .before .before .before .before .before .before .before .before .before .before .before .before .before .before .before .before .before .before .before .before .before .before .pre .1 .1) (c .before .before .if5 .self) (c .before .before .if5 .out) (c .before .before .if5 .at) (c .before .before .if5 .index) = ⊎-elim (λ w. on-same (c .before .before .before .before .before .before .before .before .before .before .before .before .before .before .before .before .before .before .before .before .before .before .before .before .before .before .before .before .before .before .before .before .before .before .before .pre .1 .0) ι (c .before .before .before .before .before .before .before .before .before .before .before .before .before .before .before .before .before .before .before .before .before .before .before .before .before .before .before .before .before .before .before .before .before .before .before .pre .1 .1) (w .8) (w .9) (w .10) (w .11) (steadied (c .before .before .before .before .before .before .before .before .before .before .before .before .before .before .before .before .before .before .before .before .before .before .before .before .before .before .before .before .before .before .before .before .before .before .before .pre .1 .0) ι (c .before .before .before .before .before .before .before .before .before .before .before .before .before .before .before .before .before .before .before .before .before .before .before .before .before .before .before .before .before .before .before .before .before .before .before .pre .1 .1) (c .before .before .before .is-steady .ensures (w .0 .taken)) (w .3 .ensures) (w .6 .ensures) (w .7 .ensures))) (λ w. on-same (c .before .before .before .before .before .before .before .before .before .before .before .before .before .before .before .before .before .before .before .before .before .before .before .before .before .before .before .before .before .before .before .before .before .before .before .pre .1 .0) ι (c .before .before .before .before .before .before .before .before .before .before .before .before .before .before .before .before .before .before .before .before .before .before .before .before .before .before .before .before .before .before .before .before .before .before .before .pre .1 .1) (w .1) (w .2) (w .3) (w .4) (stays-on (c .before .before .before .before .before .before .before .before .before .before .before .before .before .before .before .before .before .before .before .before .before .before .before .before .before .before .before .before .before .before .before .before .before .before .before .pre .1 .0) ι (c .before .before .before .before .before .before .before .before .before .before .before .before .before .before .before .before .before .before .before .before .before .before .before .before .before .before .before .before .before .before .before .before .before .before .before .pre .1 .1))) (c .before .before .if5 .came) in let h = ν .far in let b = ν .inv .going .head .within in omega arith
 
 loop-again-2 : tie.Need-loop-again-2 Inv-loop μ-loop
-loop-again-2 c = let κ : Calls _ _ _ _ _ _ _ _ _ _ _ _ _ _ _ _ _ = record { overflow = c .before .before .before .before .before .before .before .before .before .before .before .before .before .before .before .before .before .overflows .ensures _ _; calm = c .before .before .before .before .before .before .before .before .before .before .before .before .before .before .before .before .if2 .left; taken = c .before .before .before .before .before .before .before .before .before .before .before .before .before .before .before .before .before .before .before .before .before .before .before .before .takes-inline-close .ensures; trailing = c .before .before .before .before .before .before .before .before .before .before .before .before .before .before .writes-trailing .ensures _; arms = c .before .before .before .before .before .before .before .before .before .before .before .push-token .ensures; trailed = ⊎-elim (λ w. written (w .0 .taken) (w .2 .ensures) (w .5) (w .6)) (λ w. left-out (w .0 .left) (w .1) (w .2)) (c .before .before .before .before .before .before .if3 .came); tracked = c .before .before .before .before .before .track-fn-state .ensures } in placed (c .before .before .before .before .before .before .before .before .before .before .before .before .before .before .before .before .before .before .before .before .before .before .before .before .before .before .before .before .before .before .before .before .before .args .options) (c .before .before .before .before .before .before .before .before .before .before .before .before .before .before .before .before .before .before .before .before .before .before .before .before .before .before .before .before .before .before .before .before .before .pre .1 .0) (c .before .before .before .before .before .before .before .before .before .before .before .before .before .before .before .before .before .before .before .before .before .before .before .before .before .before .before .loop .inv) (c .before .before .before .before .before .before .before .before .before .before .before .before .before .before .before .before .before .before .before .before .before .before .before .before .before .before .loop-test .taken) (c .before .before .before .before .before .before .before .before .before .before .before .before .before .before .before .before .before .before .before .before .before .before .before .before .before .token-at .ensures) (c .before .before .before .before .before .before .before .before .before .before .before .before .before .before .before .before .before .before .before .before .before .before .push-leading .ensures) (c .before .before .before .before .before .before .before .before .before .before .before .before .before .before .before .before .before .before .if1 .left) κ (c .before .before .before .if4 .left) (c .before .before .before .before .before .before .before .before .stack .given) (c .before .before .next-place .ensures)
+loop-again-2 c = let κ : Calls _ _ _ _ _ _ _ _ _ _ _ _ _ _ _ _ _ = record { overflow = c .before .before .before .before .before .before .before .before .before .before .before .before .before .before .before .before .before .before .before .overflows .ensures _ _; calm = c .before .before .before .before .before .before .before .before .before .before .before .before .before .before .before .before .before .before .if2 .left; taken = c .before .before .before .before .before .before .before .before .before .before .before .before .before .before .before .before .before .before .before .before .before .before .before .before .before .before .takes-inline-close .ensures; trailing = c .before .before .before .before .before .before .before .before .before .before .before .before .before .before .before .before .writes-trailing .ensures _; arms = c .before .before .before .before .before .before .before .before .before .before .before .before .before .push-token .ensures; trailed = ⊎-elim (λ w. written (w .0 .taken) (w .2 .ensures) (w .5) (w .6)) (λ w. left-out (w .0 .left) (w .1) (w .2)) (c .before .before .before .before .before .before .before .before .if3 .came); tracked = c .before .before .before .before .before .before .before .track-fn-state .ensures } in let ι = placed (c .before .before .before .before .before .before .before .before .before .before .before .before .before .before .before .before .before .before .before .before .before .before .before .before .before .before .before .before .before .before .before .before .before .before .before .args .options) (c .before .before .before .before .before .before .before .before .before .before .before .before .before .before .before .before .before .before .before .before .before .before .before .before .before .before .before .before .before .before .before .before .before .before .before .pre .1 .0) (c .before .before .before .before .before .before .before .before .before .before .before .before .before .before .before .before .before .before .before .before .before .before .before .before .before .before .before .before .before .loop .inv) (c .before .before .before .before .before .before .before .before .before .before .before .before .before .before .before .before .before .before .before .before .before .before .before .before .before .before .before .before .loop-test .taken) (c .before .before .before .before .before .before .before .before .before .before .before .before .before .before .before .before .before .before .before .before .before .before .before .before .before .before .before .token-at .ensures) (c .before .before .before .before .before .before .before .before .before .before .before .before .before .before .before .before .before .before .before .before .before .before .before .before .push-leading .ensures) (c .before .before .before .before .before .before .before .before .before .before .before .before .before .before .before .before .before .before .before .before .if1 .left) κ (c .before .before .before .before .before .if4 .left) (c .before .before .before .before .before .before .before .before .before .before .stack .given) (c .before .before .before .before .next-place .ensures) in let ν : On (c .before .before .before .before .before .before .before .before .before .before .before .before .before .before .before .before .before .before .before .before .before .before .before .before .before .before .before .before .before .before .before .before .before .before .before .pre .1 .0) ι (c .before .before .before .before .before .before .before .before .before .before .before .before .before .before .before .before .before .before .before .before .before .before .before .before .before .before .before .before .before .before .before .before .before .before .before .pre .1 .1) (c .before .before .if5 .self) (c .before .before .if5 .out) (c .before .before .if5 .at) (c .before .before .if5 .index) = ⊎-elim (λ w. on-same (c .before .before .before .before .before .before .before .before .before .before .before .before .before .before .before .before .before .before .before .before .before .before .before .before .before .before .before .before .before .before .before .before .before .before .before .pre .1 .0) ι (c .before .before .before .before .before .before .before .before .before .before .before .before .before .before .before .before .before .before .before .before .before .before .before .before .before .before .before .before .before .before .before .before .before .before .before .pre .1 .1) (w .8) (w .9) (w .10) (w .11) (steadied (c .before .before .before .before .before .before .before .before .before .before .before .before .before .before .before .before .before .before .before .before .before .before .before .before .before .before .before .before .before .before .before .before .before .before .before .pre .1 .0) ι (c .before .before .before .before .before .before .before .before .before .before .before .before .before .before .before .before .before .before .before .before .before .before .before .before .before .before .before .before .before .before .before .before .before .before .before .pre .1 .1) (c .before .before .before .is-steady .ensures (w .0 .taken)) (w .3 .ensures) (w .6 .ensures) (w .7 .ensures))) (λ w. on-same (c .before .before .before .before .before .before .before .before .before .before .before .before .before .before .before .before .before .before .before .before .before .before .before .before .before .before .before .before .before .before .before .before .before .before .before .pre .1 .0) ι (c .before .before .before .before .before .before .before .before .before .before .before .before .before .before .before .before .before .before .before .before .before .before .before .before .before .before .before .before .before .before .before .before .before .before .before .pre .1 .1) (w .1) (w .2) (w .3) (w .4) (stays-on (c .before .before .before .before .before .before .before .before .before .before .before .before .before .before .before .before .before .before .before .before .before .before .before .before .before .before .before .before .before .before .before .before .before .before .before .pre .1 .0) ι (c .before .before .before .before .before .before .before .before .before .before .before .before .before .before .before .before .before .before .before .before .before .before .before .before .before .before .before .before .before .before .before .before .before .before .before .pre .1 .1))) (c .before .before .if5 .came) in ν .inv
 
 same-length-7 : tie.Need-same-length-7 Inv-loop μ-loop
 same-length-7 c = c .before .loop .inv .going .size
@@ -135,12 +150,12 @@ format-spec =
     token-at-requires
     takes-inline-close-requires
     push-leading-requires
-    cast-t23
+    cast-t22
     same-length
     same-length-2
     returns
     overflows-requires
-    cast-t25
+    cast-t24
     same-length-3
     same-length-4
     returns-2
@@ -148,16 +163,21 @@ format-spec =
     push-token-requires
     push-trailing-requires
     track-fn-state-requires
-    cast-t34
+    cast-t33
     same-length-5
     same-length-6
     returns-3
     next-place-requires
     is-steady-requires
     push-steady-requires
-    ended-by-requires
+    behind-steady-requires
     rows-between-requires
     add-index
+    is-nested-requires
+    push-nested-requires
+    behind-braces-requires
+    rows-between-requires-2
+    add-index-2
     loop-less
     loop-again
     loop-less-2
