@@ -87,8 +87,8 @@ pub struct Ends {
 
 // The fields of format.rs under its names. The port adds `len`, the length of the text, which is one past the output's end
 // once something did not fit; `break_count`, the number of entries of the broken-group stack; and `commas`, the number of
-// inserted commas. Each small field stands beside an eight-byte one: where two small ones share eight bytes, the compiler
-// joins them to one number and takes it apart at each use.
+// inserted commas. Small fields and eight-byte ones take turns, but for one pair: where two small ones share eight bytes, the
+// compiler joins them to one number and takes it apart at each use.
 pub struct Formatter {
     pub at_line_start: bool,
     pub len: usize,
