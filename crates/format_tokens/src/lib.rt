@@ -89,8 +89,8 @@ fn is_plain(rows: &[u8], text: &[u8]) -> bool
     plain_mark(rows, text)
 }
 
-// The walk over checked rows: where the plain mark is given there is no trivia to look for. After refusals 4 and 5 every
-// place of the output is 0.
+// The walk over checked rows: where the plain mark is given there is no trivia to look for. After refusals 4
+// and 5 every place of the output is 0.
 fn lay_out(options: Options, rows: &[u8], text: &[u8], out: &mut [u8], mark: bool) -> Answer
     requires { ⌜ Walks (now rows) (now text) × (options .«indent_width» ≤ 16) ⌝ }
     requires { ⌜ mark ≡ plain (tokensOf (now rows) (now text)) ⌝ }

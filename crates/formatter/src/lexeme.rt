@@ -94,7 +94,8 @@ impl Formatter {
         self.push_lexeme(options, out, rows, text, token, kind)
     }
 
-    // The default token emission: indent, spacing, lexeme, unary `-` state. `kind` is the token's, a constant in most arms.
+    // The default token emission: indent, spacing, lexeme, unary `-` state. `kind` is the token's, a constant
+    // in most arms.
     pub fn push_lexeme(
         mut self,
         options: Options,

@@ -1,5 +1,5 @@
-// The formatter of format.rs: its state and its methods, under the names that they have there. The state goes in and comes
-// back by value. The output, the broken-group stack, the rows and the text are lent beside it.
+// The formatter of format.rs: its state and its methods, under the names that they have there. The state goes
+// in and comes back by value. The output, the broken-group stack, the rows and the text are lent beside it.
 ghost use mathlib.Core.List.{List};
 ghost use mathlib.Core.Path.{_≡_};
 ghost use Prim.Native.Nat.{ℕ, _+_, _*_, _≤_, _<_};
@@ -20,7 +20,8 @@ pub mod steady;
 pub mod token;
 pub mod trivia;
 
-// `prev`: an Option in format.rs. A field of an enum type cannot be assigned by itself, so each enum stands in a struct.
+// `prev`: an Option in format.rs. A field of an enum type cannot be assigned by itself, so each enum stands
+// in a struct.
 pub enum Prev {
     Nothing,
     Kind(u32),
@@ -67,8 +68,8 @@ pub struct Options {
     pub list_width: u32,
 }
 
-// A token's place: its kind, its index among the tokens, where its leading rows start, where its own row does, and where
-// its trailing rows end.
+// A token's place: its kind, its index among the tokens, where its leading rows start, where its own row
+// does, and where its trailing rows end.
 pub struct TokenAt {
     pub kind: u32,
     pub index: u32,
@@ -85,10 +86,11 @@ pub struct Ends {
     pub width: usize,
 }
 
-// The fields of format.rs under its names. The port adds `len`, the length of the text, which is one past the output's end
-// once something did not fit; `break_count`, the number of entries of the broken-group stack; and `commas`, the number of
-// inserted commas. Small fields and eight-byte ones take turns, but for one pair: where two small ones share eight bytes, the
-// compiler joins them to one number and takes it apart at each use.
+// The fields of format.rs under its names. The port adds `len`, the length of the text, which is one past the
+// output's end once something did not fit; `break_count`, the number of entries of the broken-group stack;
+// and `commas`, the number of inserted commas. Small fields and eight-byte ones take turns, but for one pair:
+// where two small ones share eight bytes, the compiler joins them to one number and takes it apart at each
+// use.
 pub struct Formatter {
     pub at_line_start: bool,
     pub len: usize,

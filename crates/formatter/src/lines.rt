@@ -63,8 +63,8 @@ impl Formatter {
         }
     }
 
-    // Whether a Newline that is not suppressed is written: not at the text's start before a comment, not in a record or a
-    // one-line block, and no third line feed.
+    // Whether a Newline that is not suppressed is written: not at the text's start before a comment, not in a
+    // record or a one-line block, and no third line feed.
     fn feeds(self, out: &[u8], rows: &[u8]) -> bool
         ensures { λ r. ⌜ ((s text : List ℕ) (x : Aside) → self .len ≤ length (now (out .entry))
             → r ≡ feedsLine (tokensOf (now (rows .entry)) text) (stateOf x

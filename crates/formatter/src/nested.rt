@@ -28,8 +28,8 @@ pub struct Braces {
 }
 
 impl Formatter {
-    // Whether braces of a one-line block may come next: outside records, in a line, with nothing pending, and there is no
-    // trivia.
+    // Whether braces of a one-line block may come next: outside records, in a line, with nothing pending, and
+    // there is no trivia.
     pub fn is_nested(self, bare: bool, rows: &[u8], at: usize) -> bool
         requires { ⌜ at ≤ length (now rows) ⌝ }
         ensures { λ r. ⌜ (r ≡ true → MayNest self bare) ⌝ }
@@ -64,7 +64,8 @@ impl Formatter {
         requires { ⌜ (at ≤ length (now rows)) × (self .len ≤ length (now out)) ⌝ }
         requires { ⌜ onlyTokens (rowsOf (drop at (now rows))) ≡ true ⌝ }
         requires { ⌜ self .«inline_depth» .0 + length (now rows) < 18446744073709551616 ⌝ }
-        ensures { λ r. ⌜ Braced (now (rows .entry)) (placeOf self at) (now (out .entry)) (now (out .exit)) r ⌝ }
+        ensures { λ r. ⌜ Braced (now (rows .entry)) (placeOf self at)
+            (now (out .entry)) (now (out .exit)) r ⌝ }
     {
         let before = self.prev;
         let last = before.kind;

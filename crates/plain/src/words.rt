@@ -35,7 +35,8 @@ pub fn is_words(lexeme: &[u8]) -> bool
     is_long_words(lexeme)
 }
 
-// The same for four to eight bytes, by the first four and the last four. Most are letters alone: these are asked for first.
+// The same for four to eight bytes, by the first four and the last four. Most are letters alone: these are
+// asked for first.
 fn two_fours(lexeme: &[u8]) -> bool
     requires { ⌜ (4 ≤ length (now lexeme)) × (length (now lexeme) ≤ 8) ⌝ }
     ensures { λ r. ⌜ r ≡ runOf isWordByte (now (lexeme .entry)) ⌝ }
@@ -56,7 +57,8 @@ fn two_eights(lexeme: &[u8]) -> bool
     all_high(first & last)
 }
 
-// The same from eight on. Eight are tested at a time: the last eight of all, where fewer are left. A string begins with a quote.
+// The same from eight on. Eight are tested at a time: the last eight of all, where fewer are left. A string
+// begins with a quote.
 fn is_long_words(lexeme: &[u8]) -> bool
     requires { ⌜ 8 ≤ length (now lexeme) ⌝ }
     ensures { λ r. ⌜ r ≡ runOf isWordByte (now (lexeme .entry)) ⌝ }
@@ -199,15 +201,16 @@ fn wide(n: u32) -> u64
     n as u64
 }
 
-// Whether each byte's high bit is set: the tests below answer there, byte by byte, and leave anything in the other bits.
+// Whether each byte's high bit is set: the tests below answer there, byte by byte, and leave anything in the
+// other bits.
 fn all_high(x: u64) -> bool
     ensures { λ r. ⌜ r ≡ eqb (bitAnd x (128 * eightOnes)) (128 * eightOnes) ⌝ }
 {
     x & eights::HIGH == eights::HIGH
 }
 
-// Which bytes are word bytes: letters, digits, `_` and those with the high bit set. `_` with its bit of SMALL changed is
-// 127: of the low parts that one alone reaches the high bit when 1 is added.
+// Which bytes are word bytes: letters, digits, `_` and those with the high bit set. `_` with its bit of SMALL
+// changed is 127: of the low parts that one alone reaches the high bit when 1 is added.
 fn words_in(x: u64) -> u64
     ensures { λ r. ⌜ r ≡ wordsIn eightOnes x ⌝ }
 {
