@@ -23,21 +23,20 @@ use Rattle.push_token.specs.Layout.{finished, layFrom}
 use Rattle.push_token.proofs.Last.{Told}
 use Rattle.sink.proofs.Sink.{nothing, later}
 use Rattle.formatter.specs.declared.Formatter.{Formatter}
-use Rattle.formatter.specs.declared.TokenAt.{TokenAt}
 use Rattle.formatter.specs.declared.Prev.{Prev}
 use Rattle.formatter.specs.declared.Prev.the-variants.{Nothing, Kind}
 use Rattle.formatter.specs.declared.steady.Steady as code
 use Rattle.formatter.specs.Pen.{Aside, Pen, on, stateOf, asideOf, prevOf, formatterOf}
 use Rattle.formatter.specs.Does.{Does}
 use Rattle.formatter.specs.Token.{kindOf}
-use Rattle.formatter.specs.Format.{Walks, onlyTokens, ownRow, nextRow}
-use Rattle.formatter.specs.Steady.{Steady, Stretched, Changed, behind, keepsCommas}
+use Rattle.formatter.specs.Format.{Walks, Head, onlyTokens, ownRow, nextRow}
+use Rattle.formatter.specs.Steady.{Steady, Stretched, Changed, atMarks, behind, marksOf, takesOf}
 use Rattle.formatter.specs.declared.nested.Braces.{Braces}
 use Rattle.formatter.specs.Nested.{Inline, Braced, atBraces, behindBraces, placeOf}
 use Rattle.formatter.proofs.Does.{yes, no, updated}
 use Rattle.formatter.proofs.Turned.{taken}
 use Rattle.formatter.proofs.Runs.{checked-behind}
-use Rattle.formatter.proofs.Place.{Head, bare-run, tokenHere, tokensNext, tokens-next, in-rows}
+use Rattle.formatter.proofs.Place.{bare-run, tokenHere, tokensNext, tokens-next, row-in}
 use Rattle.formatter.proofs.Going.{Going, goes-on, tokens-none}
 use Rattle.formatter.proofs.Turn.{chosen-not}
 
@@ -45,9 +44,7 @@ use Rattle.formatter.proofs.Turn.{chosen-not}
 
 module _ {rows text : List ℕ} {at : ℕ} (ω : Walks rows text) (η : Head rows text at) (h : at < length rows) where
   pub kind-known : tokenHere rows text at .kind ≤ Other
-  kind-known =
-      let token : TokenAt = record { kind = rowAt rows (ownRow rows at) .kind; index = 0; lead = at; own = ownRow rows at; next = nextRow rows (ownRow rows at) } in
-      in-rows ω η h {token = token} (record { kind = refl; index = refl; lead = refl; own = refl; next = refl }) (omega arith) .kind
+  kind-known = row-in ω η h .kind
 
   -- a token that is said to come next is there
   pub next-there : (k : ℕ) → nextIs k (tokensNext rows text at) ≡ true → nextRow rows (ownRow rows at) < length rows
@@ -108,108 +105,109 @@ module _ {rows text : List ℕ} {o : Options.Options} {k₀ l₀ : List ℕ} {x 
   pub last-known : f .«at_line_start» ≡ false → prevOf (f .prev .kind) ≡ some (kindOf (f .prev .kind))
   last-known e = known-prev (f .prev .kind) (γ .told .mid-line e)
 
-  module _ (only : onlyTokens (rowsOf rows) ≡ true) where
-    -- what was laid out ahead, up to the row at `to`, with z aside
-    record Past (to : ℕ) (z : Aside) (g : Formatter) (m : List ℕ) : Type 0 where
-      whole : to ≡ at + 16 * ((to - at) / 16)
-      within : to ≤ length rows
-      size : length m ≡ length l
-      far : f .len ≤ g .len
-      room : g .len ≤ length m
-      rest : drop (g .len) m ≡ drop (g .len) l
-      lays :
-          layFrom o (length l) (finished (stateOf x (on f k l))) i (tokensOf (drop at rows) text)
-          ≡ layFrom o (length l) (finished (stateOf z (on g k m))) (i + (to - at) / 16) (tokensOf (drop to rows) text)
-      shallow : z .tooDeep ≡ x .tooDeep
-      told : Told (formatterOf g k z)
-      indent : g .indent ≡ f .indent
-      group : g .«group_depth» .0 ≡ f .«group_depth» .0
-      inline : g .«inline_depth» .0 ≤ f .«inline_depth» .0 + (to - at) / 16
-      records : g .«record_depth» .0 ≡ f .«record_depth» .0
-      signature : g .«sig_break_depth» ≡ f .«sig_break_depth»
-      commas : g .commas ≡ f .commas
-      count : g .«break_count» ≡ f .«break_count»
+  -- what was laid out ahead, up to the row at `to`, with z aside
+  record Past (to : ℕ) (z : Aside) (g : Formatter) (m : List ℕ) : Type 0 where
+    whole : to ≡ at + 16 * ((to - at) / 16)
+    head : Head rows text to
+    size : length m ≡ length l
+    far : f .len ≤ g .len
+    room : g .len ≤ length m
+    rest : drop (g .len) m ≡ drop (g .len) l
+    lays :
+        layFrom o (length l) (finished (stateOf x (on f k l))) i (tokensOf (drop at rows) text)
+        ≡ layFrom o (length l) (finished (stateOf z (on g k m))) (i + (to - at) / 16) (tokensOf (drop to rows) text)
+    shallow : z .tooDeep ≡ x .tooDeep
+    told : Told (formatterOf g k z)
+    indent : g .indent ≡ f .indent
+    group : g .«group_depth» .0 ≤ f .«group_depth» .0
+    inline : g .«inline_depth» .0 ≤ f .«inline_depth» .0 + (to - at) / 16
+    records : g .«record_depth» .0 ≡ f .«record_depth» .0
+    signature : g .«sig_break_depth» ≡ f .«sig_break_depth»
+    commas : g .commas ≡ f .commas
+    count : g .«break_count» ≡ f .«break_count»
 
-    goes-past : {to : ℕ} {z : Aside} {g : Formatter} {m : List ℕ} → Past to z g m → Going rows text o k₀ l₀ (i + (to - at) / 16) to z (on g k m)
-    goes-past {to} {z} {g} {m} π =
-        let w = π .whole in
+  goes-past : {to : ℕ} {z : Aside} {g : Formatter} {m : List ℕ} → Past to z g m → Going rows text o k₀ l₀ (i + (to - at) / 16) to z (on g k m)
+  goes-past {to} {z} {g} {m} π =
+      let w = π .whole in
+      let v = γ .head .whole in
+      let c = γ .counts in
+      record {
+        head = π .head;
+        index = let j = γ .index in omega arith;
+        size = π .size ∙ γ .size;
+        stack = γ .stack;
+        lent = γ .lent;
+        room = π .room;
+        lays = sym (rw (γ .size) at (π .lays)) ∙ γ .lays;
+        rest = π .rest ∙ later (f .len) (g .len) l l₀ (π .far) (γ .rest);
+        shallow = π .shallow ∙ γ .shallow;
+        told = π .told;
+        counts =
+            record {
+              indent = let a = c .indent in let e = π .indent in omega arith;
+              group = let a = c .group in let e = π .group in omega arith;
+              inline = let a = c .inline in let e = π .inline in omega arith;
+              records = let a = c .records in let e = π .records in omega arith;
+              signature = rw (π .signature) (let a = c .signature in omega arith);
+              commas = let a = c .commas in let e = π .commas in omega arith;
+            };
+        entries = let a = γ .entries in let e = π .count in omega arith;
+      }
+
+  -- behind tokens that only write their lexeme
+
+  module _ {m : List ℕ} {r : code.Steady} (ρ : Steady (formatterOf f k x) (kindOf (f .prev .kind)) (marksOf f) (takesOf f k)) (σ : Stretched rows text at (f .len) (kindOf (f .prev .kind)) (marksOf f) (takesOf f k) l m r) where
+    abbrev gone : Aside
+    gone = asideOf (behind (ltb at (r .at)) (r .prev) (r .marks) (formatterOf f k x))
+
+    pub stretches : {g : Formatter} → Changed (atMarks (r .prev) (r .marks)) (r .len) f g → Going rows text o k₀ l₀ (i + (r .at - at) / 16) (r .at) gone (on g k m)
+    stretches {g} β =
+        let form : formatterOf g k gone ≡ behind (ltb at (r .at)) (r .prev) (r .marks) (formatterOf f k x) = β .form k gone in
+        goes-past (record {
+          whole = σ .whole;
+          head = σ .head;
+          size = σ .size;
+          far = rw (β .len) (σ .far);
+          room = rw (β .len) (σ .room);
+          rest = rw (β .len) (σ .rest);
+          lays = rw (form, β .len, β .commas) (σ .lays o (formatterOf f k x) (f .commas) i ρ);
+          shallow = refl;
+          told = rw form (record { last = σ .last; mid-line = λ e. refl });
+          indent = ap (λ z. z .indent) form;
+          group = let e : g .«group_depth» .0 ≡ r .marks .«group_depth» = ap (λ z. z .groupDepth) form in let h = σ .group in omega arith;
+          inline = let e : g .«inline_depth» .0 ≡ f .«inline_depth» .0 = ap (λ z. z .inlineDepth) form in omega arith;
+          records = ap (λ z. z .recordDepth) form;
+          signature = β .signature;
+          commas = β .commas;
+          count = β .count;
+        })
+
+  -- behind braces of a one-line block
+
+  module _ (only : onlyTokens (rowsOf rows) ≡ true) {m : List ℕ} {r : Braces} (ρ : Inline (formatterOf f k x) (placeOf f at)) (σ : Braced rows (placeOf f at) l m r) (last : kindOf (f .prev .kind) ≤ Other) where
+    abbrev nested : Aside
+    nested = asideOf (behindBraces (ltb at (r .at)) (σ .close) r (formatterOf f k x))
+
+    pub nests : {g : Formatter} → Changed (atBraces r) (r .len) f g → Going rows text o k₀ l₀ (i + (r .at - at) / 16) (r .at) nested (on g k m)
+    nests {g} β =
+        let form : formatterOf g k nested ≡ behindBraces (ltb at (r .at)) (σ .close) r (formatterOf f k x) = β .form k nested in
+        let w = σ .whole in
         let v = γ .head .whole in
-        let c = γ .counts in
-        record {
-          head = head-at rows to (omega arith) text ω only (π .within);
-          index = let j = γ .index in omega arith;
-          size = π .size ∙ γ .size;
-          stack = γ .stack;
-          lent = γ .lent;
-          room = π .room;
-          lays = sym (rw (γ .size) at (π .lays)) ∙ γ .lays;
-          rest = π .rest ∙ later (f .len) (g .len) l l₀ (π .far) (γ .rest);
-          shallow = π .shallow ∙ γ .shallow;
-          told = π .told;
-          counts =
-              record {
-                indent = let a = c .indent in let e = π .indent in omega arith;
-                group = let a = c .group in let e = π .group in omega arith;
-                inline = let a = c .inline in let e = π .inline in omega arith;
-                records = let a = c .records in let e = π .records in omega arith;
-                signature = rw (π .signature) (let a = c .signature in omega arith);
-                commas = let a = c .commas in let e = π .commas in omega arith;
-              };
-          entries = let a = γ .entries in let e = π .count in omega arith;
-        }
-
-    -- behind tokens that only write their lexeme
-
-    module _ {m : List ℕ} {r : code.Steady} (ρ : Steady (formatterOf f k x) (kindOf (f .prev .kind)) (f .«prev_minus_is_unary») (keepsCommas f k)) (σ : Stretched rows text at (f .len) (kindOf (f .prev .kind)) (f .«prev_minus_is_unary») (keepsCommas f k) l m r) where
-      abbrev gone : Aside
-      gone = asideOf (behind (ltb at (r .at)) (r .prev) (formatterOf f k x))
-
-      pub stretches : {g : Formatter} → Changed (definition.setPrev (some (r .prev))) (r .len) f g → Going rows text o k₀ l₀ (i + (r .at - at) / 16) (r .at) gone (on g k m)
-      stretches {g} β =
-          let form : formatterOf g k gone ≡ behind (ltb at (r .at)) (r .prev) (formatterOf f k x) = β .form k gone in
-          goes-past (record {
-            whole = σ .whole;
-            within = σ .within;
-            size = σ .size;
-            far = rw (β .len) (σ .far);
-            room = rw (β .len) (σ .room);
-            rest = rw (β .len) (σ .rest);
-            lays = rw (form, β .len, β .commas) (σ .lays o (formatterOf f k x) (f .commas) i ρ);
-            shallow = refl;
-            told = rw form (record { last = σ .last; mid-line = λ e. refl });
-            indent = ap (λ z. z .indent) form;
-            group = ap (λ z. z .groupDepth) form;
-            inline = let e : g .«inline_depth» .0 ≡ f .«inline_depth» .0 = ap (λ z. z .inlineDepth) form in omega arith;
-            records = ap (λ z. z .recordDepth) form;
-            signature = β .signature;
-            commas = β .commas;
-            count = β .count;
-          })
-
-    -- behind braces of a one-line block
-
-    module _ {m : List ℕ} {r : Braces} (ρ : Inline (formatterOf f k x) (placeOf f at)) (σ : Braced rows (placeOf f at) l m r) (last : kindOf (f .prev .kind) ≤ Other) where
-      abbrev nested : Aside
-      nested = asideOf (behindBraces (ltb at (r .at)) (σ .close) r (formatterOf f k x))
-
-      pub nests : {g : Formatter} → Changed (atBraces r) (r .len) f g → Going rows text o k₀ l₀ (i + (r .at - at) / 16) (r .at) nested (on g k m)
-      nests {g} β =
-          let form : formatterOf g k nested ≡ behindBraces (ltb at (r .at)) (σ .close) r (formatterOf f k x) = β .form k nested in
-          goes-past (record {
-            whole = σ .whole;
-            within = σ .within;
-            size = σ .size;
-            far = rw (β .len) (σ .far);
-            room = rw (β .len) (σ .room);
-            rest = rw (β .len) (σ .rest);
-            lays = rw (form, β .len, β .commas) (σ .lays text o (formatterOf f k x) (f .commas) i ρ);
-            shallow = refl;
-            told = rw form (record { last = σ .last last; mid-line = λ e. refl });
-            indent = ap (λ z. z .indent) form;
-            group = ap (λ z. z .groupDepth) form;
-            inline = let e : g .«inline_depth» .0 ≡ r .depth = ap (λ z. z .inlineDepth) form in let h = σ .deep in omega arith;
-            records = ap (λ z. z .recordDepth) form;
-            signature = β .signature;
-            commas = β .commas;
-            count = β .count;
-          })
+        goes-past (record {
+          whole = σ .whole;
+          head = head-at rows (r .at) (omega arith) text ω only (σ .within);
+          size = σ .size;
+          far = rw (β .len) (σ .far);
+          room = rw (β .len) (σ .room);
+          rest = rw (β .len) (σ .rest);
+          lays = rw (form, β .len, β .commas) (σ .lays text o (formatterOf f k x) (f .commas) i ρ);
+          shallow = refl;
+          told = rw form (record { last = σ .last last; mid-line = λ e. refl });
+          indent = ap (λ z. z .indent) form;
+          group = let e : g .«group_depth» .0 ≡ f .«group_depth» .0 = ap (λ z. z .groupDepth) form in omega arith;
+          inline = let e : g .«inline_depth» .0 ≡ r .depth = ap (λ z. z .inlineDepth) form in let h = σ .deep in omega arith;
+          records = ap (λ z. z .recordDepth) form;
+          signature = β .signature;
+          commas = β .commas;
+          count = β .count;
+        })

@@ -28,10 +28,10 @@ use Rattle.formatter.specs.declared.Broken.the-variants.{Nowhere, At}
 use Rattle.formatter.specs.Pen.{Aside, Pen, on, stateOf, asideOf, signatureOf, topFirst}
 use Rattle.formatter.specs.Does.{Does, Arrives}
 use Rattle.formatter.specs.Token.{depthOf}
-use Rattle.formatter.specs.Format.{Fresh, Walks, walkOf, formattedOf, Laid, nextRow, ownRow}
+use Rattle.formatter.specs.Format.{Head, Fresh, Walks, walkOf, formattedOf, Laid, nextRow, ownRow}
 use Rattle.formatter.proofs.Does.{far}
 use Rattle.formatter.proofs.Turned.{led, led-within, turn-deep}
-use Rattle.formatter.proofs.Place.{Head, head-first, tokenHere, tokensNext, tokens-here, tokens-next, head-next}
+use Rattle.formatter.proofs.Place.{head-first, tokenHere, tokensNext, tokens-here, tokens-next, head-next}
 use Rattle.formatter.proofs.Stack.{top-length}
 use Rattle.formatter.proofs.Lone.{lay-more}
 

@@ -34,7 +34,7 @@ row-token text r rs e =
     let n : trailingOf text rs ≡ [] = no-trail text rs (and-right (eqb (r .what) TokenRow) (onlyTokens rs) e) in
     rw (w, n)
 
-goes-on : (size i : ℕ) (s : State) → length (s .out) ≤ size → s .formatter .tooDeep ≡ none → checked size i s ≡ finished s
+pub goes-on : (size i : ℕ) (s : State) → length (s .out) ≤ size → s .formatter .tooDeep ≡ none → checked size i s ≡ finished s
 goes-on size i s h e = rw (le-ltb size (length (s .out)) h, e)
 
 pub lay-more : (o : Options) (size : ℕ) (s : State) (i : ℕ) (t : Token) (ts : List Token) → layFrom o size (finished s) i (t ∷ ts) ≡ layFrom o size (checked size i (run (turn o i t ts) s)) (i + 1) ts

@@ -37,10 +37,10 @@ use Rattle.formatter.specs.Token.{Ready, StackRoom, InRows, Here, kindOf
 use Rattle.formatter.specs.Trivia.{Part, triviaIn, leadToken}
 use Rattle.formatter.specs.Parts.{returnsEarly, tookNext}
 use Rattle.formatter.specs.declared.steady.Steady as code
-use Rattle.formatter.specs.Steady.{MayBegin, KnownKinds, Stretched, Changed, behind, keepsCommas}
+use Rattle.formatter.specs.Steady.{MayBegin, Stretched, Changed, atMarks, behind, marksOf, takesOf}
 use Rattle.formatter.specs.declared.nested.Braces.{Braces}
 use Rattle.formatter.specs.Nested.{MayNest, Braced, atBraces, behindBraces, placeOf}
-use Rattle.formatter.specs.Format.{Fresh, Walks, TokenRows, NextToken, NextPlace, walkOf, onlyTokens, ownRow, nextRow}
+use Rattle.formatter.specs.Format.{Head, Fresh, Walks, TokenRows, NextToken, NextPlace, walkOf, onlyTokens, ownRow, nextRow}
 use Rattle.formatter.proofs.Does.{seq, updated}
 use Rattle.formatter.proofs.Asides.{Same, lead-same}
 use Rattle.formatter.proofs.Turned.{trailToken, led, turns, trails, trails-not, turn-shallow, turn-skip, turn-taken}
@@ -48,7 +48,7 @@ use Rattle.formatter.proofs.Comments.{no-trivia}
 use Rattle.formatter.proofs.Place.{tokenHere, tokensNext, head-next, stands, leading-is, trailing-is, in-rows, next-token, leads}
 use Rattle.formatter.proofs.Going.{Going, starts, few-tokens, depth-signature, leads-full, lead-fits, leads-deep, fit, goes-full, goes-on}
 use Rattle.formatter.proofs.Ahead.{kind-known, next-there, skips, only-at, last-known, stretches, nests}
-use Rattle.formatter.proofs.Along.{steady-of, kinds-known}
+use Rattle.formatter.proofs.Along.{steady-of}
 use Rattle.formatter.proofs.Inline.{inline-of}
 use Rattle.formatter.proofs.Stack.{top-length}
 
@@ -282,7 +282,7 @@ module _ (options : Options) {rows text : List ℕ} {k₀ l₀ k l : List ℕ} {
           next-in : tookNext (token .kind) (q .prev .kind) ≡ true → token .next < length rows
           next-in e = rw next-is (next-there ω (ι .going .head) h RightBrace (turn-taken o i t ts (stateOf x p) (ι .going .shallow) (ι .no-skip) calm (took ∙ e)))
 
-          its-head : Rattle.formatter.proofs.Place.Head rows text (token .next)
+          its-head : Head rows text (token .next)
           its-head = rw next-is (head-next ω (ι .going .head) h)
 
           -- the token that was taken along is there
@@ -330,45 +330,18 @@ module _ {rows text : List ℕ} {o : Options.Options} {k₀ l₀ k l : List ℕ}
   pub past-few : {to : ℕ} → to ≡ at + 16 * ((to - at) / 16) → to ≤ length rows → i + (to - at) / 16 ≤ 65535
   past-few w h = let a = ι .going .index in let d = ω .few in omega arith
 
-  -- the loop goes on with the state g and the output m, at the row n, which is not before this one, and the token j
-  pub record On (g : Formatter) (m : List ℕ) (n j : ℕ) : Type 0 where
-    pub inv : Loop rows text o k₀ l₀ j n (on g k m)
-    pub far : at ≤ n
-
-  pub on-same : {g g₀ : Formatter} {m m₀ : List ℕ} {n n₀ j j₀ : ℕ} → g ≡ g₀ → m ≡ m₀ → n ≡ n₀ → j ≡ j₀ → On g₀ m₀ n₀ j₀ → On g m n j
-  on-same a b c d h = rw (a, b, c, d) h
-
-  pub stays-on : On f l at i
-  stays-on = record { inv = ι; far = omega arith }
-
   -- those that only write their lexeme
 
-  module _ (ρ : MayBegin f bare) where
-    steady-only : onlyTokens (rowsOf (drop at rows)) ≡ true
-    steady-only = only-at rows at (ι .going .head .whole) (only (ρ .bare))
-
+  module _ (ρ : MayBegin f) where
     pub steady-room : StackRoom f k × (kindOf (f .prev .kind) ≤ Other)
     steady-room = (record { most = ι .going .entries; size = ι .going .stack }, last-kind)
 
-    pub steady-place : (f .len ≤ length l) × ((at ≤ length rows) × (length rows % 16 ≡ at % 16))
-    steady-place = (ι .going .room, (ι .going .head .within, let a = ω .whole in let b = ι .going .head .whole in omega arith))
-
-    pub steady-rows : (onlyTokens (rowsOf (drop at rows)) ≡ true) × (InBounds text (rowsOf (drop at rows)) × KnownKinds (rowsOf (drop at rows)))
-    steady-rows =
-        let η = ι .going .head .checked in
-        (steady-only, (in-bounds text (η .before) (η .number) (rowsOf (drop at rows)) (η .good), kinds-known (length text) (η .before) (η .number) (rowsOf (drop at rows)) (η .good) steady-only))
-
-    pub steadied : {m : List ℕ} {r : code.Steady} {g : Formatter} {d : ℕ} → Stretched rows text at (f .len) (kindOf (f .prev .kind)) (f .«prev_minus_is_unary») (keepsCommas f k) l m r → Changed (definition.setPrev (some (r .prev))) (r .len) f g → d ≡ (r .at - at) / 16 → On g m (r .at) (i + d)
-    steadied {r = r} σ β e =
+    pub steadied : {m : List ℕ} {r : code.Steady} {g : Formatter} → Stretched rows text at (f .len) (kindOf (f .prev .kind)) (marksOf f) (takesOf f k) l m r → Changed (atMarks (r .prev) (r .marks)) (r .len) f g → Loop rows text o k₀ l₀ (i + (r .at - at) / 16) (r .at) (on g k m)
+    steadied {r = r} σ β =
         record {
-          inv =
-              rw e
-              (record {
-                aside = asideOf (behind (ltb at (r .at)) (r .prev) (formatterOf f k (ι .aside)));
-                going = stretches ω (ι .going) (only (ρ .bare)) (steady-of ρ k (ι .aside) (last-known ω (ι .going) (ρ .mid-line)) (ι .no-skip) (ι .going .shallow)) σ β;
-                no-skip = ι .no-skip;
-              });
-          far = let a = σ .whole in omega arith;
+          aside = asideOf (behind (ltb at (r .at)) (r .prev) (r .marks) (formatterOf f k (ι .aside)));
+          going = stretches ω (ι .going) (steady-of ρ k (ι .aside) (last-known ω (ι .going) (ρ .mid-line)) (ι .no-skip) (ι .going .shallow)) σ β;
+          no-skip = ι .no-skip;
         }
 
   -- braces of a one-line block

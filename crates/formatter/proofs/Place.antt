@@ -18,8 +18,8 @@ use Rattle.formatter.specs.declared.Ends.{Ends}
 use Rattle.formatter.specs.declared.TokenAt.{TokenAt}
 use Rattle.formatter.specs.Token.{Ahead, InRows, Stands}
 use Rattle.formatter.specs.Trivia.{Part, triviaIn}
-use Rattle.formatter.specs.Format.{Ending, NextToken, TokenRows, Walks, nextRow, onlyTokens, ownRow, runRows}
-use Rattle.formatter.proofs.Runs.{Checked, only-none, checked-behind, trailing-run, tokens-behind, run-ends, run-most, no-trail, TokenFirst, token-first}
+use Rattle.formatter.specs.Format.{Checked, Head, Ending, NextToken, TokenRows, Walks, nextRow, onlyTokens, ownRow, runRows}
+use Rattle.formatter.proofs.Runs.{only-none, checked-behind, trailing-run, tokens-behind, run-ends, run-most, no-trail, TokenFirst, token-first}
 
 -- ---- rows by number
 
@@ -53,12 +53,6 @@ module _ (rows : List ℕ) (at : ℕ) where
   part-row k d h = row-index (drop at rows) k d (let l = part-length in let z = length-drop at rows in omega arith) ∙ row-drop at rows (16 * k)
 
 -- ---- where a token's rows begin
-
-pub record Head (rows text : List ℕ) (at : ℕ) : Type 0 where
-  pub within : at ≤ length rows
-  pub whole : at ≡ 16 * (at / 16)
-  pub checked : Checked (length text) (rowsOf (drop at rows))
-  pub bare : runRows Trailing (rowsOf (drop at rows)) ≡ 0
 
 pub head-first : {rows text : List ℕ} → Walks rows text → Head rows text 0
 head-first {rows} {text} ω =
@@ -217,3 +211,7 @@ module _ {rows text : List ℕ} {at : ℕ} (ω : Walks rows text) (η : Head row
         let b = trail-count in
         rw (τ .next, τ .own)
         (record { ordered = omega arith; within = x; whole = rw b refl; bounds = rw (b, trails-are) (bounds-take text m (rowsOf (drop (ownRow rows at + 16) rows)) (in-bounds text (behind .before) (behind .number) (rowsOf (drop (ownRow rows at + 16) rows)) (behind .good))) })
+
+  -- the token's own row
+  pub row-in : InRows (record { kind = rowAt rows (ownRow rows at) .kind; index = 0; lead = at; own = ownRow rows at; next = nextRow rows (ownRow rows at) }) rows text
+  row-in = in-rows (record { kind = refl; index = refl; lead = refl; own = refl; next = refl }) (omega arith)

@@ -9,6 +9,15 @@ use Rattle.rows.specs.Row.{rowAt, rowsOf}
 use Rattle.rows.proofs.RowList.{part-cons, part-none}
 use Rattle.formatter.specs.Format.{runRows}
 
+-- no run where another row stands, or none
+pub other-run : (what : ℕ) (rows : List ℕ) (at : ℕ) → at + 16 ≤ length rows → (rowAt rows at .what ≡ what → ⊥) → runRows what (rowsOf (drop at rows)) ≡ 0
+unfolding runRows
+other-run what rows at h e = rw (part-cons rows at h, ne-eqb _ _ e)
+
+pub none-run : (what : ℕ) (rows : List ℕ) (at : ℕ) → length rows < at + 16 → runRows what (rowsOf (drop at rows)) ≡ 0
+unfolding runRows
+none-run what rows at h = rw (part-none rows at h)
+
 -- the run that starts at `from` goes on at `end`
 pub record Runs (what : ℕ) (rows : List ℕ) (from end : ℕ) : Type 0 where
   pub within : end ≤ length rows
@@ -26,15 +35,13 @@ module _ {what : ℕ} {rows : List ℕ} {from end : ℕ} (ρ : Runs what rows fr
       record { within = h; same = omega arith }
 
   pub runs-other : end + 16 ≤ length rows → (rowAt rows end .what ≡ what → ⊥) → end ≡ from + 16 * runRows what (rowsOf (drop from rows))
-  unfolding runRows
   runs-other h e =
-      let z : runRows what (rowsOf (drop end rows)) ≡ 0 = rw (part-cons rows end h, ne-eqb _ _ e) in
+      let z : runRows what (rowsOf (drop end rows)) ≡ 0 = other-run what rows end h e in
       let s = ρ .same in
       omega arith
 
   pub runs-none : length rows < end + 16 → end ≡ from + 16 * runRows what (rowsOf (drop from rows))
-  unfolding runRows
   runs-none h =
-      let z : runRows what (rowsOf (drop end rows)) ≡ 0 = rw (part-none rows end h) in
+      let z : runRows what (rowsOf (drop end rows)) ≡ 0 = none-run what rows end h in
       let s = ρ .same in
       omega arith

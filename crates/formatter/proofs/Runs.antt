@@ -14,7 +14,7 @@ use Rattle.rows.specs.Row.{Row}
 use Rattle.rows.specs.Checks.{Before, after, mayTrail, badFrom}
 use Rattle.rows.specs.Token.{Trivia, triviaOf, trailingOf, tokenOf, tokensFrom}
 use Rattle.rows.proofs.Sound.{first-sound, rest-good}
-use Rattle.formatter.specs.Format.{onlyTokens, runRows}
+use Rattle.formatter.specs.Format.{Checked, onlyTokens, runRows}
 
 -- ---- behind a token: trailing rows
 
@@ -51,12 +51,6 @@ pub run-most : (what : ℕ) (rs : List Row) → runRows what rs ≤ length rs
 unfolding runRows
 run-most what [] = omega arith
 run-most what (r ∷ rs) = split (eqb (r .what) what) (λ e. rw e (let h = run-most what rs in omega arith)) (λ e. rw e (omega arith))
-
--- rows that are checked, whatever stood before them
-pub record Checked (size : ℕ) (rs : List Row) : Type 0 where
-  pub before : Before
-  pub number : ℕ
-  pub good : badFrom size before number rs ≡ none
 
 pub checked-behind : (size : ℕ) (before : Before) (i : ℕ) (rs : List Row) → badFrom size before i rs ≡ none → (n : ℕ) → n ≤ length rs → Checked size (drop n rs)
 checked-behind size before i rs e zero h = record { before = before; number = i; good = e }

@@ -1,158 +1,332 @@
 -- What `push_token` does with a token that only writes its lexeme. Assumes nothing.
-use mathlib.Core.Bool.{Bool, true, false, cond, _&&_, _||_, and-false}
+use mathlib.Core.Bool.{Bool, true, false, cond, not, _&&_, _||_, and-false}
 use mathlib.Core.List.{List, [], _++_, append-assoc}
-use mathlib.Core.Option.{some}
+use mathlib.Core.Option.{none, some, Option·map}
 use mathlib.Core.Path.{_≡_, refl, sym, ap, _∙_}
-use Prim.Native.Nat.{ℕ, _≤_, _<_}
+use Prim.Native.Nat.{ℕ, _-_, _≤_}
 use native.Mathlib.Omega.{arith}
-use borrow.Author.Tests.{ne-eqb, eqb-true, ltb-true}
-use lib.Dec.{eqb, ltb}
+use borrow.Author.Tests.{ne-eqb, eqb-true, ltb-true, lt-leb}
+use lib.Dec.{eqb, leb, ltb}
 use lib.ListN.{replicate}
-use Rattle.report.proofs.Logic.{split, impossible′, or-cases, and-left, and-right}
+use Rattle.report.proofs.Logic.{split, impossible′, or-cases, or-left, or-right}
 use Rattle.report.proofs.Below.{allBelow, below}
 use Rattle.rows.specs.Kinds.{Eof, Newline, LeftBrace, RightBrace, LeftParen, RightParen, LeftBracket, RightBracket, Comma, Minus, Else, Fn, Record, Identifier, Other}
 use Rattle.rows.specs.Options.{Options}
 use Rattle.rows.specs.Token.{Token}
-use Rattle.push_token.specs.Formatter.{Formatter, setRecordPending}
-use Rattle.push_token.specs.Act.{State, state, run}
-use Rattle.push_token.specs.Emit.{spaceAfter, endedBy, trackFnState, tokenGap, trackMinus, pushLexeme}
-use Rattle.push_token.specs.Arms.{atRecordFields, inBrokenList, commaArm, otherArm}
+use Rattle.push_token.specs.Formatter.{Formatter, setAtLineStart, setPrev, setPrevMinusIsUnary, setFnState, setRecordPending, setJustClosedInline, setGroupDepth, setSigBreakDepth, setInlineClose, setReturned}
+use Rattle.push_token.specs.Act.{State, state, Act, if, run}
+use Rattle.push_token.specs.Emit.{isSome, isAt, fnStateAfter, spaceAfter, endedBy, trackFnState, tokenGap, trackMinus, pushLexeme}
+use Rattle.push_token.specs.Arms.{atRecordFields, inBrokenList, elseOnNewLine, closeGroup, closeCall, closeSignature, rightParenArm, rightBracketArm, commaArm, elseArm, otherArm}
 use Rattle.push_token.specs.PushToken.{arm, takeInlineClose, turn}
 use Rattle.sink.specs.Space.{tightBehind, bit, spaces}
 use Rattle.sink.proofs.Spaces.{spaces-are, tight-other}
-use Rattle.formatter.specs.Steady.{onlyWrites, steadyKinds, Steady, behind}
+use Rattle.formatter.specs.declared.steady.Marks.{Marks}
+use Rattle.formatter.specs.Steady.{Takes, isCloser, onlyWrites, steadyKinds, fnAfter, pendingAfter, unaryAfter, groupAfter, marksFor, marked, Right, Steady, behind}
 use Rattle.formatter.proofs.Gaps.{token-gap}
-use Rattle.formatter.proofs.Turn.{chosen-not, by-arm, with-same, fn-kept}
+use Rattle.formatter.proofs.Turn.{same, chosen-not, by-arm}
 
 -- ---- the kinds, by the bits of a number: one test, computed at every kind
 
-abbrev agree : Bool → ℕ → Bool
-agree commas k = eqb (bit (steadyKinds commas) k) (cond (onlyWrites commas k) 1 0)
+abbrev agree : Takes → ℕ → Bool
+agree t k = eqb (bit (steadyKinds t) k) (cond (onlyWrites t k) 1 0)
 
-every : (commas : Bool) → allBelow 35 (agree commas) ≡ true
+every : (a b c d : Bool) → allBelow 35 (agree (record { commas = a; elses = b; fns = c; closers = d })) ≡ true
 unfolding onlyWrites
-every true = refl
-every false = refl
+every true true true true = refl
+every true true true false = refl
+every true true false true = refl
+every true true false false = refl
+every true false true true = refl
+every true false true false = refl
+every true false false true = refl
+every true false false false = refl
+every false true true true = refl
+every false true true false = refl
+every false true false true = refl
+every false true false false = refl
+every false false true true = refl
+every false false true false = refl
+every false false false true = refl
+every false false false false = refl
 
-pub kinds-are : (commas : Bool) (k : ℕ) → k ≤ Other → bit (steadyKinds commas) k ≡ cond (onlyWrites commas k) 1 0
-kinds-are commas k h = eqb-true _ _ (below 35 (agree commas) (every commas) k (omega arith))
+pub kinds-are : (t : Takes) (k : ℕ) → k ≤ Other → bit (steadyKinds t) k ≡ cond (onlyWrites t k) 1 0
+kinds-are t k h = eqb-true _ _ (below 35 (agree t) (every (t .commas) (t .elses) (t .fns) (t .closers)) k (omega arith))
 
 -- a kind whose bit the code found
-pub steady-kind : (commas : Bool) (k : ℕ) → k ≤ Other → (bit (steadyKinds commas) k ≡ 0 → ⊥) → onlyWrites commas k ≡ true
-steady-kind commas k h n = split (onlyWrites commas k) (λ e. e) (λ e. absurd (n (rw e at (kinds-are commas k h))))
+pub steady-kind : (t : Takes) (k : ℕ) → k ≤ Other → (bit (steadyKinds t) k ≡ 0 → ⊥) → onlyWrites t k ≡ true
+steady-kind t k h n = split (onlyWrites t k) (λ e. e) (λ e. absurd (n (rw e at (kinds-are t k h))))
+
+-- a kind that never only writes its lexeme is another one
+never : (t : Takes) (k j : ℕ) → onlyWrites t k ≡ true → onlyWrites t j ≡ false → eqb k j ≡ false
+never t k j w e = ne-eqb k j (λ x. impossible′ (sym e ∙ (rw x at w)))
 
 -- before such a kind, the spaces that the code finds are the definition's
-pub steady-spaces : (commas unary : Bool) (p k : ℕ) → p ≤ Other → k ≤ Other → onlyWrites commas k ≡ true → spaces (tightBehind Other unary) p k ≡ cond (spaceAfter (some p) unary k) 1 0
+pub steady-spaces : (t : Takes) (unary : Bool) (p k : ℕ) → p ≤ Other → k ≤ Other → onlyWrites t k ≡ true → spaces (tightBehind Other unary) p k ≡ cond (spaceAfter (some p) unary k) 1 0
 unfolding onlyWrites
-steady-spaces commas unary p k g h w =
+steady-spaces t unary p k g h w =
     ap (λ tight. spaces tight p k) (tight-other k unary (λ e. impossible′ (rw e at w)) (λ e. impossible′ (rw e at w)) (λ e. impossible′ (rw e at w)))
     ∙ spaces-are p k unary g h
 
+-- ---- the kinds that change a mark, by the bits of a number
+
+abbrev changes : ℕ → Bool
+changes k = isCloser k || (eqb k Minus || (eqb k Fn || eqb k Record))
+
+some-kinds : allBelow 35 (λ k. eqb (bit 0x34_00a0 k) (cond (changes k) 1 0)) ≡ true
+some-kinds = refl
+
+all-kinds : allBelow 35 (λ k. eqb (bit 0x7_ffff_ffff k) 1) ≡ true
+all-kinds = refl
+
+pub marks-same : {n n′ : ℕ} {a a′ b b′ : Bool} {g g′ : ℕ} → n ≡ n′ → a ≡ a′ → b ≡ b′ → g ≡ g′ → marksFor n a b g ≡ marksFor n′ a′ b′ g′
+marks-same n a b g = rw (n, a, b, g)
+
+right-is : {m : Marks} → Right m → marksFor (m .«fn_state») (m .«record_pending») (m .«prev_minus_is_unary») (m .«group_depth») ≡ m
+right-is ρ = rw (← (ρ .marking), ← (ρ .tight))
+
+-- a kind that changes none
+pub marks-kept : {m : Marks} → Right m → (p k : ℕ) → k ≤ Other → bit (m .marking) k ≡ 0 → m ≡ marked p k m
+marks-kept {m} ρ p k h e =
+    split (m .«record_pending» || not (eqb (m .«fn_state») 0))
+    (λ b.
+    let z : bit 0x7_ffff_ffff k ≡ 0 = rw (ρ .marking, b) at e in
+    let w : bit 0x7_ffff_ffff k ≡ 1 = eqb-true _ _ (below 35 (λ k. eqb (bit 0x7_ffff_ffff k) 1) all-kinds k (omega arith)) in
+    let y : _≡_ {A = ℕ} 0 1 = sym z ∙ w in absurd (omega arith))
+    (λ b.
+    let z : bit 0x34_00a0 k ≡ 0 = rw (ρ .marking, b) at e in
+    let w : bit 0x34_00a0 k ≡ cond (changes k) 1 0 = eqb-true _ _ (below 35 (λ k. eqb (bit 0x34_00a0 k) (cond (changes k) 1 0)) some-kinds k (omega arith)) in
+    let none : changes k ≡ false = split (changes k) (λ x. let y : _≡_ {A = ℕ} 0 1 = sym z ∙ w ∙ rw x in absurd (omega arith)) (λ x. x) in
+    let rest = or-right (isCloser k) (eqb k Minus || (eqb k Fn || eqb k Record)) none in
+    let late = or-right (eqb k Minus) (eqb k Fn || eqb k Record) rest in
+    let pending = or-left (m .«record_pending») (not (eqb (m .«fn_state») 0)) b in
+    let state : m .«fn_state» ≡ 0 = eqb-true (m .«fn_state») 0 (un-not (eqb (m .«fn_state») 0) (or-right (m .«record_pending») (not (eqb (m .«fn_state») 0)) b)) in
+    sym (marks-same (rw (or-left (eqb k Fn) (eqb k Record) late, state, and-false (eqb k Identifier)))
+    (rw (or-right (eqb k Fn) (eqb k Record) late, pending, and-false (eqb k Identifier)) (same (leb k Comma || eqb k Else)))
+    (rw (or-left (eqb k Minus) (eqb k Fn || eqb k Record) rest))
+    (rw (or-left (isCloser k) (eqb k Minus || (eqb k Fn || eqb k Record)) none))
+    ∙ right-is ρ))
+  where
+    un-not : (b : Bool) → not b ≡ false → b ≡ true
+    un-not true e = refl
+    un-not false e = sym e
+
 -- ---- the arm
 
--- the kinds that a steady token of the last arm is not of
-record Ordinary (k : ℕ) : Type 0 where
-  eof : eqb k Eof ≡ false
-  newline : eqb k Newline ≡ false
-  left-brace : eqb k LeftBrace ≡ false
-  right-brace : eqb k RightBrace ≡ false
-  left-paren : eqb k LeftParen ≡ false
-  right-paren : eqb k RightParen ≡ false
-  left-bracket : eqb k LeftBracket ≡ false
-  right-bracket : eqb k RightBracket ≡ false
-  comma : eqb k Comma ≡ false
-  minus : eqb k Minus ≡ false
-  else : eqb k Else ≡ false
-  fn : eqb k Fn ≡ false
-  record-kind : eqb k Record ≡ false
+module _ (o : Options) (i : ℕ) (t : Token) (ts : List Token) (s : State) (ks : Takes) (h : onlyWrites ks (t .kind) ≡ true) where
+  abbrev behindOpeners : Act
+  behindOpeners =
+      if (λ f. eqb (t .kind) RightParen) (rightParenArm o t)
+      (if (λ f. eqb (t .kind) RightBracket) (rightBracketArm o t)
+      (if (λ f. eqb (t .kind) Comma) (commaArm o i t)
+      (if (λ f. eqb (t .kind) Else) (elseArm o t)
+      (otherArm o t))))
 
-ordinary : (k : ℕ) → Comma < k → (k ≡ Minus → ⊥) → (k ≡ Else → ⊥) → (k ≡ Fn → ⊥) → (k ≡ Record → ⊥) → Ordinary k
-ordinary k h m e f r =
-    record {
-      eof = ne-eqb k Eof (λ x. omega arith);
-      newline = ne-eqb k Newline (λ x. omega arith);
-      left-brace = ne-eqb k LeftBrace (λ x. omega arith);
-      right-brace = ne-eqb k RightBrace (λ x. omega arith);
-      left-paren = ne-eqb k LeftParen (λ x. omega arith);
-      right-paren = ne-eqb k RightParen (λ x. omega arith);
-      left-bracket = ne-eqb k LeftBracket (λ x. omega arith);
-      right-bracket = ne-eqb k RightBracket (λ x. omega arith);
-      comma = ne-eqb k Comma (λ x. omega arith);
-      minus = ne-eqb k Minus m;
-      else = ne-eqb k Else e;
-      fn = ne-eqb k Fn f;
-      record-kind = ne-eqb k Record r;
-    }
+  past-openers : run (arm o i t ts) s ≡ run behindOpeners s
+  unfolding onlyWrites
+  past-openers =
+      chosen-not s _ _ _ (never ks (t .kind) Eof h refl) ∙ chosen-not s _ _ _ (never ks (t .kind) Newline h refl) ∙ chosen-not s _ _ _ (never ks (t .kind) RightBrace h refl)
+      ∙ chosen-not s _ _ _ (never ks (t .kind) LeftBrace h refl) ∙ chosen-not s _ _ _ (never ks (t .kind) LeftParen h refl) ∙ chosen-not s _ _ _ (never ks (t .kind) LeftBracket h refl)
 
-is-ordinary : (k : ℕ) → (ltb Comma k && ltb k Minus) || ltb Record k ≡ true → Ordinary k
-is-ordinary k h =
-    or-cases (ltb Comma k && ltb k Minus) (ltb Record k) h
-    (λ e. let a = ltb-true Comma k (and-left (ltb Comma k) (ltb k Minus) e) in let b = ltb-true k Minus (and-right (ltb Comma k) (ltb k Minus) e) in ordinary k a (λ x. omega arith) (λ x. omega arith) (λ x. omega arith) (λ x. omega arith))
-    (λ e. let a = ltb-true Record k e in ordinary k (omega arith) (λ x. omega arith) (λ x. omega arith) (λ x. omega arith) (λ x. omega arith))
+  arm-paren : t .kind ≡ RightParen → run (arm o i t ts) s ≡ run (rightParenArm o t) s
+  unfolding run
+  arm-paren e = past-openers ∙ rw e
 
-module _ (o : Options) (i : ℕ) (t : Token) (ts : List Token) (s : State) where
-  arm-other : Ordinary (t .kind) → run (arm o i t ts) s ≡ run (otherArm o t) s
-  arm-other q =
-      chosen-not s _ _ _ (q .eof) ∙ chosen-not s _ _ _ (q .newline) ∙ chosen-not s _ _ _ (q .right-brace) ∙ chosen-not s _ _ _ (q .left-brace) ∙ chosen-not s _ _ _ (q .left-paren)
-      ∙ chosen-not s _ _ _ (q .left-bracket) ∙ chosen-not s _ _ _ (q .right-paren) ∙ chosen-not s _ _ _ (q .right-bracket) ∙ chosen-not s _ _ _ (q .comma) ∙ chosen-not s _ _ _ (q .else)
+  arm-bracket : t .kind ≡ RightBracket → run (arm o i t ts) s ≡ run (rightBracketArm o t) s
+  unfolding run
+  arm-bracket e = past-openers ∙ rw e
 
   arm-comma : t .kind ≡ Comma → run (arm o i t ts) s ≡ run (commaArm o i t) s
   unfolding run
-  arm-comma e = rw e
+  arm-comma e = past-openers ∙ rw e
 
-unary-kept : (f : Formatter) (k : ℕ) → eqb k Minus ≡ false → trackMinus k f .prevMinusIsUnary ≡ f .prevMinusIsUnary
-unary-kept f k e = rw e
+  arm-else : t .kind ≡ Else → run (arm o i t ts) s ≡ run (elseArm o t) s
+  unfolding run
+  arm-else e = past-openers ∙ rw e
+
+  arm-other : isCloser (t .kind) ≡ false → eqb (t .kind) Comma ≡ false → eqb (t .kind) Else ≡ false → run (arm o i t ts) s ≡ run (otherArm o t) s
+  arm-other p c e =
+      past-openers ∙ chosen-not s _ _ _ (or-left (eqb (t .kind) RightParen) (eqb (t .kind) RightBracket) p) ∙ chosen-not s _ _ _ (or-right (eqb (t .kind) RightParen) (eqb (t .kind) RightBracket) p)
+      ∙ chosen-not s _ _ _ c ∙ chosen-not s _ _ _ e
+
+-- ---- the formatter behind the turn
+
+module _ (f : Formatter) (k : ℕ) where
+  abbrev with : Bool → Bool → ℕ → Bool → ℕ → Bool → Bool → Formatter
+  with start unary fn pending group closed inline =
+      setInlineClose inline (setJustClosedInline closed (setGroupDepth group (setRecordPending pending (setFnState fn (setPrevMinusIsUnary unary (setAtLineStart start (setPrev (some k) (setReturned false f))))))))
+
+  with-same : {a a′ b b′ : Bool} {n n′ : ℕ} {d d′ : Bool} {j j′ : ℕ} {e e′ g g′ : Bool} → a ≡ a′ → b ≡ b′ → n ≡ n′ → d ≡ d′ → j ≡ j′ → e ≡ e′ → g ≡ g′ → with a b n d j e g ≡ with a′ b′ n′ d′ j′ e′ g′
+  with-same a b n d j e g = rw (a, b, n, d, j, e, g)
+
+-- what the definition's fields are where the marks say it
+module _ {f : Formatter} {p : ℕ} {m : Marks} {ks : Takes} (σ : Steady f p m ks) where
+  pub prev-is : f .prev ≡ some p
+  prev-is = sym (ap (λ g. g .prev) (σ .at-marks))
+
+  fn-is : f .fnState ≡ m .«fn_state»
+  fn-is = sym (ap (λ g. g .fnState) (σ .at-marks))
+
+  pending-is : f .recordPending ≡ m .«record_pending»
+  pending-is = sym (ap (λ g. g .recordPending) (σ .at-marks))
+
+  minus-is : f .prevMinusIsUnary ≡ m .«prev_minus_is_unary»
+  minus-is = sym (ap (λ g. g .prevMinusIsUnary) (σ .at-marks))
+
+  group-is : f .groupDepth ≡ m .«group_depth»
+  group-is = sym (ap (λ g. g .groupDepth) (σ .at-marks))
+
+  fn-after : (k : ℕ) → onlyWrites ks k ≡ true → cond (isSome (f .sigBreakDepth)) (f .fnState) (fnStateAfter k f) ≡ fnAfter k (m .«fn_state»)
+  unfolding onlyWrites
+  fn-after k h =
+      split (isSome (f .sigBreakDepth))
+      (λ e.
+      let q = σ .no-fn e in
+      let n : eqb k Fn ≡ false = never ks k Fn h (q .0) in
+      rw (e, fn-is, q .1, n, and-false (eqb k Identifier)))
+      (λ e. rw (e, fn-is, never ks k Newline h refl))
 
 -- ---- the turn
 
-module _ (o : Options) (i : ℕ) (t : Token) (ts : List Token) (f : Formatter) (out : List ℕ) (c : ℕ) {p : ℕ} {unary commas : Bool} (σ : Steady f p unary commas) (lead : t .leading ≡ []) (trail : t .trailing ≡ []) where
+module _ (o : Options) (i : ℕ) (t : Token) (ts : List Token) (f : Formatter) (out : List ℕ) (c : ℕ) {p : ℕ} {m : Marks} (ks : Takes) (σ : Steady f p m ks) (lead : t .leading ≡ []) (trail : t .trailing ≡ []) (h : onlyWrites ks (t .kind) ≡ true) where
   abbrev taken : Formatter
   taken = takeInlineClose true f
 
-  -- the formatter behind the arm, which wrote the lexeme
-  abbrev pushed : Bool → Formatter
-  pushed pending = endedBy (t .kind) (trackMinus (t .kind) (setRecordPending pending taken))
+  abbrev here : State
+  here = state taken out c
 
-  ended : (pending : Bool) → pending ≡ false → eqb (t .kind) Minus ≡ false → eqb (t .kind) Fn ≡ false → eqb (t .kind) Newline ≡ false → trackFnState (t .kind) (pushed pending) ≡ behind true (t .kind) f
-  ended pending e m n l =
-      with-same f (t .kind) (sym (σ .mid-line)) (unary-kept f (t .kind) m) (fn-kept f (t .kind) (σ .no-fn) n l) (e ∙ sym (σ .no-record)) (sym (σ .not-closed)) (σ .not-closed)
+  -- the formatter behind the arm, which wrote the lexeme
+  abbrev pushed : Bool → ℕ → Formatter
+  pushed pending group = setGroupDepth group (endedBy (t .kind) (trackMinus (t .kind) (setRecordPending pending taken)))
+
+  ended : {pending : Bool} {group : ℕ} → pending ≡ pendingAfter (t .kind) (m .«record_pending») → group ≡ groupAfter (t .kind) (m .«group_depth») → trackFnState (t .kind) (pushed pending group) ≡ behind true (t .kind) (marked p (t .kind) m) f
+  ended e g = with-same f (t .kind) (sym (σ .mid-line)) (rw (prev-is σ, minus-is σ)) (fn-after σ (t .kind) h) e g (sym (σ .not-closed)) (σ .not-closed)
 
   -- the bytes: a space or none, and the lexeme
   abbrev bytes : List ℕ
-  bytes = replicate (cond (spaceAfter (some p) unary (t .kind)) 1 0) 32 ++ t .lexeme
+  bytes = replicate (cond (spaceAfter (some p) (m .«prev_minus_is_unary») (t .kind)) 1 0) 32 ++ t .lexeme
 
   gap-bytes : (pending : Bool) → (out ++ tokenGap o (t .kind) (setRecordPending pending taken)) ++ t .lexeme ≡ out ++ bytes
   gap-bytes pending =
-      ap (λ g. (out ++ g) ++ t .lexeme) (token-gap o (setRecordPending pending taken) (t .kind) ∙ rw (σ .mid-line, σ .prev, σ .minus))
-      ∙ append-assoc out (replicate (cond (spaceAfter (some p) unary (t .kind)) 1 0) 32) (t .lexeme)
+      ap (λ g. (out ++ g) ++ t .lexeme) (token-gap o (setRecordPending pending taken) (t .kind) ∙ rw (σ .mid-line, prev-is σ, minus-is σ))
+      ∙ append-assoc out (replicate (cond (spaceAfter (some p) (m .«prev_minus_is_unary») (t .kind)) 1 0) 32) (t .lexeme)
 
-  lexeme-pushed : (pending : Bool) → run (pushLexeme o t) (state (setRecordPending pending taken) out c) ≡ state (pushed pending) (out ++ bytes) c
+  lexeme-pushed : (pending : Bool) → run (pushLexeme o t) (state (setRecordPending pending taken) out c) ≡ state (pushed pending (f .groupDepth)) (out ++ bytes) c
   unfolding run
-  lexeme-pushed pending = ap (λ l. state (pushed pending) l c) (gap-bytes pending)
+  lexeme-pushed pending = ap (λ l. state (pushed pending (f .groupDepth)) l c) (gap-bytes pending)
 
-  turned : (pending : Bool) → pending ≡ false → eqb (t .kind) Minus ≡ false → eqb (t .kind) Fn ≡ false → eqb (t .kind) Newline ≡ false → eqb (t .kind) LeftParen ≡ false → eqb (t .kind) LeftBracket ≡ false
-      → run (arm o i t ts) (state taken out c) ≡ run (pushLexeme o t) (state (setRecordPending pending taken) out c)
-      → run (turn o i t ts) (state f out c) ≡ state (behind true (t .kind) f) (out ++ bytes) c
-  turned pending e m n l a b r =
-      by-arm o i t ts f out c lead trail (σ .shallow) (σ .no-skip) a b (r ∙ lexeme-pushed pending) refl ∙ ap (λ g. state g (out ++ bytes) c) (ended pending e m n l)
-
-  comma-pushed : t .kind ≡ Comma → commas ≡ true → run (arm o i t ts) (state taken out c) ≡ run (pushLexeme o t) (state taken out c)
-  unfolding commaArm
-  comma-pushed e b = arm-comma o i t ts (state taken out c) e ∙ chosen-not (state taken out c) (λ s. atRecordFields (s .formatter) || inBrokenList (s .formatter)) _ _ (σ .unbroken b)
-
-  other-pushed : Ordinary (t .kind) → run (arm o i t ts) (state taken out c) ≡ run (pushLexeme o t) (state (setRecordPending (eqb (t .kind) Record || (eqb (t .kind) Identifier && f .recordPending)) taken) out c)
+  group-closed : run (closeGroup o t) here ≡ state (pushed (f .recordPending) (f .groupDepth - 1)) (out ++ bytes) c
   unfolding run
-  other-pushed q = arm-other o i t ts (state taken out c) q
+  group-closed = ap (λ l. state (pushed (f .recordPending) (f .groupDepth - 1)) l c) (gap-bytes (f .recordPending))
 
-  pub steady-turn : onlyWrites commas (t .kind) ≡ true → run (turn o i t ts) (state f out c) ≡ state (behind true (t .kind) f) (out ++ bytes) c
+  turned : {pending : Bool} {group : ℕ} → pending ≡ pendingAfter (t .kind) (m .«record_pending») → group ≡ groupAfter (t .kind) (m .«group_depth»)
+      → run (arm o i t ts) here ≡ state (pushed pending group) (out ++ bytes) c
+      → run (turn o i t ts) (state f out c) ≡ state (behind true (t .kind) (marked p (t .kind) m) f) (out ++ bytes) c
   unfolding onlyWrites
-  steady-turn h =
+  turned e g r =
+      by-arm o i t ts f out c lead trail (σ .shallow) (σ .no-skip) (never ks (t .kind) LeftParen h refl) (never ks (t .kind) LeftBracket h refl) r refl
+      ∙ ap (λ x. state x (out ++ bytes) c) (ended e g)
+
+  -- by the kind
+
+  comma-turn : t .kind ≡ Comma → ks .commas ≡ true → run (turn o i t ts) (state f out c) ≡ state (behind true (t .kind) (marked p (t .kind) m) f) (out ++ bytes) c
+  unfolding commaArm
+  comma-turn e b =
+      turned (rw e (pending-is σ)) (rw e (group-is σ))
+      (arm-comma o i t ts here ks h e ∙ chosen-not here (λ s. atRecordFields (s .formatter) || inBrokenList (s .formatter)) _ _ (σ .unbroken b) ∙ lexeme-pushed (f .recordPending))
+
+  no-break : ks .elses ≡ true → elseOnNewLine taken ≡ false
+  no-break b = rw (prev-is σ, σ .no-brace b, and-false (not (f .justClosedInline)), and-false (not (f .inRecord)), and-false (eqb (f .inlineDepth) 0))
+
+  else-turn : t .kind ≡ Else → ks .elses ≡ true → run (turn o i t ts) (state f out c) ≡ state (behind true (t .kind) (marked p (t .kind) m) f) (out ++ bytes) c
+  unfolding elseArm
+  else-turn e b =
+      turned (rw e (pending-is σ)) (rw e (group-is σ))
+      (arm-else o i t ts here ks h e ∙ chosen-not here (λ s. elseOnNewLine (s .formatter)) _ _ (no-break b) ∙ lexeme-pushed (f .recordPending))
+
+  unlisted : ks .closers ≡ true → inBrokenList taken ≡ false
+  unlisted b = rw (σ .whole b .1)
+
+  -- a `)` outside signatures
+  abbrev unsigned : Act
+  unsigned = if inBrokenList (closeCall o) (closeGroup o t)
+
+  abbrev unchecked : Act
+  unchecked = if (λ g. isAt (g .sigBreakDepth) 0) (closeSignature o) unsigned
+
+  same-depth : ks .closers ≡ true → setSigBreakDepth (Option·map (λ d. d - 1) (f .sigBreakDepth)) taken ≡ taken
+  same-depth b = rw (σ .whole b .0)
+
+  paren-unchecked : ks .closers ≡ true → run (rightParenArm o t) here ≡ run unchecked here
+  unfolding rightParenArm run
+  paren-unchecked b = ap (λ g. run unchecked (state g out c)) (same-depth b)
+
+  paren-turn : t .kind ≡ RightParen → ks .closers ≡ true → run (turn o i t ts) (state f out c) ≡ state (behind true (t .kind) (marked p (t .kind) m) f) (out ++ bytes) c
+  paren-turn e b =
+      turned (rw e (pending-is σ)) (rw e (ap (λ n. n - 1) (group-is σ)))
+      (arm-paren o i t ts here ks h e
+      ∙ paren-unchecked b
+      ∙ chosen-not here (λ s. isAt (s .formatter .sigBreakDepth) 0) (closeSignature o) unsigned (rw (σ .whole b .0))
+      ∙ chosen-not here (λ s. inBrokenList (s .formatter)) (closeCall o) (closeGroup o t) (unlisted b)
+      ∙ group-closed)
+
+  bracket-turn : t .kind ≡ RightBracket → ks .closers ≡ true → run (turn o i t ts) (state f out c) ≡ state (behind true (t .kind) (marked p (t .kind) m) f) (out ++ bytes) c
+  unfolding rightBracketArm
+  bracket-turn e b =
+      turned (rw e (pending-is σ)) (rw e (ap (λ n. n - 1) (group-is σ)))
+      (arm-bracket o i t ts here ks h e ∙ chosen-not here (λ s. inBrokenList (s .formatter)) _ _ (unlisted b) ∙ group-closed)
+
+  other-turn : isCloser (t .kind) ≡ false → eqb (t .kind) Comma ≡ false → eqb (t .kind) Else ≡ false → leb (t .kind) Comma ≡ false → run (turn o i t ts) (state f out c) ≡ state (behind true (t .kind) (marked p (t .kind) m) f) (out ++ bytes) c
+  unfolding run
+  other-turn q a b l =
+      turned (rw (l, b, pending-is σ)) (rw q (group-is σ))
+      (arm-other o i t ts here ks h q a b ∙ lexeme-pushed (eqb (t .kind) Record || (eqb (t .kind) Identifier && f .recordPending)))
+
+  pub steady-turn : run (turn o i t ts) (state f out c) ≡ state (behind true (t .kind) (marked p (t .kind) m) f) (out ++ bytes) c
+  unfolding onlyWrites
+  steady-turn =
       split (eqb (t .kind) Comma)
-      (λ e.
-      let k : t .kind ≡ Comma = eqb-true (t .kind) Comma e in
-      turned (f .recordPending) (σ .no-record) (rw k) (rw k) (rw k) (rw k) (rw k) (comma-pushed k (rw e at h)))
-      (λ e.
-      let q = is-ordinary (t .kind) (rw e at h) in
-      turned (eqb (t .kind) Record || (eqb (t .kind) Identifier && f .recordPending))
-      (rw (q .record-kind, σ .no-record) (and-false (eqb (t .kind) Identifier)))
-      (q .minus) (q .fn) (q .newline) (q .left-paren) (q .left-bracket) (other-pushed q))
+      (λ a. comma-turn (eqb-true (t .kind) Comma a) (rw a at h))
+      (λ a. split (eqb (t .kind) Else)
+      (λ b. else-turn (eqb-true (t .kind) Else b) (rw (a, b) at h))
+      (λ b. split (isCloser (t .kind))
+      (λ q. or-cases (eqb (t .kind) RightParen) (eqb (t .kind) RightBracket) q
+      (λ e. let k = eqb-true (t .kind) RightParen e in paren-turn k (rw k at h))
+      (λ e. let k = eqb-true (t .kind) RightBracket e in bracket-turn k (rw k at h)))
+      (λ q. other-turn q a b (above a b q))))
+    where
+      above : eqb (t .kind) Comma ≡ false → eqb (t .kind) Else ≡ false → isCloser (t .kind) ≡ false → leb (t .kind) Comma ≡ false
+      above a b q =
+          split (eqb (t .kind) Fn)
+          (λ e. rw (eqb-true (t .kind) Fn e))
+          (λ e. let l : ltb Comma (t .kind) ≡ true = rw (a, b, e, q) at h in lt-leb _ _ (ltb-true Comma (t .kind) l))
+
+-- ---- the state behind it is one before such tokens
+
+module _ {f : Formatter} {p : ℕ} {m : Marks} {ks : Takes} (σ : Steady f p m ks) (k : ℕ) (h : onlyWrites ks k ≡ true) where
+  abbrev next : Formatter
+  next = behind true k (marked p k m) f
+
+  -- a group is closed only where no list is broken
+  still-unbroken : ks .commas ≡ true → atRecordFields next || inBrokenList next ≡ false
+  unfolding onlyWrites
+  still-unbroken b =
+      split (isCloser k)
+      (λ q.
+      let w : ks .closers ≡ true = or-cases (eqb k RightParen) (eqb k RightBracket) q (λ e. rw (eqb-true k RightParen e) at h) (λ e. rw (eqb-true k RightBracket e) at h) in
+      rw (or-left (atRecordFields f) (inBrokenList f) (σ .unbroken b), σ .whole w .1))
+      (λ q. rw (q, ← (group-is σ)) (σ .unbroken b))
+
+  pub steady-next : Steady next k (marked p k m) ks
+  unfolding onlyWrites
+  steady-next =
+      record {
+        mid-line = σ .mid-line;
+        not-closed = σ .not-closed;
+        no-skip = σ .no-skip;
+        shallow = σ .shallow;
+        at-marks = refl;
+        no-fn = λ e. let q = σ .no-fn e in (q .0, rw (never ks k Fn h (q .0), q .1, and-false (eqb k Identifier)));
+        unbroken = still-unbroken;
+        no-brace = λ e. never ks k RightBrace h refl;
+        whole = σ .whole;
+      }

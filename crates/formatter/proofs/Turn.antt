@@ -15,7 +15,7 @@ use Rattle.push_token.specs.Act.{State, state, Act, update, _⨾_, choose, noth
 use Rattle.push_token.specs.Emit.{isSome, fnStateAfter, trackFnState, leadingTrivia, trailingTrivia}
 use Rattle.push_token.specs.PushToken.{arm, takeInlineClose, overflows, turn}
 
-same : {A : Type 0} (b : Bool) {x : A} → cond b x x ≡ x
+pub same : {A : Type 0} (b : Bool) {x : A} → cond b x x ≡ x
 same true = refl
 same false = refl
 

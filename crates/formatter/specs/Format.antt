@@ -4,14 +4,14 @@ use mathlib.Core.Bool.{Bool, true, cond, _&&_}
 use mathlib.Core.List.{List, [], _∷_, _++_}
 use mathlib.Core.Option.{none}
 use mathlib.Core.Path.{_≡_}
-use Prim.Native.Nat.{ℕ, zero, suc, _+_, _*_, _%_, _≤_}
+use Prim.Native.Nat.{ℕ, zero, suc, _+_, _*_, _/_, _%_, _≤_}
 use lib.Dec.{eqb}
 use lib.ListN.{length, drop}
 use Rattle.report.specs.Report.{deep}
 use Rattle.rows.specs.Kinds.{Leading, TokenRow, Trailing}
 use Rattle.rows.specs.Options
 use Rattle.rows.specs.Row.{Row, rowAt, rowsOf}
-use Rattle.rows.specs.Checks.{atStart, badFrom}
+use Rattle.rows.specs.Checks.{Before, atStart, badFrom}
 use Rattle.rows.specs.Token.{tokensOf}
 use Rattle.push_token.specs.Formatter.{new}
 use Rattle.push_token.specs.Act.{State}
@@ -33,6 +33,12 @@ pub record Walks (rows text : List ℕ) : Type 0 where
   pub few : length rows ≤ 1048560
   pub good : badFrom (length text) atStart 0 (rowsOf rows) ≡ none
 
+-- rows that are checked, whatever stood before them
+pub record Checked (size : ℕ) (rs : List Row) : Type 0 where
+  pub before : Before
+  pub number : ℕ
+  pub good : badFrom size before number rs ≡ none
+
 -- no row is a trivia row
 unfoldable pub onlyTokens : List Row → Bool
 onlyTokens [] = true
@@ -42,6 +48,13 @@ onlyTokens (r ∷ rs) = eqb (r .what) TokenRow && onlyTokens rs
 unfoldable pub runRows : ℕ → List Row → ℕ
 runRows what [] = zero
 runRows what (r ∷ rs) = cond (eqb (r .what) what) (suc (runRows what rs)) zero
+
+-- where a token's rows begin, or all end: what is known of the rows from there on
+pub record Head (rows text : List ℕ) (at : ℕ) : Type 0 where
+  pub within : at ≤ length rows
+  pub whole : at ≡ 16 * (at / 16)
+  pub checked : Checked (length text) (rowsOf (drop at rows))
+  pub bare : runRows Trailing (rowsOf (drop at rows)) ≡ 0
 
 -- of a token whose leading rows start at an index: its own row, and the row behind its trailing ones
 abbrev pub ownRow : List ℕ → ℕ → ℕ

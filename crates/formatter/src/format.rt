@@ -68,13 +68,12 @@ impl Formatter {
             let next = self.next_place(rows, token, bare);
             at = next.at;
             index = next.index;
-            if self.is_steady(bare) {
-                let ahead = self.push_steady(out, stack, rows, text, at);
+            if self.is_steady(rows, at) {
+                let ahead = self.push_steady(out, stack, rows, text, at, bare);
                 self = self.behind_steady(ahead);
                 index += rows_between(at, ahead.at);
                 at = ahead.at;
-            }
-            if self.is_nested(bare, rows, at) {
+            } else if self.is_nested(bare, rows, at) {
                 let braces = self.push_nested(out, rows, at);
                 self = self.behind_braces(braces);
                 index += rows_between(at, braces.at);

@@ -210,7 +210,7 @@ impl Formatter {
         }
     }
 
-    fn in_broken_signature(self) -> bool
+    pub fn in_broken_signature(self) -> bool
         ensures { λ r. ⌜ r ≡ isSome (signatureOf (self .«sig_break_depth» .0)) ⌝ }
     {
         let signature = self.sig_break_depth;

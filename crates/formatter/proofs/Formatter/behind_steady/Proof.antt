@@ -8,7 +8,7 @@ ended-by-requires : tie.Need-ended-by-requires
 ended-by-requires c κs = search needs
 
 returns : tie.Need-returns
-returns c = record { form = λ s x. rw (c .ended-by .ensures); len = refl; commas = refl; count = refl; signature = refl }
+returns c = record { form = λ s x. rw (c .before .ended-by .ensures); len = refl; commas = refl; count = refl; signature = refl }
 
 pub behind-steady-spec : {M : Type 1} → statement M
 behind-steady-spec = tie.close (tie.spec ended-by-requires returns)

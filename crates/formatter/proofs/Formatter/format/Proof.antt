@@ -1,5 +1,5 @@
 -- `formatter::Formatter::format` meets its contract. Assumes nothing.
-use Rattle.formatter.proofs.Loop.{Loop, Calls, written, left-out, begins, small-indent, its-rows, lead-size, full-lead, ready, stack-room, deep-at, turn-size, full-turn, next-bounds, next-there-too, placed, further, past-within, past-few, On, on-same, stays-on, steady-room, steady-place, steady-rows, steadied, nested-place, nested-rows, nested-on}
+use Rattle.formatter.proofs.Loop.{Loop, Calls, written, left-out, begins, small-indent, its-rows, lead-size, full-lead, ready, stack-room, deep-at, turn-size, full-turn, next-bounds, next-there-too, placed, further, past-within, past-few, steady-room, steadied, nested-place, nested-rows, nested-on}
 use Rattle.formatter.proofs.Going.{laid-stopped, laid-done}
 use Rattle.formatter.proofs.Place.{ahead, leads, next-token, trails}
 use Rattle.formatter.specs.Pen.{on, optionsOf}
@@ -89,46 +89,52 @@ next-place-requires : tie.Need-next-place-requires Inv-loop μ-loop
 next-place-requires c κs = let κ : Calls _ _ _ _ _ _ _ _ _ _ _ _ _ _ _ _ _ = record { overflow = c .before .before .before .before .before .before .before .before .before .before .before .before .before .before .overflows .ensures _ _; calm = c .before .before .before .before .before .before .before .before .before .before .before .before .before .if2 .left; taken = c .before .before .before .before .before .before .before .before .before .before .before .before .before .before .before .before .before .before .before .before .before .takes-inline-close .ensures; trailing = c .before .before .before .before .before .before .before .before .before .before .before .writes-trailing .ensures _; arms = c .before .before .before .before .before .before .before .before .push-token .ensures; trailed = ⊎-elim (λ w. written (w .0 .taken) (w .2 .ensures) (w .5) (w .6)) (λ w. left-out (w .0 .left) (w .1) (w .2)) (c .before .before .before .if3 .came); tracked = c .before .before .track-fn-state .ensures } in (next-bounds (c .before .before .before .before .before .before .before .before .before .before .before .before .before .before .before .before .before .before .before .before .before .before .before .before .before .before .before .before .before .before .args .options) (c .before .before .before .before .before .before .before .before .before .before .before .before .before .before .before .before .before .before .before .before .before .before .before .before .before .before .before .before .before .before .pre .1 .0) (c .before .before .before .before .before .before .before .before .before .before .before .before .before .before .before .before .before .before .before .before .before .before .before .before .loop .inv) (c .before .before .before .before .before .before .before .before .before .before .before .before .before .before .before .before .before .before .before .before .before .before .before .loop-test .taken) (c .before .before .before .before .before .before .before .before .before .before .before .before .before .before .before .before .before .before .before .before .before .before .token-at .ensures) (c .before .before .before .before .before .before .before .before .before .before .before .before .before .before .before .before .before .before .before .push-leading .ensures) (c .before .before .before .before .before .before .before .before .before .before .before .before .before .before .before .if1 .left) κ (c .if4 .left) (c .before .before .before .before .before .stack .given), next-there-too (c .before .before .before .before .before .before .before .before .before .before .before .before .before .before .before .before .before .before .before .before .before .before .before .before .before .before .before .before .before .before .args .options) (c .before .before .before .before .before .before .before .before .before .before .before .before .before .before .before .before .before .before .before .before .before .before .before .before .before .before .before .before .before .before .pre .1 .0) (c .before .before .before .before .before .before .before .before .before .before .before .before .before .before .before .before .before .before .before .before .before .before .before .before .loop .inv) (c .before .before .before .before .before .before .before .before .before .before .before .before .before .before .before .before .before .before .before .before .before .before .before .loop-test .taken) (c .before .before .before .before .before .before .before .before .before .before .before .before .before .before .before .before .before .before .before .before .before .before .token-at .ensures) (c .before .before .before .before .before .before .before .before .before .before .before .before .before .before .before .before .before .before .before .push-leading .ensures) (c .before .before .before .before .before .before .before .before .before .before .before .before .before .before .before .if1 .left) κ (c .if4 .left) (c .before .before .before .before .before .stack .given) (c .before .before .before .before .before .before .before .before .before .before .before .before .before .before .before .before .before .before .before .before .before .before .before .before .before .before .before .before .before .before .pre .1 .1))
 
 is-steady-requires : tie.Need-is-steady-requires Inv-loop μ-loop
-is-steady-requires c κs = search needs
+is-steady-requires c κs = let κ : Calls _ _ _ _ _ _ _ _ _ _ _ _ _ _ _ _ _ = record { overflow = c .before .before .before .before .before .before .before .before .before .before .before .before .before .before .before .overflows .ensures _ _; calm = c .before .before .before .before .before .before .before .before .before .before .before .before .before .before .if2 .left; taken = c .before .before .before .before .before .before .before .before .before .before .before .before .before .before .before .before .before .before .before .before .before .before .takes-inline-close .ensures; trailing = c .before .before .before .before .before .before .before .before .before .before .before .before .writes-trailing .ensures _; arms = c .before .before .before .before .before .before .before .before .before .push-token .ensures; trailed = ⊎-elim (λ w. written (w .0 .taken) (w .2 .ensures) (w .5) (w .6)) (λ w. left-out (w .0 .left) (w .1) (w .2)) (c .before .before .before .before .if3 .came); tracked = c .before .before .before .track-fn-state .ensures } in let ι = placed (c .before .before .before .before .before .before .before .before .before .before .before .before .before .before .before .before .before .before .before .before .before .before .before .before .before .before .before .before .before .before .before .args .options) (c .before .before .before .before .before .before .before .before .before .before .before .before .before .before .before .before .before .before .before .before .before .before .before .before .before .before .before .before .before .before .before .pre .1 .0) (c .before .before .before .before .before .before .before .before .before .before .before .before .before .before .before .before .before .before .before .before .before .before .before .before .before .loop .inv) (c .before .before .before .before .before .before .before .before .before .before .before .before .before .before .before .before .before .before .before .before .before .before .before .before .loop-test .taken) (c .before .before .before .before .before .before .before .before .before .before .before .before .before .before .before .before .before .before .before .before .before .before .before .token-at .ensures) (c .before .before .before .before .before .before .before .before .before .before .before .before .before .before .before .before .before .before .before .before .push-leading .ensures) (c .before .before .before .before .before .before .before .before .before .before .before .before .before .before .before .before .if1 .left) κ (c .before .if4 .left) (c .before .before .before .before .before .before .stack .given) (c .next-place .ensures) in ι .going .head .within
 
 push-steady-requires : tie.Need-push-steady-requires Inv-loop μ-loop
-push-steady-requires c κs = let κ : Calls _ _ _ _ _ _ _ _ _ _ _ _ _ _ _ _ _ = record { overflow = c .before .before .before .before .before .before .before .before .before .before .before .before .before .before .before .before .before .before .before .overflows .ensures _ _; calm = c .before .before .before .before .before .before .before .before .before .before .before .before .before .before .before .before .before .before .if2 .left; taken = c .before .before .before .before .before .before .before .before .before .before .before .before .before .before .before .before .before .before .before .before .before .before .before .before .before .before .takes-inline-close .ensures; trailing = c .before .before .before .before .before .before .before .before .before .before .before .before .before .before .before .before .writes-trailing .ensures _; arms = c .before .before .before .before .before .before .before .before .before .before .before .before .before .push-token .ensures; trailed = ⊎-elim (λ w. written (w .0 .taken) (w .2 .ensures) (w .5) (w .6)) (λ w. left-out (w .0 .left) (w .1) (w .2)) (c .before .before .before .before .before .before .before .before .if3 .came); tracked = c .before .before .before .before .before .before .before .track-fn-state .ensures } in let ι = placed (c .before .before .before .before .before .before .before .before .before .before .before .before .before .before .before .before .before .before .before .before .before .before .before .before .before .before .before .before .before .before .before .before .before .before .before .args .options) (c .before .before .before .before .before .before .before .before .before .before .before .before .before .before .before .before .before .before .before .before .before .before .before .before .before .before .before .before .before .before .before .before .before .before .before .pre .1 .0) (c .before .before .before .before .before .before .before .before .before .before .before .before .before .before .before .before .before .before .before .before .before .before .before .before .before .before .before .before .before .loop .inv) (c .before .before .before .before .before .before .before .before .before .before .before .before .before .before .before .before .before .before .before .before .before .before .before .before .before .before .before .before .loop-test .taken) (c .before .before .before .before .before .before .before .before .before .before .before .before .before .before .before .before .before .before .before .before .before .before .before .before .before .before .before .token-at .ensures) (c .before .before .before .before .before .before .before .before .before .before .before .before .before .before .before .before .before .before .before .before .before .before .before .before .push-leading .ensures) (c .before .before .before .before .before .before .before .before .before .before .before .before .before .before .before .before .before .before .before .before .if1 .left) κ (c .before .before .before .before .before .if4 .left) (c .before .before .before .before .before .before .before .before .before .before .stack .given) (c .before .before .before .before .next-place .ensures) in (steady-room (c .before .before .before .before .before .before .before .before .before .before .before .before .before .before .before .before .before .before .before .before .before .before .before .before .before .before .before .before .before .before .before .before .before .before .before .pre .1 .0) ι (c .before .before .before .before .before .before .before .before .before .before .before .before .before .before .before .before .before .before .before .before .before .before .before .before .before .before .before .before .before .before .before .before .before .before .before .pre .1 .1) (c .before .before .before .is-steady .ensures (c .before .before .if5 .taken)), (steady-place (c .before .before .before .before .before .before .before .before .before .before .before .before .before .before .before .before .before .before .before .before .before .before .before .before .before .before .before .before .before .before .before .before .before .before .before .pre .1 .0) ι (c .before .before .before .before .before .before .before .before .before .before .before .before .before .before .before .before .before .before .before .before .before .before .before .before .before .before .before .before .before .before .before .before .before .before .before .pre .1 .1) (c .before .before .before .is-steady .ensures (c .before .before .if5 .taken)), steady-rows (c .before .before .before .before .before .before .before .before .before .before .before .before .before .before .before .before .before .before .before .before .before .before .before .before .before .before .before .before .before .before .before .before .before .before .before .pre .1 .0) ι (c .before .before .before .before .before .before .before .before .before .before .before .before .before .before .before .before .before .before .before .before .before .before .before .before .before .before .before .before .before .before .before .before .before .before .before .pre .1 .1) (c .before .before .before .is-steady .ensures (c .before .before .if5 .taken))))
+push-steady-requires c κs = let κ : Calls _ _ _ _ _ _ _ _ _ _ _ _ _ _ _ _ _ = record { overflow = c .before .before .before .before .before .before .before .before .before .before .before .before .before .before .before .before .before .before .before .overflows .ensures _ _; calm = c .before .before .before .before .before .before .before .before .before .before .before .before .before .before .before .before .before .before .if2 .left; taken = c .before .before .before .before .before .before .before .before .before .before .before .before .before .before .before .before .before .before .before .before .before .before .before .before .before .before .takes-inline-close .ensures; trailing = c .before .before .before .before .before .before .before .before .before .before .before .before .before .before .before .before .writes-trailing .ensures _; arms = c .before .before .before .before .before .before .before .before .before .before .before .before .before .push-token .ensures; trailed = ⊎-elim (λ w. written (w .0 .taken) (w .2 .ensures) (w .5) (w .6)) (λ w. left-out (w .0 .left) (w .1) (w .2)) (c .before .before .before .before .before .before .before .before .if3 .came); tracked = c .before .before .before .before .before .before .before .track-fn-state .ensures } in let ι = placed (c .before .before .before .before .before .before .before .before .before .before .before .before .before .before .before .before .before .before .before .before .before .before .before .before .before .before .before .before .before .before .before .before .before .before .before .args .options) (c .before .before .before .before .before .before .before .before .before .before .before .before .before .before .before .before .before .before .before .before .before .before .before .before .before .before .before .before .before .before .before .before .before .before .before .pre .1 .0) (c .before .before .before .before .before .before .before .before .before .before .before .before .before .before .before .before .before .before .before .before .before .before .before .before .before .before .before .before .before .loop .inv) (c .before .before .before .before .before .before .before .before .before .before .before .before .before .before .before .before .before .before .before .before .before .before .before .before .before .before .before .before .loop-test .taken) (c .before .before .before .before .before .before .before .before .before .before .before .before .before .before .before .before .before .before .before .before .before .before .before .before .before .before .before .token-at .ensures) (c .before .before .before .before .before .before .before .before .before .before .before .before .before .before .before .before .before .before .before .before .before .before .before .before .push-leading .ensures) (c .before .before .before .before .before .before .before .before .before .before .before .before .before .before .before .before .before .before .before .before .if1 .left) κ (c .before .before .before .before .before .if4 .left) (c .before .before .before .before .before .before .before .before .before .before .stack .given) (c .before .before .before .before .next-place .ensures) in (steady-room (c .before .before .before .before .before .before .before .before .before .before .before .before .before .before .before .before .before .before .before .before .before .before .before .before .before .before .before .before .before .before .before .before .before .before .before .pre .1 .0) ι (c .before .before .before .before .before .before .before .before .before .before .before .before .before .before .before .before .before .before .before .before .before .before .before .before .before .before .before .before .before .before .before .before .before .before .before .pre .1 .1) (c .before .before .before .is-steady .ensures (c .before .before .if5 .taken)), ((ι .going .room, (c .before .before .before .before .before .before .before .before .before .before .before .before .before .before .before .before .before .before .before .before .before .before .before .before .before .before .before .before .before .before .before .before .before .before .before .pre .1 .0)), (ι .going .head, (c .before .before .before .before .before .before .before .before .before .before .before .before .before .before .before .before .before .before .before .before .before .before .before .before .before .before .before .before .before .before .before .before .before .before .before .pre .1 .1))))
 
 behind-steady-requires : tie.Need-behind-steady-requires Inv-loop μ-loop
 behind-steady-requires c κs = search needs
 
 rows-between-requires : tie.Need-rows-between-requires Inv-loop μ-loop
-rows-between-requires c κs = let κ : Calls _ _ _ _ _ _ _ _ _ _ _ _ _ _ _ _ _ = record { overflow = c .before .before .before .before .before .before .before .before .before .before .before .before .before .before .before .before .before .before .before .before .before .before .before .overflows .ensures _ _; calm = c .before .before .before .before .before .before .before .before .before .before .before .before .before .before .before .before .before .before .before .before .before .before .if2 .left; taken = c .before .before .before .before .before .before .before .before .before .before .before .before .before .before .before .before .before .before .before .before .before .before .before .before .before .before .before .before .before .before .takes-inline-close .ensures; trailing = c .before .before .before .before .before .before .before .before .before .before .before .before .before .before .before .before .before .before .before .before .writes-trailing .ensures _; arms = c .before .before .before .before .before .before .before .before .before .before .before .before .before .before .before .before .before .push-token .ensures; trailed = ⊎-elim (λ w. written (w .0 .taken) (w .2 .ensures) (w .5) (w .6)) (λ w. left-out (w .0 .left) (w .1) (w .2)) (c .before .before .before .before .before .before .before .before .before .before .before .before .if3 .came); tracked = c .before .before .before .before .before .before .before .before .before .before .before .track-fn-state .ensures } in let ι = placed (c .before .before .before .before .before .before .before .before .before .before .before .before .before .before .before .before .before .before .before .before .before .before .before .before .before .before .before .before .before .before .before .before .before .before .before .before .before .before .before .args .options) (c .before .before .before .before .before .before .before .before .before .before .before .before .before .before .before .before .before .before .before .before .before .before .before .before .before .before .before .before .before .before .before .before .before .before .before .before .before .before .before .pre .1 .0) (c .before .before .before .before .before .before .before .before .before .before .before .before .before .before .before .before .before .before .before .before .before .before .before .before .before .before .before .before .before .before .before .before .before .loop .inv) (c .before .before .before .before .before .before .before .before .before .before .before .before .before .before .before .before .before .before .before .before .before .before .before .before .before .before .before .before .before .before .before .before .loop-test .taken) (c .before .before .before .before .before .before .before .before .before .before .before .before .before .before .before .before .before .before .before .before .before .before .before .before .before .before .before .before .before .before .before .token-at .ensures) (c .before .before .before .before .before .before .before .before .before .before .before .before .before .before .before .before .before .before .before .before .before .before .before .before .before .before .before .before .push-leading .ensures) (c .before .before .before .before .before .before .before .before .before .before .before .before .before .before .before .before .before .before .before .before .before .before .before .before .if1 .left) κ (c .before .before .before .before .before .before .before .before .before .if4 .left) (c .before .before .before .before .before .before .before .before .before .before .before .before .before .before .stack .given) (c .before .before .before .before .before .before .before .before .next-place .ensures) in past-within (c .before .before .before .before .before .before .before .before .before .before .before .before .before .before .before .before .before .before .before .before .before .before .before .before .before .before .before .before .before .before .before .before .before .before .before .before .before .before .before .pre .1 .0) ι (c .before .before .before .before .before .before .before .before .before .before .before .before .before .before .before .before .before .before .before .before .before .before .before .before .before .before .before .before .before .before .before .before .before .before .before .before .before .before .before .pre .1 .1) (c .before .before .before .push-steady .ensures .whole) (c .before .before .before .push-steady .ensures .within)
+rows-between-requires c κs = let κ : Calls _ _ _ _ _ _ _ _ _ _ _ _ _ _ _ _ _ = record { overflow = c .before .before .before .before .before .before .before .before .before .before .before .before .before .before .before .before .before .before .before .before .before .before .before .overflows .ensures _ _; calm = c .before .before .before .before .before .before .before .before .before .before .before .before .before .before .before .before .before .before .before .before .before .before .if2 .left; taken = c .before .before .before .before .before .before .before .before .before .before .before .before .before .before .before .before .before .before .before .before .before .before .before .before .before .before .before .before .before .before .takes-inline-close .ensures; trailing = c .before .before .before .before .before .before .before .before .before .before .before .before .before .before .before .before .before .before .before .before .writes-trailing .ensures _; arms = c .before .before .before .before .before .before .before .before .before .before .before .before .before .before .before .before .before .push-token .ensures; trailed = ⊎-elim (λ w. written (w .0 .taken) (w .2 .ensures) (w .5) (w .6)) (λ w. left-out (w .0 .left) (w .1) (w .2)) (c .before .before .before .before .before .before .before .before .before .before .before .before .if3 .came); tracked = c .before .before .before .before .before .before .before .before .before .before .before .track-fn-state .ensures } in let ι = placed (c .before .before .before .before .before .before .before .before .before .before .before .before .before .before .before .before .before .before .before .before .before .before .before .before .before .before .before .before .before .before .before .before .before .before .before .before .before .before .before .args .options) (c .before .before .before .before .before .before .before .before .before .before .before .before .before .before .before .before .before .before .before .before .before .before .before .before .before .before .before .before .before .before .before .before .before .before .before .before .before .before .before .pre .1 .0) (c .before .before .before .before .before .before .before .before .before .before .before .before .before .before .before .before .before .before .before .before .before .before .before .before .before .before .before .before .before .before .before .before .before .loop .inv) (c .before .before .before .before .before .before .before .before .before .before .before .before .before .before .before .before .before .before .before .before .before .before .before .before .before .before .before .before .before .before .before .before .loop-test .taken) (c .before .before .before .before .before .before .before .before .before .before .before .before .before .before .before .before .before .before .before .before .before .before .before .before .before .before .before .before .before .before .before .token-at .ensures) (c .before .before .before .before .before .before .before .before .before .before .before .before .before .before .before .before .before .before .before .before .before .before .before .before .before .before .before .before .push-leading .ensures) (c .before .before .before .before .before .before .before .before .before .before .before .before .before .before .before .before .before .before .before .before .before .before .before .before .if1 .left) κ (c .before .before .before .before .before .before .before .before .before .if4 .left) (c .before .before .before .before .before .before .before .before .before .before .before .before .before .before .stack .given) (c .before .before .before .before .before .before .before .before .next-place .ensures) in past-within (c .before .before .before .before .before .before .before .before .before .before .before .before .before .before .before .before .before .before .before .before .before .before .before .before .before .before .before .before .before .before .before .before .before .before .before .before .before .before .before .pre .1 .0) ι (c .before .before .before .before .before .before .before .before .before .before .before .before .before .before .before .before .before .before .before .before .before .before .before .before .before .before .before .before .before .before .before .before .before .before .before .before .before .before .before .pre .1 .1) (c .before .before .before .push-steady .ensures .whole) (c .before .before .before .push-steady .ensures .head .within)
 
 add-index : tie.Need-add-index Inv-loop μ-loop
-add-index c = let κ : Calls _ _ _ _ _ _ _ _ _ _ _ _ _ _ _ _ _ = record { overflow = c .before .before .before .before .before .before .before .before .before .before .before .before .before .before .before .before .before .before .before .before .before .before .before .before .overflows .ensures _ _; calm = c .before .before .before .before .before .before .before .before .before .before .before .before .before .before .before .before .before .before .before .before .before .before .before .if2 .left; taken = c .before .before .before .before .before .before .before .before .before .before .before .before .before .before .before .before .before .before .before .before .before .before .before .before .before .before .before .before .before .before .before .takes-inline-close .ensures; trailing = c .before .before .before .before .before .before .before .before .before .before .before .before .before .before .before .before .before .before .before .before .before .writes-trailing .ensures _; arms = c .before .before .before .before .before .before .before .before .before .before .before .before .before .before .before .before .before .before .push-token .ensures; trailed = ⊎-elim (λ w. written (w .0 .taken) (w .2 .ensures) (w .5) (w .6)) (λ w. left-out (w .0 .left) (w .1) (w .2)) (c .before .before .before .before .before .before .before .before .before .before .before .before .before .if3 .came); tracked = c .before .before .before .before .before .before .before .before .before .before .before .before .track-fn-state .ensures } in let ι = placed (c .before .before .before .before .before .before .before .before .before .before .before .before .before .before .before .before .before .before .before .before .before .before .before .before .before .before .before .before .before .before .before .before .before .before .before .before .before .before .before .before .args .options) (c .before .before .before .before .before .before .before .before .before .before .before .before .before .before .before .before .before .before .before .before .before .before .before .before .before .before .before .before .before .before .before .before .before .before .before .before .before .before .before .before .pre .1 .0) (c .before .before .before .before .before .before .before .before .before .before .before .before .before .before .before .before .before .before .before .before .before .before .before .before .before .before .before .before .before .before .before .before .before .before .loop .inv) (c .before .before .before .before .before .before .before .before .before .before .before .before .before .before .before .before .before .before .before .before .before .before .before .before .before .before .before .before .before .before .before .before .before .loop-test .taken) (c .before .before .before .before .before .before .before .before .before .before .before .before .before .before .before .before .before .before .before .before .before .before .before .before .before .before .before .before .before .before .before .before .token-at .ensures) (c .before .before .before .before .before .before .before .before .before .before .before .before .before .before .before .before .before .before .before .before .before .before .before .before .before .before .before .before .before .push-leading .ensures) (c .before .before .before .before .before .before .before .before .before .before .before .before .before .before .before .before .before .before .before .before .before .before .before .before .before .if1 .left) κ (c .before .before .before .before .before .before .before .before .before .before .if4 .left) (c .before .before .before .before .before .before .before .before .before .before .before .before .before .before .before .stack .given) (c .before .before .before .before .before .before .before .before .before .next-place .ensures) in let e = c .rows-between .ensures in let few = past-few (c .before .before .before .before .before .before .before .before .before .before .before .before .before .before .before .before .before .before .before .before .before .before .before .before .before .before .before .before .before .before .before .before .before .before .before .before .before .before .before .before .pre .1 .0) ι (c .before .before .before .before .before .before .before .before .before .before .before .before .before .before .before .before .before .before .before .before .before .before .before .before .before .before .before .before .before .before .before .before .before .before .before .before .before .before .before .before .pre .1 .1) (c .before .before .before .before .push-steady .ensures .whole) (c .before .before .before .before .push-steady .ensures .within) in record { fits = omega arith }
+add-index c = let κ : Calls _ _ _ _ _ _ _ _ _ _ _ _ _ _ _ _ _ = record { overflow = c .before .before .before .before .before .before .before .before .before .before .before .before .before .before .before .before .before .before .before .before .before .before .before .before .overflows .ensures _ _; calm = c .before .before .before .before .before .before .before .before .before .before .before .before .before .before .before .before .before .before .before .before .before .before .before .if2 .left; taken = c .before .before .before .before .before .before .before .before .before .before .before .before .before .before .before .before .before .before .before .before .before .before .before .before .before .before .before .before .before .before .before .takes-inline-close .ensures; trailing = c .before .before .before .before .before .before .before .before .before .before .before .before .before .before .before .before .before .before .before .before .before .writes-trailing .ensures _; arms = c .before .before .before .before .before .before .before .before .before .before .before .before .before .before .before .before .before .before .push-token .ensures; trailed = ⊎-elim (λ w. written (w .0 .taken) (w .2 .ensures) (w .5) (w .6)) (λ w. left-out (w .0 .left) (w .1) (w .2)) (c .before .before .before .before .before .before .before .before .before .before .before .before .before .if3 .came); tracked = c .before .before .before .before .before .before .before .before .before .before .before .before .track-fn-state .ensures } in let ι = placed (c .before .before .before .before .before .before .before .before .before .before .before .before .before .before .before .before .before .before .before .before .before .before .before .before .before .before .before .before .before .before .before .before .before .before .before .before .before .before .before .before .args .options) (c .before .before .before .before .before .before .before .before .before .before .before .before .before .before .before .before .before .before .before .before .before .before .before .before .before .before .before .before .before .before .before .before .before .before .before .before .before .before .before .before .pre .1 .0) (c .before .before .before .before .before .before .before .before .before .before .before .before .before .before .before .before .before .before .before .before .before .before .before .before .before .before .before .before .before .before .before .before .before .before .loop .inv) (c .before .before .before .before .before .before .before .before .before .before .before .before .before .before .before .before .before .before .before .before .before .before .before .before .before .before .before .before .before .before .before .before .before .loop-test .taken) (c .before .before .before .before .before .before .before .before .before .before .before .before .before .before .before .before .before .before .before .before .before .before .before .before .before .before .before .before .before .before .before .before .token-at .ensures) (c .before .before .before .before .before .before .before .before .before .before .before .before .before .before .before .before .before .before .before .before .before .before .before .before .before .before .before .before .before .push-leading .ensures) (c .before .before .before .before .before .before .before .before .before .before .before .before .before .before .before .before .before .before .before .before .before .before .before .before .before .if1 .left) κ (c .before .before .before .before .before .before .before .before .before .before .if4 .left) (c .before .before .before .before .before .before .before .before .before .before .before .before .before .before .before .stack .given) (c .before .before .before .before .before .before .before .before .before .next-place .ensures) in let e = c .rows-between .ensures in let few = past-few (c .before .before .before .before .before .before .before .before .before .before .before .before .before .before .before .before .before .before .before .before .before .before .before .before .before .before .before .before .before .before .before .before .before .before .before .before .before .before .before .before .pre .1 .0) ι (c .before .before .before .before .before .before .before .before .before .before .before .before .before .before .before .before .before .before .before .before .before .before .before .before .before .before .before .before .before .before .before .before .before .before .before .before .before .before .before .before .pre .1 .1) (c .before .before .before .before .push-steady .ensures .whole) (c .before .before .before .before .push-steady .ensures .head .within) in record { fits = omega arith }
+
+loop-less : tie.Need-loop-less Inv-loop μ-loop
+loop-less c = let κ : Calls _ _ _ _ _ _ _ _ _ _ _ _ _ _ _ _ _ = record { overflow = c .before .before .before .before .before .before .before .before .before .before .before .before .before .before .before .before .before .before .before .before .before .before .before .before .overflows .ensures _ _; calm = c .before .before .before .before .before .before .before .before .before .before .before .before .before .before .before .before .before .before .before .before .before .before .before .if2 .left; taken = c .before .before .before .before .before .before .before .before .before .before .before .before .before .before .before .before .before .before .before .before .before .before .before .before .before .before .before .before .before .before .before .takes-inline-close .ensures; trailing = c .before .before .before .before .before .before .before .before .before .before .before .before .before .before .before .before .before .before .before .before .before .writes-trailing .ensures _; arms = c .before .before .before .before .before .before .before .before .before .before .before .before .before .before .before .before .before .before .push-token .ensures; trailed = ⊎-elim (λ w. written (w .0 .taken) (w .2 .ensures) (w .5) (w .6)) (λ w. left-out (w .0 .left) (w .1) (w .2)) (c .before .before .before .before .before .before .before .before .before .before .before .before .before .if3 .came); tracked = c .before .before .before .before .before .before .before .before .before .before .before .before .track-fn-state .ensures } in let f = further (c .before .before .before .before .before .before .before .before .before .before .before .before .before .before .before .before .before .before .before .before .before .before .before .before .before .before .before .before .before .before .before .before .before .before .before .before .before .before .before .before .args .options) (c .before .before .before .before .before .before .before .before .before .before .before .before .before .before .before .before .before .before .before .before .before .before .before .before .before .before .before .before .before .before .before .before .before .before .before .before .before .before .before .before .pre .1 .0) (c .before .before .before .before .before .before .before .before .before .before .before .before .before .before .before .before .before .before .before .before .before .before .before .before .before .before .before .before .before .before .before .before .before .before .loop .inv) (c .before .before .before .before .before .before .before .before .before .before .before .before .before .before .before .before .before .before .before .before .before .before .before .before .before .before .before .before .before .before .before .before .before .loop-test .taken) (c .before .before .before .before .before .before .before .before .before .before .before .before .before .before .before .before .before .before .before .before .before .before .before .before .before .before .before .before .before .before .before .before .token-at .ensures) (c .before .before .before .before .before .before .before .before .before .before .before .before .before .before .before .before .before .before .before .before .before .before .before .before .before .before .before .before .before .push-leading .ensures) (c .before .before .before .before .before .before .before .before .before .before .before .before .before .before .before .before .before .before .before .before .before .before .before .before .before .if1 .left) κ (c .before .before .before .before .before .before .before .before .before .before .if4 .left) (c .before .before .before .before .before .before .before .before .before .before .before .before .before .before .before .stack .given) (c .before .before .before .before .before .before .before .before .before .next-place .ensures) in let a = c .before .before .before .before .push-steady .ensures .whole in let b = c .before .before .before .before .push-steady .ensures .head .within in omega arith
+
+loop-again : tie.Need-loop-again Inv-loop μ-loop
+loop-again c = let κ : Calls _ _ _ _ _ _ _ _ _ _ _ _ _ _ _ _ _ = record { overflow = c .before .before .before .before .before .before .before .before .before .before .before .before .before .before .before .before .before .before .before .before .before .before .before .before .overflows .ensures _ _; calm = c .before .before .before .before .before .before .before .before .before .before .before .before .before .before .before .before .before .before .before .before .before .before .before .if2 .left; taken = c .before .before .before .before .before .before .before .before .before .before .before .before .before .before .before .before .before .before .before .before .before .before .before .before .before .before .before .before .before .before .before .takes-inline-close .ensures; trailing = c .before .before .before .before .before .before .before .before .before .before .before .before .before .before .before .before .before .before .before .before .before .writes-trailing .ensures _; arms = c .before .before .before .before .before .before .before .before .before .before .before .before .before .before .before .before .before .before .push-token .ensures; trailed = ⊎-elim (λ w. written (w .0 .taken) (w .2 .ensures) (w .5) (w .6)) (λ w. left-out (w .0 .left) (w .1) (w .2)) (c .before .before .before .before .before .before .before .before .before .before .before .before .before .if3 .came); tracked = c .before .before .before .before .before .before .before .before .before .before .before .before .track-fn-state .ensures } in let ι = placed (c .before .before .before .before .before .before .before .before .before .before .before .before .before .before .before .before .before .before .before .before .before .before .before .before .before .before .before .before .before .before .before .before .before .before .before .before .before .before .before .before .args .options) (c .before .before .before .before .before .before .before .before .before .before .before .before .before .before .before .before .before .before .before .before .before .before .before .before .before .before .before .before .before .before .before .before .before .before .before .before .before .before .before .before .pre .1 .0) (c .before .before .before .before .before .before .before .before .before .before .before .before .before .before .before .before .before .before .before .before .before .before .before .before .before .before .before .before .before .before .before .before .before .before .loop .inv) (c .before .before .before .before .before .before .before .before .before .before .before .before .before .before .before .before .before .before .before .before .before .before .before .before .before .before .before .before .before .before .before .before .before .loop-test .taken) (c .before .before .before .before .before .before .before .before .before .before .before .before .before .before .before .before .before .before .before .before .before .before .before .before .before .before .before .before .before .before .before .before .token-at .ensures) (c .before .before .before .before .before .before .before .before .before .before .before .before .before .before .before .before .before .before .before .before .before .before .before .before .before .before .before .before .before .push-leading .ensures) (c .before .before .before .before .before .before .before .before .before .before .before .before .before .before .before .before .before .before .before .before .before .before .before .before .before .if1 .left) κ (c .before .before .before .before .before .before .before .before .before .before .if4 .left) (c .before .before .before .before .before .before .before .before .before .before .before .before .before .before .before .stack .given) (c .before .before .before .before .before .before .before .before .before .next-place .ensures) in rw (c .rows-between .ensures) (steadied (c .before .before .before .before .before .before .before .before .before .before .before .before .before .before .before .before .before .before .before .before .before .before .before .before .before .before .before .before .before .before .before .before .before .before .before .before .before .before .before .before .pre .1 .0) ι (c .before .before .before .before .before .before .before .before .before .before .before .before .before .before .before .before .before .before .before .before .before .before .before .before .before .before .before .before .before .before .before .before .before .before .before .before .before .before .before .before .pre .1 .1) (c .before .before .before .before .before .before .before .before .is-steady .ensures (c .before .before .before .before .before .before .before .if5 .taken)) (c .before .before .before .before .push-steady .ensures) (c .before .behind-steady .ensures))
 
 is-nested-requires : tie.Need-is-nested-requires Inv-loop μ-loop
-is-nested-requires c κs = let κ : Calls _ _ _ _ _ _ _ _ _ _ _ _ _ _ _ _ _ = record { overflow = c .before .before .before .before .before .before .before .before .before .before .before .before .before .before .before .before .before .overflows .ensures _ _; calm = c .before .before .before .before .before .before .before .before .before .before .before .before .before .before .before .before .if2 .left; taken = c .before .before .before .before .before .before .before .before .before .before .before .before .before .before .before .before .before .before .before .before .before .before .before .before .takes-inline-close .ensures; trailing = c .before .before .before .before .before .before .before .before .before .before .before .before .before .before .writes-trailing .ensures _; arms = c .before .before .before .before .before .before .before .before .before .before .before .push-token .ensures; trailed = ⊎-elim (λ w. written (w .0 .taken) (w .2 .ensures) (w .5) (w .6)) (λ w. left-out (w .0 .left) (w .1) (w .2)) (c .before .before .before .before .before .before .if3 .came); tracked = c .before .before .before .before .before .track-fn-state .ensures } in let ι = placed (c .before .before .before .before .before .before .before .before .before .before .before .before .before .before .before .before .before .before .before .before .before .before .before .before .before .before .before .before .before .before .before .before .before .args .options) (c .before .before .before .before .before .before .before .before .before .before .before .before .before .before .before .before .before .before .before .before .before .before .before .before .before .before .before .before .before .before .before .before .before .pre .1 .0) (c .before .before .before .before .before .before .before .before .before .before .before .before .before .before .before .before .before .before .before .before .before .before .before .before .before .before .before .loop .inv) (c .before .before .before .before .before .before .before .before .before .before .before .before .before .before .before .before .before .before .before .before .before .before .before .before .before .before .loop-test .taken) (c .before .before .before .before .before .before .before .before .before .before .before .before .before .before .before .before .before .before .before .before .before .before .before .before .before .token-at .ensures) (c .before .before .before .before .before .before .before .before .before .before .before .before .before .before .before .before .before .before .before .before .before .before .push-leading .ensures) (c .before .before .before .before .before .before .before .before .before .before .before .before .before .before .before .before .before .before .if1 .left) κ (c .before .before .before .if4 .left) (c .before .before .before .before .before .before .before .before .stack .given) (c .before .before .next-place .ensures) in let ν : On (c .before .before .before .before .before .before .before .before .before .before .before .before .before .before .before .before .before .before .before .before .before .before .before .before .before .before .before .before .before .before .before .before .before .pre .1 .0) ι (c .before .before .before .before .before .before .before .before .before .before .before .before .before .before .before .before .before .before .before .before .before .before .before .before .before .before .before .before .before .before .before .before .before .pre .1 .1) (c .if5 .self) (c .if5 .out) (c .if5 .at) (c .if5 .index) = ⊎-elim (λ w. on-same (c .before .before .before .before .before .before .before .before .before .before .before .before .before .before .before .before .before .before .before .before .before .before .before .before .before .before .before .before .before .before .before .before .before .pre .1 .0) ι (c .before .before .before .before .before .before .before .before .before .before .before .before .before .before .before .before .before .before .before .before .before .before .before .before .before .before .before .before .before .before .before .before .before .pre .1 .1) (w .8) (w .9) (w .10) (w .11) (steadied (c .before .before .before .before .before .before .before .before .before .before .before .before .before .before .before .before .before .before .before .before .before .before .before .before .before .before .before .before .before .before .before .before .before .pre .1 .0) ι (c .before .before .before .before .before .before .before .before .before .before .before .before .before .before .before .before .before .before .before .before .before .before .before .before .before .before .before .before .before .before .before .before .before .pre .1 .1) (c .before .is-steady .ensures (w .0 .taken)) (w .3 .ensures) (w .6 .ensures) (w .7 .ensures))) (λ w. on-same (c .before .before .before .before .before .before .before .before .before .before .before .before .before .before .before .before .before .before .before .before .before .before .before .before .before .before .before .before .before .before .before .before .before .pre .1 .0) ι (c .before .before .before .before .before .before .before .before .before .before .before .before .before .before .before .before .before .before .before .before .before .before .before .before .before .before .before .before .before .before .before .before .before .pre .1 .1) (w .1) (w .2) (w .3) (w .4) (stays-on (c .before .before .before .before .before .before .before .before .before .before .before .before .before .before .before .before .before .before .before .before .before .before .before .before .before .before .before .before .before .before .before .before .before .pre .1 .0) ι (c .before .before .before .before .before .before .before .before .before .before .before .before .before .before .before .before .before .before .before .before .before .before .before .before .before .before .before .before .before .before .before .before .before .pre .1 .1))) (c .if5 .came) in ν .inv .going .head .within
+is-nested-requires c κs = let κ : Calls _ _ _ _ _ _ _ _ _ _ _ _ _ _ _ _ _ = record { overflow = c .before .before .before .before .before .before .before .before .before .before .before .before .before .before .before .before .before .overflows .ensures _ _; calm = c .before .before .before .before .before .before .before .before .before .before .before .before .before .before .before .before .if2 .left; taken = c .before .before .before .before .before .before .before .before .before .before .before .before .before .before .before .before .before .before .before .before .before .before .before .before .takes-inline-close .ensures; trailing = c .before .before .before .before .before .before .before .before .before .before .before .before .before .before .writes-trailing .ensures _; arms = c .before .before .before .before .before .before .before .before .before .before .before .push-token .ensures; trailed = ⊎-elim (λ w. written (w .0 .taken) (w .2 .ensures) (w .5) (w .6)) (λ w. left-out (w .0 .left) (w .1) (w .2)) (c .before .before .before .before .before .before .if3 .came); tracked = c .before .before .before .before .before .track-fn-state .ensures } in let ι = placed (c .before .before .before .before .before .before .before .before .before .before .before .before .before .before .before .before .before .before .before .before .before .before .before .before .before .before .before .before .before .before .before .before .before .args .options) (c .before .before .before .before .before .before .before .before .before .before .before .before .before .before .before .before .before .before .before .before .before .before .before .before .before .before .before .before .before .before .before .before .before .pre .1 .0) (c .before .before .before .before .before .before .before .before .before .before .before .before .before .before .before .before .before .before .before .before .before .before .before .before .before .before .before .loop .inv) (c .before .before .before .before .before .before .before .before .before .before .before .before .before .before .before .before .before .before .before .before .before .before .before .before .before .before .loop-test .taken) (c .before .before .before .before .before .before .before .before .before .before .before .before .before .before .before .before .before .before .before .before .before .before .before .before .before .token-at .ensures) (c .before .before .before .before .before .before .before .before .before .before .before .before .before .before .before .before .before .before .before .before .before .before .push-leading .ensures) (c .before .before .before .before .before .before .before .before .before .before .before .before .before .before .before .before .before .before .if1 .left) κ (c .before .before .before .if4 .left) (c .before .before .before .before .before .before .before .before .stack .given) (c .before .before .next-place .ensures) in ι .going .head .within
 
 push-nested-requires : tie.Need-push-nested-requires Inv-loop μ-loop
-push-nested-requires c κs = let κ : Calls _ _ _ _ _ _ _ _ _ _ _ _ _ _ _ _ _ = record { overflow = c .before .before .before .before .before .before .before .before .before .before .before .before .before .before .before .before .before .before .before .before .overflows .ensures _ _; calm = c .before .before .before .before .before .before .before .before .before .before .before .before .before .before .before .before .before .before .before .if2 .left; taken = c .before .before .before .before .before .before .before .before .before .before .before .before .before .before .before .before .before .before .before .before .before .before .before .before .before .before .before .takes-inline-close .ensures; trailing = c .before .before .before .before .before .before .before .before .before .before .before .before .before .before .before .before .before .writes-trailing .ensures _; arms = c .before .before .before .before .before .before .before .before .before .before .before .before .before .before .push-token .ensures; trailed = ⊎-elim (λ w. written (w .0 .taken) (w .2 .ensures) (w .5) (w .6)) (λ w. left-out (w .0 .left) (w .1) (w .2)) (c .before .before .before .before .before .before .before .before .before .if3 .came); tracked = c .before .before .before .before .before .before .before .before .track-fn-state .ensures } in let ι = placed (c .before .before .before .before .before .before .before .before .before .before .before .before .before .before .before .before .before .before .before .before .before .before .before .before .before .before .before .before .before .before .before .before .before .before .before .before .args .options) (c .before .before .before .before .before .before .before .before .before .before .before .before .before .before .before .before .before .before .before .before .before .before .before .before .before .before .before .before .before .before .before .before .before .before .before .before .pre .1 .0) (c .before .before .before .before .before .before .before .before .before .before .before .before .before .before .before .before .before .before .before .before .before .before .before .before .before .before .before .before .before .before .loop .inv) (c .before .before .before .before .before .before .before .before .before .before .before .before .before .before .before .before .before .before .before .before .before .before .before .before .before .before .before .before .before .loop-test .taken) (c .before .before .before .before .before .before .before .before .before .before .before .before .before .before .before .before .before .before .before .before .before .before .before .before .before .before .before .before .token-at .ensures) (c .before .before .before .before .before .before .before .before .before .before .before .before .before .before .before .before .before .before .before .before .before .before .before .before .before .push-leading .ensures) (c .before .before .before .before .before .before .before .before .before .before .before .before .before .before .before .before .before .before .before .before .before .if1 .left) κ (c .before .before .before .before .before .before .if4 .left) (c .before .before .before .before .before .before .before .before .before .before .before .stack .given) (c .before .before .before .before .before .next-place .ensures) in let ν : On (c .before .before .before .before .before .before .before .before .before .before .before .before .before .before .before .before .before .before .before .before .before .before .before .before .before .before .before .before .before .before .before .before .before .before .before .before .pre .1 .0) ι (c .before .before .before .before .before .before .before .before .before .before .before .before .before .before .before .before .before .before .before .before .before .before .before .before .before .before .before .before .before .before .before .before .before .before .before .before .pre .1 .1) (c .before .before .before .if5 .self) (c .before .before .before .if5 .out) (c .before .before .before .if5 .at) (c .before .before .before .if5 .index) = ⊎-elim (λ w. on-same (c .before .before .before .before .before .before .before .before .before .before .before .before .before .before .before .before .before .before .before .before .before .before .before .before .before .before .before .before .before .before .before .before .before .before .before .before .pre .1 .0) ι (c .before .before .before .before .before .before .before .before .before .before .before .before .before .before .before .before .before .before .before .before .before .before .before .before .before .before .before .before .before .before .before .before .before .before .before .before .pre .1 .1) (w .8) (w .9) (w .10) (w .11) (steadied (c .before .before .before .before .before .before .before .before .before .before .before .before .before .before .before .before .before .before .before .before .before .before .before .before .before .before .before .before .before .before .before .before .before .before .before .before .pre .1 .0) ι (c .before .before .before .before .before .before .before .before .before .before .before .before .before .before .before .before .before .before .before .before .before .before .before .before .before .before .before .before .before .before .before .before .before .before .before .before .pre .1 .1) (c .before .before .before .before .is-steady .ensures (w .0 .taken)) (w .3 .ensures) (w .6 .ensures) (w .7 .ensures))) (λ w. on-same (c .before .before .before .before .before .before .before .before .before .before .before .before .before .before .before .before .before .before .before .before .before .before .before .before .before .before .before .before .before .before .before .before .before .before .before .before .pre .1 .0) ι (c .before .before .before .before .before .before .before .before .before .before .before .before .before .before .before .before .before .before .before .before .before .before .before .before .before .before .before .before .before .before .before .before .before .before .before .before .pre .1 .1) (w .1) (w .2) (w .3) (w .4) (stays-on (c .before .before .before .before .before .before .before .before .before .before .before .before .before .before .before .before .before .before .before .before .before .before .before .before .before .before .before .before .before .before .before .before .before .before .before .before .pre .1 .0) ι (c .before .before .before .before .before .before .before .before .before .before .before .before .before .before .before .before .before .before .before .before .before .before .before .before .before .before .before .before .before .before .before .before .before .before .before .before .pre .1 .1))) (c .before .before .before .if5 .came) in (nested-place (c .before .before .before .before .before .before .before .before .before .before .before .before .before .before .before .before .before .before .before .before .before .before .before .before .before .before .before .before .before .before .before .before .before .before .before .before .pre .1 .0) (ν .inv) (c .before .before .before .before .before .before .before .before .before .before .before .before .before .before .before .before .before .before .before .before .before .before .before .before .before .before .before .before .before .before .before .before .before .before .before .before .pre .1 .1) (c .before .before .is-nested .ensures (c .before .if6 .taken)), nested-rows (c .before .before .before .before .before .before .before .before .before .before .before .before .before .before .before .before .before .before .before .before .before .before .before .before .before .before .before .before .before .before .before .before .before .before .before .before .pre .1 .0) (ν .inv) (c .before .before .before .before .before .before .before .before .before .before .before .before .before .before .before .before .before .before .before .before .before .before .before .before .before .before .before .before .before .before .before .before .before .before .before .before .pre .1 .1) (c .before .before .is-nested .ensures (c .before .if6 .taken)))
+push-nested-requires c κs = let κ : Calls _ _ _ _ _ _ _ _ _ _ _ _ _ _ _ _ _ = record { overflow = c .before .before .before .before .before .before .before .before .before .before .before .before .before .before .before .before .before .before .before .before .overflows .ensures _ _; calm = c .before .before .before .before .before .before .before .before .before .before .before .before .before .before .before .before .before .before .before .if2 .left; taken = c .before .before .before .before .before .before .before .before .before .before .before .before .before .before .before .before .before .before .before .before .before .before .before .before .before .before .before .takes-inline-close .ensures; trailing = c .before .before .before .before .before .before .before .before .before .before .before .before .before .before .before .before .before .writes-trailing .ensures _; arms = c .before .before .before .before .before .before .before .before .before .before .before .before .before .before .push-token .ensures; trailed = ⊎-elim (λ w. written (w .0 .taken) (w .2 .ensures) (w .5) (w .6)) (λ w. left-out (w .0 .left) (w .1) (w .2)) (c .before .before .before .before .before .before .before .before .before .if3 .came); tracked = c .before .before .before .before .before .before .before .before .track-fn-state .ensures } in let ι = placed (c .before .before .before .before .before .before .before .before .before .before .before .before .before .before .before .before .before .before .before .before .before .before .before .before .before .before .before .before .before .before .before .before .before .before .before .before .args .options) (c .before .before .before .before .before .before .before .before .before .before .before .before .before .before .before .before .before .before .before .before .before .before .before .before .before .before .before .before .before .before .before .before .before .before .before .before .pre .1 .0) (c .before .before .before .before .before .before .before .before .before .before .before .before .before .before .before .before .before .before .before .before .before .before .before .before .before .before .before .before .before .before .loop .inv) (c .before .before .before .before .before .before .before .before .before .before .before .before .before .before .before .before .before .before .before .before .before .before .before .before .before .before .before .before .before .loop-test .taken) (c .before .before .before .before .before .before .before .before .before .before .before .before .before .before .before .before .before .before .before .before .before .before .before .before .before .before .before .before .token-at .ensures) (c .before .before .before .before .before .before .before .before .before .before .before .before .before .before .before .before .before .before .before .before .before .before .before .before .before .push-leading .ensures) (c .before .before .before .before .before .before .before .before .before .before .before .before .before .before .before .before .before .before .before .before .before .if1 .left) κ (c .before .before .before .before .before .before .if4 .left) (c .before .before .before .before .before .before .before .before .before .before .before .stack .given) (c .before .before .before .before .before .next-place .ensures) in (nested-place (c .before .before .before .before .before .before .before .before .before .before .before .before .before .before .before .before .before .before .before .before .before .before .before .before .before .before .before .before .before .before .before .before .before .before .before .before .pre .1 .0) ι (c .before .before .before .before .before .before .before .before .before .before .before .before .before .before .before .before .before .before .before .before .before .before .before .before .before .before .before .before .before .before .before .before .before .before .before .before .pre .1 .1) (c .before .before .is-nested .ensures (c .before .if6 .taken)), nested-rows (c .before .before .before .before .before .before .before .before .before .before .before .before .before .before .before .before .before .before .before .before .before .before .before .before .before .before .before .before .before .before .before .before .before .before .before .before .pre .1 .0) ι (c .before .before .before .before .before .before .before .before .before .before .before .before .before .before .before .before .before .before .before .before .before .before .before .before .before .before .before .before .before .before .before .before .before .before .before .before .pre .1 .1) (c .before .before .is-nested .ensures (c .before .if6 .taken)))
 
 behind-braces-requires : tie.Need-behind-braces-requires Inv-loop μ-loop
 behind-braces-requires c κs = search needs
 
 rows-between-requires-2 : tie.Need-rows-between-requires-2 Inv-loop μ-loop
-rows-between-requires-2 c κs = let κ : Calls _ _ _ _ _ _ _ _ _ _ _ _ _ _ _ _ _ = record { overflow = c .before .before .before .before .before .before .before .before .before .before .before .before .before .before .before .before .before .before .before .before .before .before .before .before .overflows .ensures _ _; calm = c .before .before .before .before .before .before .before .before .before .before .before .before .before .before .before .before .before .before .before .before .before .before .before .if2 .left; taken = c .before .before .before .before .before .before .before .before .before .before .before .before .before .before .before .before .before .before .before .before .before .before .before .before .before .before .before .before .before .before .before .takes-inline-close .ensures; trailing = c .before .before .before .before .before .before .before .before .before .before .before .before .before .before .before .before .before .before .before .before .before .writes-trailing .ensures _; arms = c .before .before .before .before .before .before .before .before .before .before .before .before .before .before .before .before .before .before .push-token .ensures; trailed = ⊎-elim (λ w. written (w .0 .taken) (w .2 .ensures) (w .5) (w .6)) (λ w. left-out (w .0 .left) (w .1) (w .2)) (c .before .before .before .before .before .before .before .before .before .before .before .before .before .if3 .came); tracked = c .before .before .before .before .before .before .before .before .before .before .before .before .track-fn-state .ensures } in let ι = placed (c .before .before .before .before .before .before .before .before .before .before .before .before .before .before .before .before .before .before .before .before .before .before .before .before .before .before .before .before .before .before .before .before .before .before .before .before .before .before .before .before .args .options) (c .before .before .before .before .before .before .before .before .before .before .before .before .before .before .before .before .before .before .before .before .before .before .before .before .before .before .before .before .before .before .before .before .before .before .before .before .before .before .before .before .pre .1 .0) (c .before .before .before .before .before .before .before .before .before .before .before .before .before .before .before .before .before .before .before .before .before .before .before .before .before .before .before .before .before .before .before .before .before .before .loop .inv) (c .before .before .before .before .before .before .before .before .before .before .before .before .before .before .before .before .before .before .before .before .before .before .before .before .before .before .before .before .before .before .before .before .before .loop-test .taken) (c .before .before .before .before .before .before .before .before .before .before .before .before .before .before .before .before .before .before .before .before .before .before .before .before .before .before .before .before .before .before .before .before .token-at .ensures) (c .before .before .before .before .before .before .before .before .before .before .before .before .before .before .before .before .before .before .before .before .before .before .before .before .before .before .before .before .before .push-leading .ensures) (c .before .before .before .before .before .before .before .before .before .before .before .before .before .before .before .before .before .before .before .before .before .before .before .before .before .if1 .left) κ (c .before .before .before .before .before .before .before .before .before .before .if4 .left) (c .before .before .before .before .before .before .before .before .before .before .before .before .before .before .before .stack .given) (c .before .before .before .before .before .before .before .before .before .next-place .ensures) in let ν : On (c .before .before .before .before .before .before .before .before .before .before .before .before .before .before .before .before .before .before .before .before .before .before .before .before .before .before .before .before .before .before .before .before .before .before .before .before .before .before .before .before .pre .1 .0) ι (c .before .before .before .before .before .before .before .before .before .before .before .before .before .before .before .before .before .before .before .before .before .before .before .before .before .before .before .before .before .before .before .before .before .before .before .before .before .before .before .before .pre .1 .1) (c .before .before .before .before .before .before .before .if5 .self) (c .before .before .before .before .before .before .before .if5 .out) (c .before .before .before .before .before .before .before .if5 .at) (c .before .before .before .before .before .before .before .if5 .index) = ⊎-elim (λ w. on-same (c .before .before .before .before .before .before .before .before .before .before .before .before .before .before .before .before .before .before .before .before .before .before .before .before .before .before .before .before .before .before .before .before .before .before .before .before .before .before .before .before .pre .1 .0) ι (c .before .before .before .before .before .before .before .before .before .before .before .before .before .before .before .before .before .before .before .before .before .before .before .before .before .before .before .before .before .before .before .before .before .before .before .before .before .before .before .before .pre .1 .1) (w .8) (w .9) (w .10) (w .11) (steadied (c .before .before .before .before .before .before .before .before .before .before .before .before .before .before .before .before .before .before .before .before .before .before .before .before .before .before .before .before .before .before .before .before .before .before .before .before .before .before .before .before .pre .1 .0) ι (c .before .before .before .before .before .before .before .before .before .before .before .before .before .before .before .before .before .before .before .before .before .before .before .before .before .before .before .before .before .before .before .before .before .before .before .before .before .before .before .before .pre .1 .1) (c .before .before .before .before .before .before .before .before .is-steady .ensures (w .0 .taken)) (w .3 .ensures) (w .6 .ensures) (w .7 .ensures))) (λ w. on-same (c .before .before .before .before .before .before .before .before .before .before .before .before .before .before .before .before .before .before .before .before .before .before .before .before .before .before .before .before .before .before .before .before .before .before .before .before .before .before .before .before .pre .1 .0) ι (c .before .before .before .before .before .before .before .before .before .before .before .before .before .before .before .before .before .before .before .before .before .before .before .before .before .before .before .before .before .before .before .before .before .before .before .before .before .before .before .before .pre .1 .1) (w .1) (w .2) (w .3) (w .4) (stays-on (c .before .before .before .before .before .before .before .before .before .before .before .before .before .before .before .before .before .before .before .before .before .before .before .before .before .before .before .before .before .before .before .before .before .before .before .before .before .before .before .before .pre .1 .0) ι (c .before .before .before .before .before .before .before .before .before .before .before .before .before .before .before .before .before .before .before .before .before .before .before .before .before .before .before .before .before .before .before .before .before .before .before .before .before .before .before .before .pre .1 .1))) (c .before .before .before .before .before .before .before .if5 .came) in past-within (c .before .before .before .before .before .before .before .before .before .before .before .before .before .before .before .before .before .before .before .before .before .before .before .before .before .before .before .before .before .before .before .before .before .before .before .before .before .before .before .before .pre .1 .0) (ν .inv) (c .before .before .before .before .before .before .before .before .before .before .before .before .before .before .before .before .before .before .before .before .before .before .before .before .before .before .before .before .before .before .before .before .before .before .before .before .before .before .before .before .pre .1 .1) (c .before .before .before .push-nested .ensures .whole) (c .before .before .before .push-nested .ensures .within)
+rows-between-requires-2 c κs = let κ : Calls _ _ _ _ _ _ _ _ _ _ _ _ _ _ _ _ _ = record { overflow = c .before .before .before .before .before .before .before .before .before .before .before .before .before .before .before .before .before .before .before .before .before .before .before .before .overflows .ensures _ _; calm = c .before .before .before .before .before .before .before .before .before .before .before .before .before .before .before .before .before .before .before .before .before .before .before .if2 .left; taken = c .before .before .before .before .before .before .before .before .before .before .before .before .before .before .before .before .before .before .before .before .before .before .before .before .before .before .before .before .before .before .before .takes-inline-close .ensures; trailing = c .before .before .before .before .before .before .before .before .before .before .before .before .before .before .before .before .before .before .before .before .before .writes-trailing .ensures _; arms = c .before .before .before .before .before .before .before .before .before .before .before .before .before .before .before .before .before .before .push-token .ensures; trailed = ⊎-elim (λ w. written (w .0 .taken) (w .2 .ensures) (w .5) (w .6)) (λ w. left-out (w .0 .left) (w .1) (w .2)) (c .before .before .before .before .before .before .before .before .before .before .before .before .before .if3 .came); tracked = c .before .before .before .before .before .before .before .before .before .before .before .before .track-fn-state .ensures } in let ι = placed (c .before .before .before .before .before .before .before .before .before .before .before .before .before .before .before .before .before .before .before .before .before .before .before .before .before .before .before .before .before .before .before .before .before .before .before .before .before .before .before .before .args .options) (c .before .before .before .before .before .before .before .before .before .before .before .before .before .before .before .before .before .before .before .before .before .before .before .before .before .before .before .before .before .before .before .before .before .before .before .before .before .before .before .before .pre .1 .0) (c .before .before .before .before .before .before .before .before .before .before .before .before .before .before .before .before .before .before .before .before .before .before .before .before .before .before .before .before .before .before .before .before .before .before .loop .inv) (c .before .before .before .before .before .before .before .before .before .before .before .before .before .before .before .before .before .before .before .before .before .before .before .before .before .before .before .before .before .before .before .before .before .loop-test .taken) (c .before .before .before .before .before .before .before .before .before .before .before .before .before .before .before .before .before .before .before .before .before .before .before .before .before .before .before .before .before .before .before .before .token-at .ensures) (c .before .before .before .before .before .before .before .before .before .before .before .before .before .before .before .before .before .before .before .before .before .before .before .before .before .before .before .before .before .push-leading .ensures) (c .before .before .before .before .before .before .before .before .before .before .before .before .before .before .before .before .before .before .before .before .before .before .before .before .before .if1 .left) κ (c .before .before .before .before .before .before .before .before .before .before .if4 .left) (c .before .before .before .before .before .before .before .before .before .before .before .before .before .before .before .stack .given) (c .before .before .before .before .before .before .before .before .before .next-place .ensures) in past-within (c .before .before .before .before .before .before .before .before .before .before .before .before .before .before .before .before .before .before .before .before .before .before .before .before .before .before .before .before .before .before .before .before .before .before .before .before .before .before .before .before .pre .1 .0) ι (c .before .before .before .before .before .before .before .before .before .before .before .before .before .before .before .before .before .before .before .before .before .before .before .before .before .before .before .before .before .before .before .before .before .before .before .before .before .before .before .before .pre .1 .1) (c .before .before .before .push-nested .ensures .whole) (c .before .before .before .push-nested .ensures .within)
 
 add-index-2 : tie.Need-add-index-2 Inv-loop μ-loop
-add-index-2 c = let κ : Calls _ _ _ _ _ _ _ _ _ _ _ _ _ _ _ _ _ = record { overflow = c .before .before .before .before .before .before .before .before .before .before .before .before .before .before .before .before .before .before .before .before .before .before .before .before .before .before .overflows .ensures _ _; calm = c .before .before .before .before .before .before .before .before .before .before .before .before .before .before .before .before .before .before .before .before .before .before .before .before .before .if2 .left; taken = c .before .before .before .before .before .before .before .before .before .before .before .before .before .before .before .before .before .before .before .before .before .before .before .before .before .before .before .before .before .before .before .before .before .takes-inline-close .ensures; trailing = c .before .before .before .before .before .before .before .before .before .before .before .before .before .before .before .before .before .before .before .before .before .before .before .writes-trailing .ensures _; arms = c .before .before .before .before .before .before .before .before .before .before .before .before .before .before .before .before .before .before .before .before .push-token .ensures; trailed = ⊎-elim (λ w. written (w .0 .taken) (w .2 .ensures) (w .5) (w .6)) (λ w. left-out (w .0 .left) (w .1) (w .2)) (c .before .before .before .before .before .before .before .before .before .before .before .before .before .before .before .if3 .came); tracked = c .before .before .before .before .before .before .before .before .before .before .before .before .before .before .track-fn-state .ensures } in let ι = placed (c .before .before .before .before .before .before .before .before .before .before .before .before .before .before .before .before .before .before .before .before .before .before .before .before .before .before .before .before .before .before .before .before .before .before .before .before .before .before .before .before .before .before .args .options) (c .before .before .before .before .before .before .before .before .before .before .before .before .before .before .before .before .before .before .before .before .before .before .before .before .before .before .before .before .before .before .before .before .before .before .before .before .before .before .before .before .before .before .pre .1 .0) (c .before .before .before .before .before .before .before .before .before .before .before .before .before .before .before .before .before .before .before .before .before .before .before .before .before .before .before .before .before .before .before .before .before .before .before .before .loop .inv) (c .before .before .before .before .before .before .before .before .before .before .before .before .before .before .before .before .before .before .before .before .before .before .before .before .before .before .before .before .before .before .before .before .before .before .before .loop-test .taken) (c .before .before .before .before .before .before .before .before .before .before .before .before .before .before .before .before .before .before .before .before .before .before .before .before .before .before .before .before .before .before .before .before .before .before .token-at .ensures) (c .before .before .before .before .before .before .before .before .before .before .before .before .before .before .before .before .before .before .before .before .before .before .before .before .before .before .before .before .before .before .before .push-leading .ensures) (c .before .before .before .before .before .before .before .before .before .before .before .before .before .before .before .before .before .before .before .before .before .before .before .before .before .before .before .if1 .left) κ (c .before .before .before .before .before .before .before .before .before .before .before .before .if4 .left) (c .before .before .before .before .before .before .before .before .before .before .before .before .before .before .before .before .before .stack .given) (c .before .before .before .before .before .before .before .before .before .before .before .next-place .ensures) in let ν : On (c .before .before .before .before .before .before .before .before .before .before .before .before .before .before .before .before .before .before .before .before .before .before .before .before .before .before .before .before .before .before .before .before .before .before .before .before .before .before .before .before .before .before .pre .1 .0) ι (c .before .before .before .before .before .before .before .before .before .before .before .before .before .before .before .before .before .before .before .before .before .before .before .before .before .before .before .before .before .before .before .before .before .before .before .before .before .before .before .before .before .before .pre .1 .1) (c .before .before .before .before .before .before .before .before .before .if5 .self) (c .before .before .before .before .before .before .before .before .before .if5 .out) (c .before .before .before .before .before .before .before .before .before .if5 .at) (c .before .before .before .before .before .before .before .before .before .if5 .index) = ⊎-elim (λ w. on-same (c .before .before .before .before .before .before .before .before .before .before .before .before .before .before .before .before .before .before .before .before .before .before .before .before .before .before .before .before .before .before .before .before .before .before .before .before .before .before .before .before .before .before .pre .1 .0) ι (c .before .before .before .before .before .before .before .before .before .before .before .before .before .before .before .before .before .before .before .before .before .before .before .before .before .before .before .before .before .before .before .before .before .before .before .before .before .before .before .before .before .before .pre .1 .1) (w .8) (w .9) (w .10) (w .11) (steadied (c .before .before .before .before .before .before .before .before .before .before .before .before .before .before .before .before .before .before .before .before .before .before .before .before .before .before .before .before .before .before .before .before .before .before .before .before .before .before .before .before .before .before .pre .1 .0) ι (c .before .before .before .before .before .before .before .before .before .before .before .before .before .before .before .before .before .before .before .before .before .before .before .before .before .before .before .before .before .before .before .before .before .before .before .before .before .before .before .before .before .before .pre .1 .1) (c .before .before .before .before .before .before .before .before .before .before .is-steady .ensures (w .0 .taken)) (w .3 .ensures) (w .6 .ensures) (w .7 .ensures))) (λ w. on-same (c .before .before .before .before .before .before .before .before .before .before .before .before .before .before .before .before .before .before .before .before .before .before .before .before .before .before .before .before .before .before .before .before .before .before .before .before .before .before .before .before .before .before .pre .1 .0) ι (c .before .before .before .before .before .before .before .before .before .before .before .before .before .before .before .before .before .before .before .before .before .before .before .before .before .before .before .before .before .before .before .before .before .before .before .before .before .before .before .before .before .before .pre .1 .1) (w .1) (w .2) (w .3) (w .4) (stays-on (c .before .before .before .before .before .before .before .before .before .before .before .before .before .before .before .before .before .before .before .before .before .before .before .before .before .before .before .before .before .before .before .before .before .before .before .before .before .before .before .before .before .before .pre .1 .0) ι (c .before .before .before .before .before .before .before .before .before .before .before .before .before .before .before .before .before .before .before .before .before .before .before .before .before .before .before .before .before .before .before .before .before .before .before .before .before .before .before .before .before .before .pre .1 .1))) (c .before .before .before .before .before .before .before .before .before .if5 .came) in let e = c .before .rows-between2 .ensures in let few = past-few (c .before .before .before .before .before .before .before .before .before .before .before .before .before .before .before .before .before .before .before .before .before .before .before .before .before .before .before .before .before .before .before .before .before .before .before .before .before .before .before .before .before .before .pre .1 .0) (ν .inv) (c .before .before .before .before .before .before .before .before .before .before .before .before .before .before .before .before .before .before .before .before .before .before .before .before .before .before .before .before .before .before .before .before .before .before .before .before .before .before .before .before .before .before .pre .1 .1) (c .before .before .before .before .before .push-nested .ensures .whole) (c .before .before .before .before .before .push-nested .ensures .within) in record { fits = omega arith }
-
-loop-less : tie.Need-loop-less Inv-loop μ-loop
-loop-less c = let κ : Calls _ _ _ _ _ _ _ _ _ _ _ _ _ _ _ _ _ = record { overflow = c .before .before .before .before .before .before .before .before .before .before .before .before .before .before .before .before .before .before .before .before .before .before .before .before .before .before .overflows .ensures _ _; calm = c .before .before .before .before .before .before .before .before .before .before .before .before .before .before .before .before .before .before .before .before .before .before .before .before .before .if2 .left; taken = c .before .before .before .before .before .before .before .before .before .before .before .before .before .before .before .before .before .before .before .before .before .before .before .before .before .before .before .before .before .before .before .before .before .takes-inline-close .ensures; trailing = c .before .before .before .before .before .before .before .before .before .before .before .before .before .before .before .before .before .before .before .before .before .before .before .writes-trailing .ensures _; arms = c .before .before .before .before .before .before .before .before .before .before .before .before .before .before .before .before .before .before .before .before .push-token .ensures; trailed = ⊎-elim (λ w. written (w .0 .taken) (w .2 .ensures) (w .5) (w .6)) (λ w. left-out (w .0 .left) (w .1) (w .2)) (c .before .before .before .before .before .before .before .before .before .before .before .before .before .before .before .if3 .came); tracked = c .before .before .before .before .before .before .before .before .before .before .before .before .before .before .track-fn-state .ensures } in let g = further (c .before .before .before .before .before .before .before .before .before .before .before .before .before .before .before .before .before .before .before .before .before .before .before .before .before .before .before .before .before .before .before .before .before .before .before .before .before .before .before .before .before .before .args .options) (c .before .before .before .before .before .before .before .before .before .before .before .before .before .before .before .before .before .before .before .before .before .before .before .before .before .before .before .before .before .before .before .before .before .before .before .before .before .before .before .before .before .before .pre .1 .0) (c .before .before .before .before .before .before .before .before .before .before .before .before .before .before .before .before .before .before .before .before .before .before .before .before .before .before .before .before .before .before .before .before .before .before .before .before .loop .inv) (c .before .before .before .before .before .before .before .before .before .before .before .before .before .before .before .before .before .before .before .before .before .before .before .before .before .before .before .before .before .before .before .before .before .before .before .loop-test .taken) (c .before .before .before .before .before .before .before .before .before .before .before .before .before .before .before .before .before .before .before .before .before .before .before .before .before .before .before .before .before .before .before .before .before .before .token-at .ensures) (c .before .before .before .before .before .before .before .before .before .before .before .before .before .before .before .before .before .before .before .before .before .before .before .before .before .before .before .before .before .before .before .push-leading .ensures) (c .before .before .before .before .before .before .before .before .before .before .before .before .before .before .before .before .before .before .before .before .before .before .before .before .before .before .before .if1 .left) κ (c .before .before .before .before .before .before .before .before .before .before .before .before .if4 .left) (c .before .before .before .before .before .before .before .before .before .before .before .before .before .before .before .before .before .stack .given) (c .before .before .before .before .before .before .before .before .before .before .before .next-place .ensures) in let ι = placed (c .before .before .before .before .before .before .before .before .before .before .before .before .before .before .before .before .before .before .before .before .before .before .before .before .before .before .before .before .before .before .before .before .before .before .before .before .before .before .before .before .before .before .args .options) (c .before .before .before .before .before .before .before .before .before .before .before .before .before .before .before .before .before .before .before .before .before .before .before .before .before .before .before .before .before .before .before .before .before .before .before .before .before .before .before .before .before .before .pre .1 .0) (c .before .before .before .before .before .before .before .before .before .before .before .before .before .before .before .before .before .before .before .before .before .before .before .before .before .before .before .before .before .before .before .before .before .before .before .before .loop .inv) (c .before .before .before .before .before .before .before .before .before .before .before .before .before .before .before .before .before .before .before .before .before .before .before .before .before .before .before .before .before .before .before .before .before .before .before .loop-test .taken) (c .before .before .before .before .before .before .before .before .before .before .before .before .before .before .before .before .before .before .before .before .before .before .before .before .before .before .before .before .before .before .before .before .before .before .token-at .ensures) (c .before .before .before .before .before .before .before .before .before .before .before .before .before .before .before .before .before .before .before .before .before .before .before .before .before .before .before .before .before .before .before .push-leading .ensures) (c .before .before .before .before .before .before .before .before .before .before .before .before .before .before .before .before .before .before .before .before .before .before .before .before .before .before .before .if1 .left) κ (c .before .before .before .before .before .before .before .before .before .before .before .before .if4 .left) (c .before .before .before .before .before .before .before .before .before .before .before .before .before .before .before .before .before .stack .given) (c .before .before .before .before .before .before .before .before .before .before .before .next-place .ensures) in let ν : On (c .before .before .before .before .before .before .before .before .before .before .before .before .before .before .before .before .before .before .before .before .before .before .before .before .before .before .before .before .before .before .before .before .before .before .before .before .before .before .before .before .before .before .pre .1 .0) ι (c .before .before .before .before .before .before .before .before .before .before .before .before .before .before .before .before .before .before .before .before .before .before .before .before .before .before .before .before .before .before .before .before .before .before .before .before .before .before .before .before .before .before .pre .1 .1) (c .before .before .before .before .before .before .before .before .before .if5 .self) (c .before .before .before .before .before .before .before .before .before .if5 .out) (c .before .before .before .before .before .before .before .before .before .if5 .at) (c .before .before .before .before .before .before .before .before .before .if5 .index) = ⊎-elim (λ w. on-same (c .before .before .before .before .before .before .before .before .before .before .before .before .before .before .before .before .before .before .before .before .before .before .before .before .before .before .before .before .before .before .before .before .before .before .before .before .before .before .before .before .before .before .pre .1 .0) ι (c .before .before .before .before .before .before .before .before .before .before .before .before .before .before .before .before .before .before .before .before .before .before .before .before .before .before .before .before .before .before .before .before .before .before .before .before .before .before .before .before .before .before .pre .1 .1) (w .8) (w .9) (w .10) (w .11) (steadied (c .before .before .before .before .before .before .before .before .before .before .before .before .before .before .before .before .before .before .before .before .before .before .before .before .before .before .before .before .before .before .before .before .before .before .before .before .before .before .before .before .before .before .pre .1 .0) ι (c .before .before .before .before .before .before .before .before .before .before .before .before .before .before .before .before .before .before .before .before .before .before .before .before .before .before .before .before .before .before .before .before .before .before .before .before .before .before .before .before .before .before .pre .1 .1) (c .before .before .before .before .before .before .before .before .before .before .is-steady .ensures (w .0 .taken)) (w .3 .ensures) (w .6 .ensures) (w .7 .ensures))) (λ w. on-same (c .before .before .before .before .before .before .before .before .before .before .before .before .before .before .before .before .before .before .before .before .before .before .before .before .before .before .before .before .before .before .before .before .before .before .before .before .before .before .before .before .before .before .pre .1 .0) ι (c .before .before .before .before .before .before .before .before .before .before .before .before .before .before .before .before .before .before .before .before .before .before .before .before .before .before .before .before .before .before .before .before .before .before .before .before .before .before .before .before .before .before .pre .1 .1) (w .1) (w .2) (w .3) (w .4) (stays-on (c .before .before .before .before .before .before .before .before .before .before .before .before .before .before .before .before .before .before .before .before .before .before .before .before .before .before .before .before .before .before .before .before .before .before .before .before .before .before .before .before .before .before .pre .1 .0) ι (c .before .before .before .before .before .before .before .before .before .before .before .before .before .before .before .before .before .before .before .before .before .before .before .before .before .before .before .before .before .before .before .before .before .before .before .before .before .before .before .before .before .before .pre .1 .1))) (c .before .before .before .before .before .before .before .before .before .if5 .came) in let h = ν .far in let a = c .before .before .before .before .before .push-nested .ensures .whole in let b = c .before .before .before .before .before .push-nested .ensures .within in omega arith
-
-loop-again : tie.Need-loop-again Inv-loop μ-loop
-loop-again c = let κ : Calls _ _ _ _ _ _ _ _ _ _ _ _ _ _ _ _ _ = record { overflow = c .before .before .before .before .before .before .before .before .before .before .before .before .before .before .before .before .before .before .before .before .before .before .before .before .before .before .overflows .ensures _ _; calm = c .before .before .before .before .before .before .before .before .before .before .before .before .before .before .before .before .before .before .before .before .before .before .before .before .before .if2 .left; taken = c .before .before .before .before .before .before .before .before .before .before .before .before .before .before .before .before .before .before .before .before .before .before .before .before .before .before .before .before .before .before .before .before .before .takes-inline-close .ensures; trailing = c .before .before .before .before .before .before .before .before .before .before .before .before .before .before .before .before .before .before .before .before .before .before .before .writes-trailing .ensures _; arms = c .before .before .before .before .before .before .before .before .before .before .before .before .before .before .before .before .before .before .before .before .push-token .ensures; trailed = ⊎-elim (λ w. written (w .0 .taken) (w .2 .ensures) (w .5) (w .6)) (λ w. left-out (w .0 .left) (w .1) (w .2)) (c .before .before .before .before .before .before .before .before .before .before .before .before .before .before .before .if3 .came); tracked = c .before .before .before .before .before .before .before .before .before .before .before .before .before .before .track-fn-state .ensures } in let ι = placed (c .before .before .before .before .before .before .before .before .before .before .before .before .before .before .before .before .before .before .before .before .before .before .before .before .before .before .before .before .before .before .before .before .before .before .before .before .before .before .before .before .before .before .args .options) (c .before .before .before .before .before .before .before .before .before .before .before .before .before .before .before .before .before .before .before .before .before .before .before .before .before .before .before .before .before .before .before .before .before .before .before .before .before .before .before .before .before .before .pre .1 .0) (c .before .before .before .before .before .before .before .before .before .before .before .before .before .before .before .before .before .before .before .before .before .before .before .before .before .before .before .before .before .before .before .before .before .before .before .before .loop .inv) (c .before .before .before .before .before .before .before .before .before .before .before .before .before .before .before .before .before .before .before .before .before .before .before .before .before .before .before .before .before .before .before .before .before .before .before .loop-test .taken) (c .before .before .before .before .before .before .before .before .before .before .before .before .before .before .before .before .before .before .before .before .before .before .before .before .before .before .before .before .before .before .before .before .before .before .token-at .ensures) (c .before .before .before .before .before .before .before .before .before .before .before .before .before .before .before .before .before .before .before .before .before .before .before .before .before .before .before .before .before .before .before .push-leading .ensures) (c .before .before .before .before .before .before .before .before .before .before .before .before .before .before .before .before .before .before .before .before .before .before .before .before .before .before .before .if1 .left) κ (c .before .before .before .before .before .before .before .before .before .before .before .before .if4 .left) (c .before .before .before .before .before .before .before .before .before .before .before .before .before .before .before .before .before .stack .given) (c .before .before .before .before .before .before .before .before .before .before .before .next-place .ensures) in let ν : On (c .before .before .before .before .before .before .before .before .before .before .before .before .before .before .before .before .before .before .before .before .before .before .before .before .before .before .before .before .before .before .before .before .before .before .before .before .before .before .before .before .before .before .pre .1 .0) ι (c .before .before .before .before .before .before .before .before .before .before .before .before .before .before .before .before .before .before .before .before .before .before .before .before .before .before .before .before .before .before .before .before .before .before .before .before .before .before .before .before .before .before .pre .1 .1) (c .before .before .before .before .before .before .before .before .before .if5 .self) (c .before .before .before .before .before .before .before .before .before .if5 .out) (c .before .before .before .before .before .before .before .before .before .if5 .at) (c .before .before .before .before .before .before .before .before .before .if5 .index) = ⊎-elim (λ w. on-same (c .before .before .before .before .before .before .before .before .before .before .before .before .before .before .before .before .before .before .before .before .before .before .before .before .before .before .before .before .before .before .before .before .before .before .before .before .before .before .before .before .before .before .pre .1 .0) ι (c .before .before .before .before .before .before .before .before .before .before .before .before .before .before .before .before .before .before .before .before .before .before .before .before .before .before .before .before .before .before .before .before .before .before .before .before .before .before .before .before .before .before .pre .1 .1) (w .8) (w .9) (w .10) (w .11) (steadied (c .before .before .before .before .before .before .before .before .before .before .before .before .before .before .before .before .before .before .before .before .before .before .before .before .before .before .before .before .before .before .before .before .before .before .before .before .before .before .before .before .before .before .pre .1 .0) ι (c .before .before .before .before .before .before .before .before .before .before .before .before .before .before .before .before .before .before .before .before .before .before .before .before .before .before .before .before .before .before .before .before .before .before .before .before .before .before .before .before .before .before .pre .1 .1) (c .before .before .before .before .before .before .before .before .before .before .is-steady .ensures (w .0 .taken)) (w .3 .ensures) (w .6 .ensures) (w .7 .ensures))) (λ w. on-same (c .before .before .before .before .before .before .before .before .before .before .before .before .before .before .before .before .before .before .before .before .before .before .before .before .before .before .before .before .before .before .before .before .before .before .before .before .before .before .before .before .before .before .pre .1 .0) ι (c .before .before .before .before .before .before .before .before .before .before .before .before .before .before .before .before .before .before .before .before .before .before .before .before .before .before .before .before .before .before .before .before .before .before .before .before .before .before .before .before .before .before .pre .1 .1) (w .1) (w .2) (w .3) (w .4) (stays-on (c .before .before .before .before .before .before .before .before .before .before .before .before .before .before .before .before .before .before .before .before .before .before .before .before .before .before .before .before .before .before .before .before .before .before .before .before .before .before .before .before .before .before .pre .1 .0) ι (c .before .before .before .before .before .before .before .before .before .before .before .before .before .before .before .before .before .before .before .before .before .before .before .before .before .before .before .before .before .before .before .before .before .before .before .before .before .before .before .before .before .before .pre .1 .1))) (c .before .before .before .before .before .before .before .before .before .if5 .came) in rw (c .before .rows-between2 .ensures) (nested-on (c .before .before .before .before .before .before .before .before .before .before .before .before .before .before .before .before .before .before .before .before .before .before .before .before .before .before .before .before .before .before .before .before .before .before .before .before .before .before .before .before .before .before .pre .1 .0) (ν .inv) (c .before .before .before .before .before .before .before .before .before .before .before .before .before .before .before .before .before .before .before .before .before .before .before .before .before .before .before .before .before .before .before .before .before .before .before .before .before .before .before .before .before .before .pre .1 .1) (c .before .before .before .before .before .before .before .before .is-nested .ensures (c .before .before .before .before .before .before .before .if6 .taken)) (c .before .before .before .before .before .push-nested .ensures) (c .before .before .behind-braces .ensures))
+add-index-2 c = let κ : Calls _ _ _ _ _ _ _ _ _ _ _ _ _ _ _ _ _ = record { overflow = c .before .before .before .before .before .before .before .before .before .before .before .before .before .before .before .before .before .before .before .before .before .before .before .before .before .overflows .ensures _ _; calm = c .before .before .before .before .before .before .before .before .before .before .before .before .before .before .before .before .before .before .before .before .before .before .before .before .if2 .left; taken = c .before .before .before .before .before .before .before .before .before .before .before .before .before .before .before .before .before .before .before .before .before .before .before .before .before .before .before .before .before .before .before .before .takes-inline-close .ensures; trailing = c .before .before .before .before .before .before .before .before .before .before .before .before .before .before .before .before .before .before .before .before .before .before .writes-trailing .ensures _; arms = c .before .before .before .before .before .before .before .before .before .before .before .before .before .before .before .before .before .before .before .push-token .ensures; trailed = ⊎-elim (λ w. written (w .0 .taken) (w .2 .ensures) (w .5) (w .6)) (λ w. left-out (w .0 .left) (w .1) (w .2)) (c .before .before .before .before .before .before .before .before .before .before .before .before .before .before .if3 .came); tracked = c .before .before .before .before .before .before .before .before .before .before .before .before .before .track-fn-state .ensures } in let ι = placed (c .before .before .before .before .before .before .before .before .before .before .before .before .before .before .before .before .before .before .before .before .before .before .before .before .before .before .before .before .before .before .before .before .before .before .before .before .before .before .before .before .before .args .options) (c .before .before .before .before .before .before .before .before .before .before .before .before .before .before .before .before .before .before .before .before .before .before .before .before .before .before .before .before .before .before .before .before .before .before .before .before .before .before .before .before .before .pre .1 .0) (c .before .before .before .before .before .before .before .before .before .before .before .before .before .before .before .before .before .before .before .before .before .before .before .before .before .before .before .before .before .before .before .before .before .before .before .loop .inv) (c .before .before .before .before .before .before .before .before .before .before .before .before .before .before .before .before .before .before .before .before .before .before .before .before .before .before .before .before .before .before .before .before .before .before .loop-test .taken) (c .before .before .before .before .before .before .before .before .before .before .before .before .before .before .before .before .before .before .before .before .before .before .before .before .before .before .before .before .before .before .before .before .before .token-at .ensures) (c .before .before .before .before .before .before .before .before .before .before .before .before .before .before .before .before .before .before .before .before .before .before .before .before .before .before .before .before .before .before .push-leading .ensures) (c .before .before .before .before .before .before .before .before .before .before .before .before .before .before .before .before .before .before .before .before .before .before .before .before .before .before .if1 .left) κ (c .before .before .before .before .before .before .before .before .before .before .before .if4 .left) (c .before .before .before .before .before .before .before .before .before .before .before .before .before .before .before .before .stack .given) (c .before .before .before .before .before .before .before .before .before .before .next-place .ensures) in let e = c .rows-between2 .ensures in let few = past-few (c .before .before .before .before .before .before .before .before .before .before .before .before .before .before .before .before .before .before .before .before .before .before .before .before .before .before .before .before .before .before .before .before .before .before .before .before .before .before .before .before .before .pre .1 .0) ι (c .before .before .before .before .before .before .before .before .before .before .before .before .before .before .before .before .before .before .before .before .before .before .before .before .before .before .before .before .before .before .before .before .before .before .before .before .before .before .before .before .before .pre .1 .1) (c .before .before .before .before .push-nested .ensures .whole) (c .before .before .before .before .push-nested .ensures .within) in record { fits = omega arith }
 
 loop-less-2 : tie.Need-loop-less-2 Inv-loop μ-loop
-loop-less-2 c = let κ : Calls _ _ _ _ _ _ _ _ _ _ _ _ _ _ _ _ _ = record { overflow = c .before .before .before .before .before .before .before .before .before .before .before .before .before .before .before .before .before .before .before .overflows .ensures _ _; calm = c .before .before .before .before .before .before .before .before .before .before .before .before .before .before .before .before .before .before .if2 .left; taken = c .before .before .before .before .before .before .before .before .before .before .before .before .before .before .before .before .before .before .before .before .before .before .before .before .before .before .takes-inline-close .ensures; trailing = c .before .before .before .before .before .before .before .before .before .before .before .before .before .before .before .before .writes-trailing .ensures _; arms = c .before .before .before .before .before .before .before .before .before .before .before .before .before .push-token .ensures; trailed = ⊎-elim (λ w. written (w .0 .taken) (w .2 .ensures) (w .5) (w .6)) (λ w. left-out (w .0 .left) (w .1) (w .2)) (c .before .before .before .before .before .before .before .before .if3 .came); tracked = c .before .before .before .before .before .before .before .track-fn-state .ensures } in let g = further (c .before .before .before .before .before .before .before .before .before .before .before .before .before .before .before .before .before .before .before .before .before .before .before .before .before .before .before .before .before .before .before .before .before .before .before .args .options) (c .before .before .before .before .before .before .before .before .before .before .before .before .before .before .before .before .before .before .before .before .before .before .before .before .before .before .before .before .before .before .before .before .before .before .before .pre .1 .0) (c .before .before .before .before .before .before .before .before .before .before .before .before .before .before .before .before .before .before .before .before .before .before .before .before .before .before .before .before .before .loop .inv) (c .before .before .before .before .before .before .before .before .before .before .before .before .before .before .before .before .before .before .before .before .before .before .before .before .before .before .before .before .loop-test .taken) (c .before .before .before .before .before .before .before .before .before .before .before .before .before .before .before .before .before .before .before .before .before .before .before .before .before .before .before .token-at .ensures) (c .before .before .before .before .before .before .before .before .before .before .before .before .before .before .before .before .before .before .before .before .before .before .before .before .push-leading .ensures) (c .before .before .before .before .before .before .before .before .before .before .before .before .before .before .before .before .before .before .before .before .if1 .left) κ (c .before .before .before .before .before .if4 .left) (c .before .before .before .before .before .before .before .before .before .before .stack .given) (c .before .before .before .before .next-place .ensures) in let ι = placed (c .before .before .before .before .before .before .before .before .before .before .before .before .before .before .before .before .before .before .before .before .before .before .before .before .before .before .before .before .before .before .before .before .before .before .before .args .options) (c .before .before .before .before .before .before .before .before .before .before .before .before .before .before .before .before .before .before .before .before .before .before .before .before .before .before .before .before .before .before .before .before .before .before .before .pre .1 .0) (c .before .before .before .before .before .before .before .before .before .before .before .before .before .before .before .before .before .before .before .before .before .before .before .before .before .before .before .before .before .loop .inv) (c .before .before .before .before .before .before .before .before .before .before .before .before .before .before .before .before .before .before .before .before .before .before .before .before .before .before .before .before .loop-test .taken) (c .before .before .before .before .before .before .before .before .before .before .before .before .before .before .before .before .before .before .before .before .before .before .before .before .before .before .before .token-at .ensures) (c .before .before .before .before .before .before .before .before .before .before .before .before .before .before .before .before .before .before .before .before .before .before .before .before .push-leading .ensures) (c .before .before .before .before .before .before .before .before .before .before .before .before .before .before .before .before .before .before .before .before .if1 .left) κ (c .before .before .before .before .before .if4 .left) (c .before .before .before .before .before .before .before .before .before .before .stack .given) (c .before .before .before .before .next-place .ensures) in let ν : On (c .before .before .before .before .before .before .before .before .before .before .before .before .before .before .before .before .before .before .before .before .before .before .before .before .before .before .before .before .before .before .before .before .before .before .before .pre .1 .0) ι (c .before .before .before .before .before .before .before .before .before .before .before .before .before .before .before .before .before .before .before .before .before .before .before .before .before .before .before .before .before .before .before .before .before .before .before .pre .1 .1) (c .before .before .if5 .self) (c .before .before .if5 .out) (c .before .before .if5 .at) (c .before .before .if5 .index) = ⊎-elim (λ w. on-same (c .before .before .before .before .before .before .before .before .before .before .before .before .before .before .before .before .before .before .before .before .before .before .before .before .before .before .before .before .before .before .before .before .before .before .before .pre .1 .0) ι (c .before .before .before .before .before .before .before .before .before .before .before .before .before .before .before .before .before .before .before .before .before .before .before .before .before .before .before .before .before .before .before .before .before .before .before .pre .1 .1) (w .8) (w .9) (w .10) (w .11) (steadied (c .before .before .before .before .before .before .before .before .before .before .before .before .before .before .before .before .before .before .before .before .before .before .before .before .before .before .before .before .before .before .before .before .before .before .before .pre .1 .0) ι (c .before .before .before .before .before .before .before .before .before .before .before .before .before .before .before .before .before .before .before .before .before .before .before .before .before .before .before .before .before .before .before .before .before .before .before .pre .1 .1) (c .before .before .before .is-steady .ensures (w .0 .taken)) (w .3 .ensures) (w .6 .ensures) (w .7 .ensures))) (λ w. on-same (c .before .before .before .before .before .before .before .before .before .before .before .before .before .before .before .before .before .before .before .before .before .before .before .before .before .before .before .before .before .before .before .before .before .before .before .pre .1 .0) ι (c .before .before .before .before .before .before .before .before .before .before .before .before .before .before .before .before .before .before .before .before .before .before .before .before .before .before .before .before .before .before .before .before .before .before .before .pre .1 .1) (w .1) (w .2) (w .3) (w .4) (stays-on (c .before .before .before .before .before .before .before .before .before .before .before .before .before .before .before .before .before .before .before .before .before .before .before .before .before .before .before .before .before .before .before .before .before .before .before .pre .1 .0) ι (c .before .before .before .before .before .before .before .before .before .before .before .before .before .before .before .before .before .before .before .before .before .before .before .before .before .before .before .before .before .before .before .before .before .before .before .pre .1 .1))) (c .before .before .if5 .came) in let h = ν .far in let b = ν .inv .going .head .within in omega arith
+loop-less-2 c = let κ : Calls _ _ _ _ _ _ _ _ _ _ _ _ _ _ _ _ _ = record { overflow = c .before .before .before .before .before .before .before .before .before .before .before .before .before .before .before .before .before .before .before .before .before .before .before .before .before .overflows .ensures _ _; calm = c .before .before .before .before .before .before .before .before .before .before .before .before .before .before .before .before .before .before .before .before .before .before .before .before .if2 .left; taken = c .before .before .before .before .before .before .before .before .before .before .before .before .before .before .before .before .before .before .before .before .before .before .before .before .before .before .before .before .before .before .before .before .takes-inline-close .ensures; trailing = c .before .before .before .before .before .before .before .before .before .before .before .before .before .before .before .before .before .before .before .before .before .before .writes-trailing .ensures _; arms = c .before .before .before .before .before .before .before .before .before .before .before .before .before .before .before .before .before .before .before .push-token .ensures; trailed = ⊎-elim (λ w. written (w .0 .taken) (w .2 .ensures) (w .5) (w .6)) (λ w. left-out (w .0 .left) (w .1) (w .2)) (c .before .before .before .before .before .before .before .before .before .before .before .before .before .before .if3 .came); tracked = c .before .before .before .before .before .before .before .before .before .before .before .before .before .track-fn-state .ensures } in let f = further (c .before .before .before .before .before .before .before .before .before .before .before .before .before .before .before .before .before .before .before .before .before .before .before .before .before .before .before .before .before .before .before .before .before .before .before .before .before .before .before .before .before .args .options) (c .before .before .before .before .before .before .before .before .before .before .before .before .before .before .before .before .before .before .before .before .before .before .before .before .before .before .before .before .before .before .before .before .before .before .before .before .before .before .before .before .before .pre .1 .0) (c .before .before .before .before .before .before .before .before .before .before .before .before .before .before .before .before .before .before .before .before .before .before .before .before .before .before .before .before .before .before .before .before .before .before .before .loop .inv) (c .before .before .before .before .before .before .before .before .before .before .before .before .before .before .before .before .before .before .before .before .before .before .before .before .before .before .before .before .before .before .before .before .before .before .loop-test .taken) (c .before .before .before .before .before .before .before .before .before .before .before .before .before .before .before .before .before .before .before .before .before .before .before .before .before .before .before .before .before .before .before .before .before .token-at .ensures) (c .before .before .before .before .before .before .before .before .before .before .before .before .before .before .before .before .before .before .before .before .before .before .before .before .before .before .before .before .before .before .push-leading .ensures) (c .before .before .before .before .before .before .before .before .before .before .before .before .before .before .before .before .before .before .before .before .before .before .before .before .before .before .if1 .left) κ (c .before .before .before .before .before .before .before .before .before .before .before .if4 .left) (c .before .before .before .before .before .before .before .before .before .before .before .before .before .before .before .before .stack .given) (c .before .before .before .before .before .before .before .before .before .before .next-place .ensures) in let a = c .before .before .before .before .push-nested .ensures .whole in let b = c .before .before .before .before .push-nested .ensures .within in omega arith
 
 loop-again-2 : tie.Need-loop-again-2 Inv-loop μ-loop
-loop-again-2 c = let κ : Calls _ _ _ _ _ _ _ _ _ _ _ _ _ _ _ _ _ = record { overflow = c .before .before .before .before .before .before .before .before .before .before .before .before .before .before .before .before .before .before .before .overflows .ensures _ _; calm = c .before .before .before .before .before .before .before .before .before .before .before .before .before .before .before .before .before .before .if2 .left; taken = c .before .before .before .before .before .before .before .before .before .before .before .before .before .before .before .before .before .before .before .before .before .before .before .before .before .before .takes-inline-close .ensures; trailing = c .before .before .before .before .before .before .before .before .before .before .before .before .before .before .before .before .writes-trailing .ensures _; arms = c .before .before .before .before .before .before .before .before .before .before .before .before .before .push-token .ensures; trailed = ⊎-elim (λ w. written (w .0 .taken) (w .2 .ensures) (w .5) (w .6)) (λ w. left-out (w .0 .left) (w .1) (w .2)) (c .before .before .before .before .before .before .before .before .if3 .came); tracked = c .before .before .before .before .before .before .before .track-fn-state .ensures } in let ι = placed (c .before .before .before .before .before .before .before .before .before .before .before .before .before .before .before .before .before .before .before .before .before .before .before .before .before .before .before .before .before .before .before .before .before .before .before .args .options) (c .before .before .before .before .before .before .before .before .before .before .before .before .before .before .before .before .before .before .before .before .before .before .before .before .before .before .before .before .before .before .before .before .before .before .before .pre .1 .0) (c .before .before .before .before .before .before .before .before .before .before .before .before .before .before .before .before .before .before .before .before .before .before .before .before .before .before .before .before .before .loop .inv) (c .before .before .before .before .before .before .before .before .before .before .before .before .before .before .before .before .before .before .before .before .before .before .before .before .before .before .before .before .loop-test .taken) (c .before .before .before .before .before .before .before .before .before .before .before .before .before .before .before .before .before .before .before .before .before .before .before .before .before .before .before .token-at .ensures) (c .before .before .before .before .before .before .before .before .before .before .before .before .before .before .before .before .before .before .before .before .before .before .before .before .push-leading .ensures) (c .before .before .before .before .before .before .before .before .before .before .before .before .before .before .before .before .before .before .before .before .if1 .left) κ (c .before .before .before .before .before .if4 .left) (c .before .before .before .before .before .before .before .before .before .before .stack .given) (c .before .before .before .before .next-place .ensures) in let ν : On (c .before .before .before .before .before .before .before .before .before .before .before .before .before .before .before .before .before .before .before .before .before .before .before .before .before .before .before .before .before .before .before .before .before .before .before .pre .1 .0) ι (c .before .before .before .before .before .before .before .before .before .before .before .before .before .before .before .before .before .before .before .before .before .before .before .before .before .before .before .before .before .before .before .before .before .before .before .pre .1 .1) (c .before .before .if5 .self) (c .before .before .if5 .out) (c .before .before .if5 .at) (c .before .before .if5 .index) = ⊎-elim (λ w. on-same (c .before .before .before .before .before .before .before .before .before .before .before .before .before .before .before .before .before .before .before .before .before .before .before .before .before .before .before .before .before .before .before .before .before .before .before .pre .1 .0) ι (c .before .before .before .before .before .before .before .before .before .before .before .before .before .before .before .before .before .before .before .before .before .before .before .before .before .before .before .before .before .before .before .before .before .before .before .pre .1 .1) (w .8) (w .9) (w .10) (w .11) (steadied (c .before .before .before .before .before .before .before .before .before .before .before .before .before .before .before .before .before .before .before .before .before .before .before .before .before .before .before .before .before .before .before .before .before .before .before .pre .1 .0) ι (c .before .before .before .before .before .before .before .before .before .before .before .before .before .before .before .before .before .before .before .before .before .before .before .before .before .before .before .before .before .before .before .before .before .before .before .pre .1 .1) (c .before .before .before .is-steady .ensures (w .0 .taken)) (w .3 .ensures) (w .6 .ensures) (w .7 .ensures))) (λ w. on-same (c .before .before .before .before .before .before .before .before .before .before .before .before .before .before .before .before .before .before .before .before .before .before .before .before .before .before .before .before .before .before .before .before .before .before .before .pre .1 .0) ι (c .before .before .before .before .before .before .before .before .before .before .before .before .before .before .before .before .before .before .before .before .before .before .before .before .before .before .before .before .before .before .before .before .before .before .before .pre .1 .1) (w .1) (w .2) (w .3) (w .4) (stays-on (c .before .before .before .before .before .before .before .before .before .before .before .before .before .before .before .before .before .before .before .before .before .before .before .before .before .before .before .before .before .before .before .before .before .before .before .pre .1 .0) ι (c .before .before .before .before .before .before .before .before .before .before .before .before .before .before .before .before .before .before .before .before .before .before .before .before .before .before .before .before .before .before .before .before .before .before .before .pre .1 .1))) (c .before .before .if5 .came) in ν .inv
+loop-again-2 c = let κ : Calls _ _ _ _ _ _ _ _ _ _ _ _ _ _ _ _ _ = record { overflow = c .before .before .before .before .before .before .before .before .before .before .before .before .before .before .before .before .before .before .before .before .before .before .before .before .before .overflows .ensures _ _; calm = c .before .before .before .before .before .before .before .before .before .before .before .before .before .before .before .before .before .before .before .before .before .before .before .before .if2 .left; taken = c .before .before .before .before .before .before .before .before .before .before .before .before .before .before .before .before .before .before .before .before .before .before .before .before .before .before .before .before .before .before .before .before .takes-inline-close .ensures; trailing = c .before .before .before .before .before .before .before .before .before .before .before .before .before .before .before .before .before .before .before .before .before .before .writes-trailing .ensures _; arms = c .before .before .before .before .before .before .before .before .before .before .before .before .before .before .before .before .before .before .before .push-token .ensures; trailed = ⊎-elim (λ w. written (w .0 .taken) (w .2 .ensures) (w .5) (w .6)) (λ w. left-out (w .0 .left) (w .1) (w .2)) (c .before .before .before .before .before .before .before .before .before .before .before .before .before .before .if3 .came); tracked = c .before .before .before .before .before .before .before .before .before .before .before .before .before .track-fn-state .ensures } in let ι = placed (c .before .before .before .before .before .before .before .before .before .before .before .before .before .before .before .before .before .before .before .before .before .before .before .before .before .before .before .before .before .before .before .before .before .before .before .before .before .before .before .before .before .args .options) (c .before .before .before .before .before .before .before .before .before .before .before .before .before .before .before .before .before .before .before .before .before .before .before .before .before .before .before .before .before .before .before .before .before .before .before .before .before .before .before .before .before .pre .1 .0) (c .before .before .before .before .before .before .before .before .before .before .before .before .before .before .before .before .before .before .before .before .before .before .before .before .before .before .before .before .before .before .before .before .before .before .before .loop .inv) (c .before .before .before .before .before .before .before .before .before .before .before .before .before .before .before .before .before .before .before .before .before .before .before .before .before .before .before .before .before .before .before .before .before .before .loop-test .taken) (c .before .before .before .before .before .before .before .before .before .before .before .before .before .before .before .before .before .before .before .before .before .before .before .before .before .before .before .before .before .before .before .before .before .token-at .ensures) (c .before .before .before .before .before .before .before .before .before .before .before .before .before .before .before .before .before .before .before .before .before .before .before .before .before .before .before .before .before .before .push-leading .ensures) (c .before .before .before .before .before .before .before .before .before .before .before .before .before .before .before .before .before .before .before .before .before .before .before .before .before .before .if1 .left) κ (c .before .before .before .before .before .before .before .before .before .before .before .if4 .left) (c .before .before .before .before .before .before .before .before .before .before .before .before .before .before .before .before .stack .given) (c .before .before .before .before .before .before .before .before .before .before .next-place .ensures) in rw (c .rows-between2 .ensures) (nested-on (c .before .before .before .before .before .before .before .before .before .before .before .before .before .before .before .before .before .before .before .before .before .before .before .before .before .before .before .before .before .before .before .before .before .before .before .before .before .before .before .before .before .pre .1 .0) ι (c .before .before .before .before .before .before .before .before .before .before .before .before .before .before .before .before .before .before .before .before .before .before .before .before .before .before .before .before .before .before .before .before .before .before .before .before .before .before .before .before .before .pre .1 .1) (c .before .before .before .before .before .before .before .is-nested .ensures (c .before .before .before .before .before .before .if6 .taken)) (c .before .before .before .before .push-nested .ensures) (c .before .behind-braces .ensures))
+
+loop-less-3 : tie.Need-loop-less-3 Inv-loop μ-loop
+loop-less-3 c = let κ : Calls _ _ _ _ _ _ _ _ _ _ _ _ _ _ _ _ _ = record { overflow = c .before .before .before .before .before .before .before .before .before .before .before .before .before .before .before .before .before .before .before .overflows .ensures _ _; calm = c .before .before .before .before .before .before .before .before .before .before .before .before .before .before .before .before .before .before .if2 .left; taken = c .before .before .before .before .before .before .before .before .before .before .before .before .before .before .before .before .before .before .before .before .before .before .before .before .before .before .takes-inline-close .ensures; trailing = c .before .before .before .before .before .before .before .before .before .before .before .before .before .before .before .before .writes-trailing .ensures _; arms = c .before .before .before .before .before .before .before .before .before .before .before .before .before .push-token .ensures; trailed = ⊎-elim (λ w. written (w .0 .taken) (w .2 .ensures) (w .5) (w .6)) (λ w. left-out (w .0 .left) (w .1) (w .2)) (c .before .before .before .before .before .before .before .before .if3 .came); tracked = c .before .before .before .before .before .before .before .track-fn-state .ensures } in let ι = placed (c .before .before .before .before .before .before .before .before .before .before .before .before .before .before .before .before .before .before .before .before .before .before .before .before .before .before .before .before .before .before .before .before .before .before .before .args .options) (c .before .before .before .before .before .before .before .before .before .before .before .before .before .before .before .before .before .before .before .before .before .before .before .before .before .before .before .before .before .before .before .before .before .before .before .pre .1 .0) (c .before .before .before .before .before .before .before .before .before .before .before .before .before .before .before .before .before .before .before .before .before .before .before .before .before .before .before .before .before .loop .inv) (c .before .before .before .before .before .before .before .before .before .before .before .before .before .before .before .before .before .before .before .before .before .before .before .before .before .before .before .before .loop-test .taken) (c .before .before .before .before .before .before .before .before .before .before .before .before .before .before .before .before .before .before .before .before .before .before .before .before .before .before .before .token-at .ensures) (c .before .before .before .before .before .before .before .before .before .before .before .before .before .before .before .before .before .before .before .before .before .before .before .before .push-leading .ensures) (c .before .before .before .before .before .before .before .before .before .before .before .before .before .before .before .before .before .before .before .before .if1 .left) κ (c .before .before .before .before .before .if4 .left) (c .before .before .before .before .before .before .before .before .before .before .stack .given) (c .before .before .before .before .next-place .ensures) in let f = further (c .before .before .before .before .before .before .before .before .before .before .before .before .before .before .before .before .before .before .before .before .before .before .before .before .before .before .before .before .before .before .before .before .before .before .before .args .options) (c .before .before .before .before .before .before .before .before .before .before .before .before .before .before .before .before .before .before .before .before .before .before .before .before .before .before .before .before .before .before .before .before .before .before .before .pre .1 .0) (c .before .before .before .before .before .before .before .before .before .before .before .before .before .before .before .before .before .before .before .before .before .before .before .before .before .before .before .before .before .loop .inv) (c .before .before .before .before .before .before .before .before .before .before .before .before .before .before .before .before .before .before .before .before .before .before .before .before .before .before .before .before .loop-test .taken) (c .before .before .before .before .before .before .before .before .before .before .before .before .before .before .before .before .before .before .before .before .before .before .before .before .before .before .before .token-at .ensures) (c .before .before .before .before .before .before .before .before .before .before .before .before .before .before .before .before .before .before .before .before .before .before .before .before .push-leading .ensures) (c .before .before .before .before .before .before .before .before .before .before .before .before .before .before .before .before .before .before .before .before .if1 .left) κ (c .before .before .before .before .before .if4 .left) (c .before .before .before .before .before .before .before .before .before .before .stack .given) (c .before .before .before .before .next-place .ensures) in let b = ι .going .head .within in omega arith
+
+loop-again-3 : tie.Need-loop-again-3 Inv-loop μ-loop
+loop-again-3 c = let κ : Calls _ _ _ _ _ _ _ _ _ _ _ _ _ _ _ _ _ = record { overflow = c .before .before .before .before .before .before .before .before .before .before .before .before .before .before .before .before .before .before .before .overflows .ensures _ _; calm = c .before .before .before .before .before .before .before .before .before .before .before .before .before .before .before .before .before .before .if2 .left; taken = c .before .before .before .before .before .before .before .before .before .before .before .before .before .before .before .before .before .before .before .before .before .before .before .before .before .before .takes-inline-close .ensures; trailing = c .before .before .before .before .before .before .before .before .before .before .before .before .before .before .before .before .writes-trailing .ensures _; arms = c .before .before .before .before .before .before .before .before .before .before .before .before .before .push-token .ensures; trailed = ⊎-elim (λ w. written (w .0 .taken) (w .2 .ensures) (w .5) (w .6)) (λ w. left-out (w .0 .left) (w .1) (w .2)) (c .before .before .before .before .before .before .before .before .if3 .came); tracked = c .before .before .before .before .before .before .before .track-fn-state .ensures } in let ι = placed (c .before .before .before .before .before .before .before .before .before .before .before .before .before .before .before .before .before .before .before .before .before .before .before .before .before .before .before .before .before .before .before .before .before .before .before .args .options) (c .before .before .before .before .before .before .before .before .before .before .before .before .before .before .before .before .before .before .before .before .before .before .before .before .before .before .before .before .before .before .before .before .before .before .before .pre .1 .0) (c .before .before .before .before .before .before .before .before .before .before .before .before .before .before .before .before .before .before .before .before .before .before .before .before .before .before .before .before .before .loop .inv) (c .before .before .before .before .before .before .before .before .before .before .before .before .before .before .before .before .before .before .before .before .before .before .before .before .before .before .before .before .loop-test .taken) (c .before .before .before .before .before .before .before .before .before .before .before .before .before .before .before .before .before .before .before .before .before .before .before .before .before .before .before .token-at .ensures) (c .before .before .before .before .before .before .before .before .before .before .before .before .before .before .before .before .before .before .before .before .before .before .before .before .push-leading .ensures) (c .before .before .before .before .before .before .before .before .before .before .before .before .before .before .before .before .before .before .before .before .if1 .left) κ (c .before .before .before .before .before .if4 .left) (c .before .before .before .before .before .before .before .before .before .before .stack .given) (c .before .before .before .before .next-place .ensures) in ι
 
 same-length-7 : tie.Need-same-length-7 Inv-loop μ-loop
 same-length-7 c = c .before .loop .inv .going .size
@@ -173,15 +179,17 @@ format-spec =
     behind-steady-requires
     rows-between-requires
     add-index
+    loop-less
+    loop-again
     is-nested-requires
     push-nested-requires
     behind-braces-requires
     rows-between-requires-2
     add-index-2
-    loop-less
-    loop-again
     loop-less-2
     loop-again-2
+    loop-less-3
+    loop-again-3
     same-length-7
     same-length-8
     returns-4)

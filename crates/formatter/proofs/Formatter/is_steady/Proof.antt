@@ -1,11 +1,20 @@
 -- `formatter::Formatter::is_steady` meets its contract. Assumes nothing.
-use borrow.Author.Tests.{not-false, eqb-true}
-use Rattle.report.proofs.Logic.{impossible′}
+use mathlib.Core.Path.{sym, _∙_}
+use borrow.Author.Needs.{needs}
+use borrow.Author.Tests.{eqb-true}
+use Rattle.report.proofs.Logic.{impossible, impossible′}
+use Rattle.formatter.proofs.Does.{told}
 use Rattle.formatter.proofs.Formatter.is_steady.Statement.{statement}
 use Rattle.formatter.proofs.Formatter.is_steady.Tie as tie
 
+sub-if1 : tie.Need-sub-if1
+sub-if1 c = search needs
+
 returns : tie.Need-returns
 returns c = λ e. impossible′ e
+
+row-at-requires : tie.Need-row-at-requires
+row-at-requires c κs = search needs
 
 returns-2 : tie.Need-returns-2
 returns-2 c = λ e. impossible′ e
@@ -17,7 +26,16 @@ returns-4 : tie.Need-returns-4
 returns-4 c = λ e. impossible′ e
 
 returns-5 : tie.Need-returns-5
-returns-5 c = λ e. record { bare = not-false _ (c .before .before .before .before .if1 .left); mid-line = c .before .before .before .if2 .left; no-record = c .before .before .if3 .left; not-closed = c .before .if4 .left; no-fn = eqb-true _ 0 e }
+returns-5 c = λ e. impossible′ e
+
+in-broken-signature-requires : tie.Need-in-broken-signature-requires
+in-broken-signature-requires c κs = search needs
+
+returns-6 : tie.Need-returns-6
+returns-6 c = λ e. record { mid-line = c .before .before .before .before .if4 .left; not-closed = c .before .before .before .if5 .left; no-fn = λ s. eqb-true _ 0 e }
+
+returns-7 : tie.Need-returns-7
+returns-7 c = λ e. record { mid-line = c .before .before .before .if4 .left; not-closed = c .before .before .if5 .left; no-fn = λ s. impossible (sym s ∙ told (c .before .in-broken-signature .ensures) (c .if6 .left)) }
 
 pub is-steady-spec : {M : Type 1} → statement M
-is-steady-spec = tie.close (tie.spec returns returns-2 returns-3 returns-4 returns-5)
+is-steady-spec = tie.close (tie.spec sub-if1 returns row-at-requires returns-2 returns-3 returns-4 returns-5 in-broken-signature-requires returns-6 returns-7)
