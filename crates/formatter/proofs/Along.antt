@@ -25,7 +25,7 @@ use Rattle.push_token.specs.Arms.{atRecordFields, inBrokenList}
 use Rattle.push_token.specs.PushToken.{turn}
 use Rattle.push_token.specs.Layout.{finished, layFrom}
 use Rattle.sink.specs.Sink.{Writes}
-use Rattle.sink.specs.Space.{tightBehind, bit, spaces}
+use Rattle.sink.specs.Space.{looseBehind, bit, spaces}
 use Rattle.sink.proofs.Sink.{later}
 use Rattle.formatter.specs.declared.Formatter as code
 use Rattle.formatter.specs.declared.Broken.{Broken}
@@ -206,7 +206,7 @@ module _ {rows text l k : List ℕ} {from n before at len prev steady : ℕ} {m�
           let z = w .size in
           let e : ltb from (at + 16) ≡ true = lt-ltb from (at + 16) (omega arith) in
           record {
-            right = record { marking = refl; tight = refl };
+            right = record { marking = refl; loose = refl };
             last = row-known ω (α .head) h (rowAt rows at) refl;
             room = omega arith;
             size = w .size ∙ α .size;
@@ -218,13 +218,13 @@ module _ {rows text l k : List ℕ} {from n before at len prev steady : ℕ} {m�
   -- by the code's row, its mask and its number of spaces
   pub again :
       Lone rows at → (r : Row) {space len′ : ℕ} {k′ : List ℕ} {m′ : Marks} → (t : Takes) → steady ≡ steadyKinds t → r ≡ rowAt rows at
-      → (bit steady (r .kind) ≡ 0 → ⊥) → space ≡ spaces (m .tight) prev (r .kind) → space + (r .end - r .start) ≤ length k - len
+      → (bit steady (r .kind) ≡ 0 → ⊥) → space ≡ spaces (m .loose) prev (r .kind) → space + (r .end - r .start) ≤ length k - len
       → Writes k len (replicate space 32 ++ bytesOf text r) k′ len′ → m′ ≡ marked prev (r .kind) m → Along rows text from n before m₀ steady l (at + 16) len′ (r .kind) m′ k′
   again λ₁ r t q e b z f w d =
       let κ = rowAt rows at .kind in
       let known = row-known ω (α .head) h (rowAt rows at) refl in
       let only : (t : Takes) → steady ≡ steadyKinds t → onlyWrites t κ ≡ true = λ t q. steady-kind t κ known (rw (q, e) at b) in
-      let g = rw (α .right .tight, e) at z ∙ steady-spaces t (m .«prev_minus_is_unary») prev κ (α .last) known (only t q) in
+      let g = rw (α .right .loose, e) at z ∙ steady-spaces t (m .«prev_minus_is_unary») prev κ (α .last) known (only t q) in
       let far = α .done t q .whole in
       rw (d, e) (more λ₁ (rw (g, e) at f) (rw (g, e) at w) only (omega arith))
 

@@ -18,8 +18,8 @@ use Rattle.push_token.specs.Act.{State, state, Act, if, run}
 use Rattle.push_token.specs.Emit.{isSome, isAt, fnStateAfter, spaceAfter, endedBy, trackFnState, tokenGap, trackMinus, pushLexeme}
 use Rattle.push_token.specs.Arms.{atRecordFields, inBrokenList, elseOnNewLine, closeGroup, closeCall, closeSignature, rightParenArm, rightBracketArm, commaArm, elseArm, otherArm}
 use Rattle.push_token.specs.PushToken.{arm, takeInlineClose, turn}
-use Rattle.sink.specs.Space.{tightBehind, bit, spaces}
-use Rattle.sink.proofs.Spaces.{spaces-are, tight-other}
+use Rattle.sink.specs.Space.{looseBehind, bit, spaces}
+use Rattle.sink.proofs.Spaces.{spaces-are, loose-other}
 use Rattle.formatter.specs.declared.steady.Marks.{Marks}
 use Rattle.formatter.specs.Steady.{Takes, isCloser, onlyWrites, steadyKinds, fnAfter, pendingAfter, unaryAfter, groupAfter, marksFor, marked, Right, Steady, behind}
 use Rattle.formatter.proofs.Gaps.{token-gap}
@@ -61,10 +61,10 @@ never : (t : Takes) (k j : ℕ) → onlyWrites t k ≡ true → onlyWrites t j �
 never t k j w e = ne-eqb k j (λ x. impossible′ (sym e ∙ (rw x at w)))
 
 -- before such a kind, the spaces that the code finds are the definition's
-pub steady-spaces : (t : Takes) (unary : Bool) (p k : ℕ) → p ≤ Other → k ≤ Other → onlyWrites t k ≡ true → spaces (tightBehind Other unary) p k ≡ cond (spaceAfter (some p) unary k) 1 0
+pub steady-spaces : (t : Takes) (unary : Bool) (p k : ℕ) → p ≤ Other → k ≤ Other → onlyWrites t k ≡ true → spaces (looseBehind Other unary) p k ≡ cond (spaceAfter (some p) unary k) 1 0
 unfolding onlyWrites
 steady-spaces t unary p k g h w =
-    ap (λ tight. spaces tight p k) (tight-other k unary (λ e. impossible′ (rw e at w)) (λ e. impossible′ (rw e at w)) (λ e. impossible′ (rw e at w)))
+    ap (λ loose. spaces loose p k) (loose-other k unary (λ e. impossible′ (rw e at w)) (λ e. impossible′ (rw e at w)) (λ e. impossible′ (rw e at w)))
     ∙ spaces-are p k unary g h
 
 -- ---- the kinds that change a mark, by the bits of a number
@@ -82,7 +82,7 @@ pub marks-same : {n n′ : ℕ} {a a′ b b′ : Bool} {g g′ : ℕ} → n ≡ 
 marks-same n a b g = rw (n, a, b, g)
 
 right-is : {m : Marks} → Right m → marksFor (m .«fn_state») (m .«record_pending») (m .«prev_minus_is_unary») (m .«group_depth») ≡ m
-right-is ρ = rw (← (ρ .marking), ← (ρ .tight))
+right-is ρ = rw (← (ρ .marking), ← (ρ .loose))
 
 -- a kind that changes none
 pub marks-kept : {m : Marks} → Right m → (p k : ℕ) → k ≤ Other → bit (m .marking) k ≡ 0 → m ≡ marked p k m

@@ -18,7 +18,7 @@ use Rattle.push_token.specs.Act.{state}
 use Rattle.push_token.specs.Emit.{isSome, isAt}
 use Rattle.push_token.specs.Arms.{atRecordFields, inBrokenList}
 use Rattle.push_token.specs.Layout.{finished, layFrom}
-use Rattle.sink.specs.Space.{tightBehind}
+use Rattle.sink.specs.Space.{looseBehind}
 use Rattle.formatter.specs.declared.Formatter as code
 use Rattle.formatter.specs.declared.steady.Marks.{Marks}
 use Rattle.formatter.specs.declared.steady.Steady as code-steady
@@ -82,7 +82,7 @@ marksFor fn pending unary group =
       «record_pending» = pending;
       marking = markingKinds fn pending;
       «prev_minus_is_unary» = unary;
-      tight = tightBehind Other unary;
+      loose = looseBehind Other unary;
     }
 
 abbrev pub marksOf : code.Formatter → Marks
@@ -94,7 +94,7 @@ marked p k m = marksFor (fnAfter k (m .«fn_state»)) (pendingAfter k (m .«reco
 -- the two sets of kinds are those of the other marks
 pub record Right (m : Marks) : Type 0 where
   pub marking : m .marking ≡ markingKinds (m .«fn_state») (m .«record_pending»)
-  pub tight : m .tight ≡ tightBehind Other (m .«prev_minus_is_unary»)
+  pub loose : m .loose ≡ looseBehind Other (m .«prev_minus_is_unary»)
 
 -- the formatter with the last kind k and the marks m
 abbrev pub atMarks : ℕ → Marks → Formatter → Formatter

@@ -8,8 +8,8 @@ use crate::ended_by;
 use lookahead::is_value_kind;
 use rows::kinds;
 use sink::numbers::record_pending_after;
+use sink::space::loose_behind;
 use sink::space::spaces_between;
-use sink::space::tight_behind;
 use sink::write::Tail;
 use sink::write::write_else;
 use sink::write::write_token;
@@ -158,7 +158,7 @@ impl Formatter {
         let prev = before.kind;
         match prev {
             Prev::Nothing => 0,
-            Prev::Kind(k) => spaces_between(tight_behind(kind, self.prev_minus_is_unary), k, kind),
+            Prev::Kind(k) => spaces_between(loose_behind(kind, self.prev_minus_is_unary), k, kind),
         }
     }
 

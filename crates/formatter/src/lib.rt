@@ -88,26 +88,25 @@ pub struct Ends {
 
 // The fields of format.rs under its names. The port adds `len`, the length of the text, which is one past the
 // output's end once something did not fit; `break_count`, the number of entries of the broken-group stack;
-// and `commas`, the number of inserted commas. Small fields and eight-byte ones take turns, but for one pair:
-// where two small ones share eight bytes, the compiler joins them to one number and takes it apart at each
-// use.
+// and `commas`, the number of inserted commas. Their order is the one of about 190 that takes the fewest
+// instructions (docs/BENCHMARKS.md); the order of format.rs takes a twelfth more.
 pub struct Formatter {
-    pub at_line_start: bool,
-    pub len: usize,
-    pub prev_minus_is_unary: bool,
-    pub indent: usize,
-    pub record_pending: bool,
-    pub group_depth: GroupDepth,
     pub just_closed_inline: bool,
-    pub in_record: bool,
-    pub inline_depth: InlineDepth,
     pub record_depth: RecordDepth,
-    pub fn_state: u8,
-    pub break_count: usize,
-    pub prev: Before,
+    pub in_record: bool,
+    pub record_pending: bool,
+    pub indent: usize,
+    pub group_depth: GroupDepth,
     pub suppress_newline_at: Suppressed,
-    pub sig_break_depth: SignatureDepth,
+    pub fn_state: u8,
+    pub len: usize,
+    pub at_line_start: bool,
+    pub prev_minus_is_unary: bool,
+    pub inline_depth: InlineDepth,
+    pub break_count: usize,
     pub commas: usize,
+    pub sig_break_depth: SignatureDepth,
+    pub prev: Before,
 }
 
 // How a layout ends: with the length of the text and the number of inserted commas, or with refusal 4 or 5 at a token.
@@ -122,26 +121,26 @@ impl Formatter {
         ensures { λ r. ⌜ ((stack : List ℕ) → 64 ≤ length stack → Fresh r stack) ⌝ }
     {
         Formatter {
-            at_line_start: true,
-            len: 0,
-            prev_minus_is_unary: false,
-            indent: 0,
-            record_pending: false,
-            group_depth: GroupDepth(0),
             just_closed_inline: false,
-            in_record: false,
-            inline_depth: InlineDepth(0),
             record_depth: RecordDepth(0),
-            fn_state: 0,
-            break_count: 0,
-            prev: Before {
-                kind: Prev::Nothing,
-            },
+            in_record: false,
+            record_pending: false,
+            indent: 0,
+            group_depth: GroupDepth(0),
             suppress_newline_at: Suppressed {
                 at: NewlineAt::Never,
             },
-            sig_break_depth: SignatureDepth(Broken::Nowhere),
+            fn_state: 0,
+            len: 0,
+            at_line_start: true,
+            prev_minus_is_unary: false,
+            inline_depth: InlineDepth(0),
+            break_count: 0,
             commas: 0,
+            sig_break_depth: SignatureDepth(Broken::Nowhere),
+            prev: Before {
+                kind: Prev::Nothing,
+            },
         }
     }
 

@@ -10,8 +10,8 @@ use rows::row_at;
 use sink::numbers::less;
 use sink::numbers::record_pending_after;
 use sink::put::put_token;
+use sink::space::loose_behind;
 use sink::space::spaces_between;
-use sink::space::tight_behind;
 ghost use mathlib.Core.Bool.{Bool, true, cond, not, _&&_};
 ghost use mathlib.Core.List.{List};
 ghost use mathlib.Core.Path.{_≡_};
@@ -47,14 +47,14 @@ const MARKING: u64 = 0x34_00a0;
 const ALL: u64 = 0x7_ffff_ffff;
 
 // The fields of the state that such tokens change, but for the last kind; the kinds that change one of them, and the
-// kinds behind which no space stands.
+// kinds behind which a space stands.
 pub struct Marks {
     pub fn_state: u8,
     pub group_depth: usize,
     pub record_pending: bool,
     pub marking: u64,
     pub prev_minus_is_unary: bool,
-    pub tight: u64,
+    pub loose: u64,
 }
 
 // Where steady tokens end: the first row behind them, the length of the text, the last token's kind, and the marks.
@@ -138,7 +138,7 @@ impl Formatter {
                     marks,
                 };
             }
-            let space = spaces_between(marks.tight, prev, kind);
+            let space = spaces_between(marks.loose, prev, kind);
             let start = row.start as usize;
             let end = row.end as usize;
             if !has_room(out.len() - len, space, start, end) {
@@ -212,7 +212,7 @@ impl Formatter {
             record_pending: self.record_pending,
             marking: marking_kinds(self.fn_state, self.record_pending),
             prev_minus_is_unary: self.prev_minus_is_unary,
-            tight: tight_behind(kinds::OTHER, self.prev_minus_is_unary),
+            loose: loose_behind(kinds::OTHER, self.prev_minus_is_unary),
         }
     }
 }
@@ -234,7 +234,7 @@ fn marks_behind(marks: Marks, prev: u32, kind: u32) -> Marks
         record_pending,
         marking: marking_kinds(fn_state, record_pending),
         prev_minus_is_unary: unary,
-        tight: tight_behind(kinds::OTHER, unary),
+        loose: loose_behind(kinds::OTHER, unary),
     }
 }
 

@@ -35,7 +35,7 @@ push-leading-requires : tie.Need-push-leading-requires Inv-loop μ-loop
 push-leading-requires c κs = ((c .before .before .before .before .before .before .before .before .before .before .pre .0 .1, small-indent (c .before .before .before .before .before .before .before .before .before .before .args .options) (c .before .before .before .before .before .before .before .before .before .before .pre .1 .0) (c .before .before .before .before .loop .inv) (c .before .before .before .loop-test .taken) (c .before .before .token-at .ensures)), leads (c .before .before .before .before .before .before .before .before .before .before .pre .1 .0) (c .before .before .before .before .loop .inv .going .head) (c .before .before .before .loop-test .taken) (c .before .before .token-at .ensures))
 
 cast-t22 : tie.Need-cast-t22 Inv-loop μ-loop
-cast-t22 c = search needs
+cast-t22 c = record { fits = let a = c .before .before .before .before .before .before .before .before .before .loop .inv .going .index in let b = c .before .before .before .before .before .before .before .before .before .loop .inv .going .head .within in let d = c .before .before .before .before .before .before .before .before .before .before .before .before .before .before .before .pre .1 .0 .few in omega arith }
 
 same-length : tie.Need-same-length Inv-loop μ-loop
 same-length c = lead-size (c .before .before .before .before .before .before .before .before .before .before .before .before .before .before .before .args .options) (c .before .before .before .before .before .before .before .before .before .before .before .before .before .before .before .pre .1 .0) (c .before .before .before .before .before .before .before .before .before .loop .inv) (c .before .before .before .before .before .before .before .before .loop-test .taken) (c .before .before .before .before .before .before .before .token-at .ensures) (c .before .before .before .before .push-leading .ensures)

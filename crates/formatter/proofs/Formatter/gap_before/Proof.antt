@@ -17,8 +17,8 @@ enum-told c = search needs
 enum-known-prev : tie.Need-enum-known-prev
 enum-known-prev c = search needs
 
-tight-behind-requires : tie.Need-tight-behind-requires
-tight-behind-requires c κs = search needs
+loose-behind-requires : tie.Need-loose-behind-requires
+loose-behind-requires c κs = search needs
 
 spaces-between-requires : tie.Need-spaces-between-requires
 spaces-between-requires c κs = (rw (c .before .before .prev .given .1) at (c .before .before .before .before .before .before .pre .1 .0), c .before .before .before .before .before .before .pre .1 .1)
@@ -31,9 +31,9 @@ returns-3 c =
     let a = c .before .before .before .before .before .before .before .args in
     let last = c .before .before .before .prev .given in
     let kinds = c .before .before .before .before .before .before .before .pre .1 in (
-      rw (c .before .before .before .before .before .before .if1 .left, last .1, c .spaces-between .ensures, c .before .tight-behind .ensures)
+      rw (c .before .before .before .before .before .before .if1 .left, last .1, c .spaces-between .ensures, c .before .loose-behind .ensures)
           (spaces-are (last .0 .0) (a .kind) (a .self .«prev_minus_is_unary») (rw (last .1) at (kinds .0)) (kinds .1)),
-      rw (c .spaces-between .ensures) (omega (arith, spaces-few (c .before .tight-behind .result) (last .0 .0) (a .kind))),
+      rw (c .spaces-between .ensures) (omega (arith, spaces-few (c .before .loose-behind .result) (last .0 .0) (a .kind))),
     )
 
 pub gap-before-spec : {M : Type 1} → statement M
@@ -44,7 +44,7 @@ gap-before-spec =
     returns
     enum-told
     enum-known-prev
-    tight-behind-requires
+    loose-behind-requires
     spaces-between-requires
     returns-2
     returns-3)

@@ -27,7 +27,7 @@ kind-of-requires : tie.Need-kind-of-requires Inv-loop μ-loop
 kind-of-requires c κs = search needs
 
 loop-holds : tie.Need-loop-holds Inv-loop μ-loop
-loop-holds c = starts _ (rw (c .kind-of .ensures) (c .before .before .before .before .before .before .before .before .pre .0 .1)) (c .before .before .before .before .before .before .before .before .pre .1 .0 .0) (rw (c .before .marks .ensures) (record { marking = refl; tight = refl })) (c .before .before .before .before .before .before .before .before .pre .1 .1 .0)
+loop-holds c = starts _ (rw (c .kind-of .ensures) (c .before .before .before .before .before .before .before .before .pre .0 .1)) (c .before .before .before .before .before .before .before .before .pre .1 .0 .0) (rw (c .before .marks .ensures) (record { marking = refl; loose = refl })) (c .before .before .before .before .before .before .before .before .pre .1 .1 .0)
 
 row-at-requires : tie.Need-row-at-requires Inv-loop μ-loop
 row-at-requires c κs = whole-row (c .before .before .before .before .before .before .before .before .before .before .pre .1 .0 .1) (c .before .loop .inv .head) (c .loop-test .taken)
@@ -66,7 +66,7 @@ sub-has-room : tie.Need-sub-has-room Inv-loop μ-loop
 sub-has-room c = c .before .before .before .before .before .before .before .before .loop .inv .room
 
 has-room-requires : tie.Need-has-room-requires Inv-loop μ-loop
-has-room-requires c κs = let s = spaces-few (c .before .before .before .before .before .before .before .before .loop .marks .tight) (c .before .before .before .before .before .before .before .before .loop .prev) (c .before .before .before .before .before .before .row-at .result .kind) in let e = c .before .before .spaces-between .ensures in (omega arith, search needs)
+has-room-requires c κs = let s = spaces-few (c .before .before .before .before .before .before .before .before .loop .marks .loose) (c .before .before .before .before .before .before .before .before .loop .prev) (c .before .before .before .before .before .before .row-at .result .kind) in let e = c .before .before .spaces-between .ensures in (omega arith, search needs)
 
 same-length-3 : tie.Need-same-length-3 Inv-loop μ-loop
 same-length-3 c = c .before .before .before .before .before .before .before .before .before .before .loop .inv .size
@@ -75,7 +75,7 @@ returns-3 : tie.Need-returns-3 Inv-loop μ-loop
 returns-3 c = ends (takesOf (c .before .before .before .before .before .before .before .before .before .before .before .before .before .before .before .before .before .before .before .args .self) (c .before .before .before .before .before .before .before .before .before .before .before .before .before .before .before .before .before .before .before .args .stack .now)) (c .before .before .before .before .before .before .before .before .before .before .before .kind-of .ensures) (c .before .before .before .before .before .before .before .before .before .before .before .before .marks .ensures) (c .before .before .before .before .before .before .before .before .before .before .before .before .before .steady-kinds .ensures) (c .before .before .before .before .before .before .before .before .before .before .loop .inv)
 
 put-token-requires : tie.Need-put-token-requires Inv-loop μ-loop
-put-token-requires c κs = let i = lone-inside (c .before .before .before .before .before .before .before .before .before .before .before .before .before .before .before .before .before .before .before .before .pre .1 .0 .1) (c .before .before .before .before .before .before .before .before .before .before .before .loop .inv .head) (c .before .before .before .before .before .before .before .before .before .before .loop-test .taken) (c .before .before .before .before .before .before .before .is-lone .ensures (not-false _ (c .before .before .before .before .before .before .if2 .left))) _ (c .before .before .before .before .before .before .before .before .before .row-at .ensures) in let f = c .before .before .has-room .ensures (not-false _ (c .before .if3 .left)) in let g = f .1 in let r = c .before .before .before .before .before .before .before .before .before .before .before .loop .inv .room in let s = spaces-few (c .before .before .before .before .before .before .before .before .before .before .before .loop .marks .tight) (c .before .before .before .before .before .before .before .before .before .before .before .loop .prev) (c .before .before .before .before .before .before .before .before .before .row-at .result .kind) in let e = c .before .before .before .before .before .spaces-between .ensures in ((f .0, i .within), (omega arith, omega arith))
+put-token-requires c κs = let i = lone-inside (c .before .before .before .before .before .before .before .before .before .before .before .before .before .before .before .before .before .before .before .before .pre .1 .0 .1) (c .before .before .before .before .before .before .before .before .before .before .before .loop .inv .head) (c .before .before .before .before .before .before .before .before .before .before .loop-test .taken) (c .before .before .before .before .before .before .before .is-lone .ensures (not-false _ (c .before .before .before .before .before .before .if2 .left))) _ (c .before .before .before .before .before .before .before .before .before .row-at .ensures) in let f = c .before .before .has-room .ensures (not-false _ (c .before .if3 .left)) in let g = f .1 in let r = c .before .before .before .before .before .before .before .before .before .before .before .loop .inv .room in let s = spaces-few (c .before .before .before .before .before .before .before .before .before .before .before .loop .marks .loose) (c .before .before .before .before .before .before .before .before .before .before .before .loop .prev) (c .before .before .before .before .before .before .before .before .before .row-at .result .kind) in let e = c .before .before .before .before .before .spaces-between .ensures in ((f .0, i .within), (omega arith, omega arith))
 
 marks-behind-requires : tie.Need-marks-behind-requires Inv-loop μ-loop
 marks-behind-requires c κs = (c .before .before .before .before .before .before .before .before .before .before .before .before .before .before .loop .inv .right, row-known (c .before .before .before .before .before .before .before .before .before .before .before .before .before .before .before .before .before .before .before .before .before .before .before .pre .1 .0 .1) (c .before .before .before .before .before .before .before .before .before .before .before .before .before .before .loop .inv .head) (c .before .before .before .before .before .before .before .before .before .before .before .before .before .loop-test .taken) _ (c .before .before .before .before .before .before .before .before .before .before .before .before .row-at .ensures))

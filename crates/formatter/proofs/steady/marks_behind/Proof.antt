@@ -25,11 +25,11 @@ group-depth-behind-requires c κs = search needs
 marking-kinds-requires : tie.Need-marking-kinds-requires
 marking-kinds-requires c κs = search needs
 
-tight-behind-requires : tie.Need-tight-behind-requires
-tight-behind-requires c κs = search needs
+loose-behind-requires : tie.Need-loose-behind-requires
+loose-behind-requires c κs = search needs
 
 returns-2 : tie.Need-returns-2
-returns-2 c = rw (c .tight-behind .ensures, c .before .marking-kinds .ensures, c .before .before .group-depth-behind .ensures, c .before .before .before .minus-is-unary-behind .ensures, c .before .before .before .before .record-pending-behind .ensures, c .before .before .before .before .before .fn-state-behind .ensures)
+returns-2 c = rw (c .loose-behind .ensures, c .before .marking-kinds .ensures, c .before .before .group-depth-behind .ensures, c .before .before .before .minus-is-unary-behind .ensures, c .before .before .before .before .record-pending-behind .ensures, c .before .before .before .before .before .fn-state-behind .ensures)
 
 pub marks-behind-spec : {M : Type 1} → statement M
-marks-behind-spec = tie.close (tie.spec shr-if1 returns fn-state-behind-requires record-pending-behind-requires minus-is-unary-behind-requires group-depth-behind-requires marking-kinds-requires tight-behind-requires returns-2)
+marks-behind-spec = tie.close (tie.spec shr-if1 returns fn-state-behind-requires record-pending-behind-requires minus-is-unary-behind-requires group-depth-behind-requires marking-kinds-requires loose-behind-requires returns-2)

@@ -8,21 +8,15 @@ use Rattle.sink.proofs.space.spaces_between.Tie as tie
 shr-behind : tie.Need-shr-behind
 shr-behind c = search needs
 
-sub-behind : tie.Need-sub-behind
-sub-behind c = search needs
-
 shr-before : tie.Need-shr-before
 shr-before c = search needs
 
-sub-before : tie.Need-sub-before
-sub-before c = search needs
-
 mul-result : tie.Need-mul-result
-mul-result c = fits-below tt (spaces-few (c .args .tight) (c .args .prev) (c .args .kind))
+mul-result c = fits-below tt (spaces-few (c .args .loose) (c .args .prev) (c .args .kind))
 
 returns : tie.Need-returns
 returns c = search needs
 
 pub spaces-between-spec : {M : Type 1} → statement M
 spaces-between-spec =
-    tie.close (tie.spec shr-behind sub-behind shr-before sub-before mul-result returns)
+    tie.close (tie.spec shr-behind shr-before mul-result returns)

@@ -1,7 +1,7 @@
--- `sink::space::tight_kinds` meets its contract. Assumes nothing.
+-- `sink::space::loose_kinds` meets its contract. Assumes nothing.
 use borrow.Author.Tests.{ne-eqb}
-use Rattle.sink.proofs.space.tight_kinds.Statement.{statement}
-use Rattle.sink.proofs.space.tight_kinds.Tie as tie
+use Rattle.sink.proofs.space.loose_kinds.Statement.{statement}
+use Rattle.sink.proofs.space.loose_kinds.Tie as tie
 
 returns : tie.Need-returns
 returns c = rw (c .match .keys1)
@@ -15,5 +15,5 @@ returns-3 c = rw (c .match .keys3)
 returns-4 : tie.Need-returns-4
 returns-4 c = rw (ne-eqb _ _ (c .match .rest .0 .0 .1), ne-eqb _ _ (c .match .rest .0 .1), ne-eqb _ _ (c .match .rest .1))
 
-pub tight-kinds-spec : {M : Type 1} → statement M
-tight-kinds-spec = tie.close (tie.spec returns returns-2 returns-3 returns-4)
+pub loose-kinds-spec : {M : Type 1} → statement M
+loose-kinds-spec = tie.close (tie.spec returns returns-2 returns-3 returns-4)
