@@ -112,22 +112,14 @@ module _ {o : Options} {rows text : List ℕ} {from to : ℕ} {f₀ : Formatter}
         rest = λ s q y. left .rest s q (λ x. rw (first-trivia (left .part) h e) (seq (d s x) (y _)));
       }
 
-  -- at the end; the code takes the mark of a one-line block's `}` before the rows, where there are none
+  -- at the end
   module _ (h : to ≤ at) where
     leads-none : (s : List ℕ) → Done (leadingTrivia o (triviaIn rows text from to)) (on f₀ s out₀) (on f s out)
     unfolding leadingTrivia
     leads-none s = left .rest s (on f s out) (λ x. rw (no-trivia rows text h) stays)
 
-    pub lead-bare : {g : Formatter} → from ≡ to → ((s : List ℕ) → Done (update (takeInlineClose true)) (on g s out₀) (on f₀ s out₀)) → Puts (leadToken o (triviaIn rows text from to)) g out₀ f out
-    unfolding run leadingTrivia
-    lead-bare {g} e u s x =
-        let z = no-trivia rows text {at = from} {to = to} (omega arith) in
-        rw z (same-run refl (seq (u s x) (rw z at (leads-none s (asideOf (takeInlineClose true (formatterOf g s x)))))))
-
-    pub lead-behind : {g : Formatter} → Part rows text from to → (from ≡ to → ⊥) → f₀ ≡ g → Puts (leadToken o (triviaIn rows text from to)) g out₀ f out
-    lead-behind π n e s x =
-        let i : from < to = let a = π .ordered in omega (arith, n) in
-        seq (rw e at (leads-none s x)) (rw (first-trivia π i refl) (updated refl refl nothing))
+    pub lead-behind : Part rows text from to → from < to → Puts (leadToken o (triviaIn rows text from to)) f₀ out₀ f out
+    lead-behind π i s x = seq (leads-none s x) (rw (first-trivia π i refl) (updated refl refl nothing))
 
 -- ---- trailing rows
 

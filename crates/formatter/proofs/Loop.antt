@@ -1,6 +1,6 @@
 -- The loop's invariant, and what the calls of one turn do to it. Assumes nothing.
 use mathlib.Core.Bool.{Bool, true, false, not, _&&_}
-use mathlib.Core.List.{List, map}
+use mathlib.Core.List.{List, [], map}
 use mathlib.Core.Option.{some}
 use mathlib.Core.Path.{_≡_, refl, sym, ap, subst, _∙_}
 use Prim.Native.Nat.{ℕ, zero, suc, _+_, _-_, _*_, _/_, _%_, _≤_, _<_}
@@ -66,6 +66,19 @@ begins o ω φ = record { aside = asideOf definition.new; going = starts o ω φ
 pub data Trailed (tr : List Trivia) (b : Bool) (f : Formatter) (l : List ℕ) (g : Formatter) (m : List ℕ) : Type 0 where
   written : b ≡ true → {r : Formatter} {u : List ℕ} → Puts (trailingTrivia tr) f l r u → g ≡ r → m ≡ u → Trailed tr b f l g m
   left-out : b ≡ false → g ≡ f → m ≡ l → Trailed tr b f l g m
+
+-- the leading trivia: none, and the mark of a one-line block's `}` is taken, or written, and they fit
+pub data Led (o : Options.Options) (rows text : List ℕ) (token : TokenAt) (f : Formatter) (l : List ℕ) (g : Formatter) (m : List ℕ) : Type 0 where
+  unled : token .lead ≡ token .own → {r : Formatter} → ((o : Options.Options) (l : List ℕ) → Puts (leadToken o []) f l r l) → r .len ≡ f .len → g ≡ r → m ≡ l → Led o rows text token f l g m
+  led-by : {r : Formatter} {u : List ℕ} → Puts (leadToken o (triviaIn rows text (token .lead) (token .own))) f l r u → r .len ≤ length u → g ≡ r → m ≡ u → Led o rows text token f l g m
+
+pub led-puts : {o : Options.Options} {rows text : List ℕ} {token : TokenAt} {f : Formatter} {l : List ℕ} {g : Formatter} {m : List ℕ} → Led o rows text token f l g m → Puts (leadToken o (triviaIn rows text (token .lead) (token .own))) f l g m
+led-puts {o} {rows} {text} {token} {l = l} (unled e d n eg em) = rw (eg, em, no-trivia rows text {at = token .lead} {to = token .own} (omega arith)) (d o l)
+led-puts (led-by d z eg em) = rw (eg, em) d
+
+pub led-room : {o : Options.Options} {rows text : List ℕ} {token : TokenAt} {f : Formatter} {l : List ℕ} {g : Formatter} {m : List ℕ} → f .len ≤ length l → Led o rows text token f l g m → g .len ≤ length m
+led-room h (unled e d n eg em) = rw (eg, em, n) h
+led-room h (led-by d z eg em) = rw (eg, em) z
 
 -- the state with another fn state
 abbrev pub withFnState : ℕ → Formatter → Formatter

@@ -48,9 +48,13 @@ impl Formatter {
         while at < rows.len() {
             let token = token_at(rows, at, index, bare);
             let inline_close = self.takes_inline_close(token);
-            self = self.push_leading(options, out, rows, text, token);
-            if out.len() < self.len {
-                return Formatted::Full(index as usize);
+            if token.lead == token.own {
+                self = self.take_inline_close();
+            } else {
+                self = self.push_leading(options, out, rows, text, token);
+                if out.len() < self.len {
+                    return Formatted::Full(index as usize);
+                }
             }
             if self.overflows(options, ends, rows, token) {
                 return Formatted::Deep(index as usize);

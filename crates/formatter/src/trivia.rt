@@ -10,8 +10,10 @@ use sink::comments::write_blank_line;
 use sink::comments::write_lead;
 use sink::comments::write_trail;
 use sink::write::write_spaces;
+ghost use mathlib.Core.List.{List, []};
 ghost use mathlib.Core.Path.{_≡_};
-ghost use Prim.Native.Nat.{_+_, _≤_, _<_};
+ghost use Prim.Native.Nat.{ℕ, _+_, _≤_, _<_};
+ghost use Rattle.rows.specs.Options;
 ghost use Rattle.rows.specs.Bounds.{Inside, rowOf};
 ghost use Rattle.rows.specs.Token.{triviaOf};
 ghost use Rattle.push_token.specs.Emit.{leadAct, trailingTrivia};
@@ -21,7 +23,17 @@ ghost use Rattle.formatter.specs.Does.{Puts};
 ghost use Rattle.formatter.specs.Trivia.{Part, triviaIn, leadToken, trailBytes};
 
 impl Formatter {
-    // Writes the leading rows, and takes the mark of a one-line block's `}`, which stays where trivia was seen.
+    // Takes the mark of a one-line block's `}`, where no trivia was seen.
+    pub fn take_inline_close(mut self) -> Self
+        ensures does { λ r. ⌜ ((o : Rattle.rows.specs.Options.Options) (l : List ℕ)
+            → Puts (leadToken o []) self l r l) ⌝ }
+        ensures len { λ r. ⌜ r .len ≡ self .len ⌝ }
+    {
+        self.just_closed_inline = false;
+        self
+    }
+
+    // Writes the leading rows, of which there is one at least; the mark of a one-line block's `}` stays.
     pub fn push_leading(
         mut self,
         options: Options,
@@ -31,16 +43,13 @@ impl Formatter {
         token: TokenAt,
     ) -> Self
         requires { ⌜ (options .«indent_width» ≤ 16) × (self .indent ≤ 4294967295) ⌝ }
-        requires { ⌜ Part (now rows) (now text) (token .lead) (token .own) ⌝ }
+        requires { ⌜ Part (now rows) (now text) (token .lead) (token .own) × (token .lead < token .own) ⌝ }
         ensures { λ r. ⌜ Puts (leadToken (optionsOf options)
             (triviaIn (now (rows .entry)) (now (text .entry)) (token .lead) (token .own)))
             self (now (out .entry)) r (now (out .exit)) ⌝ }
     {
         let end = token.own;
         let mut at = token.lead;
-        if at == end {
-            self.just_closed_inline = false;
-        }
         while at < end {
             self = self.push_lead(options, out, text, row_at(rows, at));
             at += ROW_BYTES;

@@ -54,6 +54,12 @@ module _ (f : ℕ → Bool) (w : List ℕ) (i : ℕ) (e : runOf f w ≡ all f (d
     pub run-stop : f (getD w i 0) ≡ false → false ≡ runOf f w
     run-stop t = sym (e ∙ rw (here, t))
 
+    gone : length w ≡ i + 1 → drop (i + 1) w ≡ []
+    gone z = drop-of-length-le w {i = i + 1} (omega arith)
+
+    pub run-last : length w ≡ i + 1 → f (getD w i 0) ≡ runOf f w
+    run-last z = sym (e ∙ rw (here, gone z, and-true (f (getD w i 0))))
+
   pub run-out : length w ≤ i → true ≡ runOf f w
   run-out h = sym (e ∙ rw (drop-of-length-le w h))
 

@@ -4,7 +4,7 @@ use pieces::eights;
 use rows::number_at;
 ghost use mathlib.Core.Bool.{true, cond};
 ghost use mathlib.Core.Path.{_≡_};
-ghost use Prim.Native.Nat.{_+_, _-_, _*_, _≤_, min};
+ghost use Prim.Native.Nat.{_+_, _-_, _*_, _≤_, _<_, min};
 ghost use lib.Bits.{bitAnd};
 ghost use lib.Dec.{eqb};
 ghost use lib.ListN.{length, take, drop};
@@ -15,7 +15,7 @@ ghost use Rattle.pieces.specs.Eight.{eightOnes};
 ghost use Rattle.plain.specs.Scan.{isWordByte, runOf};
 ghost use Rattle.plain.specs.Eight.{bytesWithin, lettersIn, wordsIn};
 
-// Whether there are bytes, and all are word bytes. No loop tests a lexeme of one byte, or of four to sixteen.
+// Whether there are bytes, and all are word bytes. No loop tests a lexeme of up to sixteen bytes.
 pub fn is_words(lexeme: &[u8]) -> bool
     ensures { λ r. ⌜ r ≡ runOf isWordByte (now (lexeme .entry)) ⌝ }
 {
@@ -98,21 +98,24 @@ fn is_block_words(lexeme: &[u8]) -> bool
     true
 }
 
-// The same, byte by byte.
+// The same for none, two or three bytes.
 fn is_short_words(lexeme: &[u8]) -> bool
+    requires { ⌜ (length (now lexeme) < 4) × (length (now lexeme) ≡ 1 → ⊥) ⌝ }
     ensures { λ r. ⌜ r ≡ runOf isWordByte (now (lexeme .entry)) ⌝ }
 {
-    if lexeme.len() == 0 {
+    if lexeme.len() < 2 {
         return false;
     }
-    let mut i = 0;
-    while i < lexeme.len() {
-        if !is_word(lexeme[i]) {
-            return false;
-        }
-        i += 1;
+    if !is_word(lexeme[0]) {
+        return false;
     }
-    true
+    if lexeme.len() == 2 {
+        return is_word(lexeme[1]);
+    }
+    if !is_word(lexeme[1]) {
+        return false;
+    }
+    is_word(lexeme[2])
 }
 
 // The smaller of two numbers.

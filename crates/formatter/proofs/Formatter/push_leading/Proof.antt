@@ -1,13 +1,9 @@
 -- `formatter::Formatter::push_leading` meets its contract. Assumes nothing.
-use mathlib.Core.Logic.{⊎-elim}
-use Rattle.formatter.proofs.Comments.{LeadsLeft, lead-bare, lead-behind, leads-behind, leads-whole, row-inside, row-within}
-use Rattle.formatter.proofs.Does.{updated}
+use Rattle.formatter.proofs.Comments.{LeadsLeft, lead-behind, leads-behind, leads-whole, row-inside, row-within}
 use Rattle.formatter.specs.Pen.{optionsOf}
-use Rattle.sink.proofs.Sink.{nothing}
 use borrow.Author.Needs.{needs}
 use native.Mathlib.Omega.{arith}
 use Prim.Native.Nat.{_-_}
-use mathlib.Core.Path.{refl}
 use Rattle.formatter.proofs.Formatter.push_leading.Statement.{statement}
 use Rattle.formatter.proofs.Formatter.push_leading.Tie as tie
 
@@ -18,16 +14,16 @@ abbrev μ-loop : tie.MeasureT-loop
 μ-loop self₀ options out₀ rows text end at₀ self out at = end - at
 
 loop-holds : tie.Need-loop-holds Inv-loop μ-loop
-loop-holds c = leads-whole (c .before .before .before .before .pre .1) (⊎-elim (λ w. rw (w .1) (c .before .before .before .before .pre .0 .1)) (λ w. rw (w .1) (c .before .before .before .before .pre .0 .1)) (c .if1 .came))
+loop-holds c = leads-whole (c .before .before .before .pre .1 .0) (c .before .before .before .pre .0 .1)
 
 row-at-requires : tie.Need-row-at-requires Inv-loop μ-loop
 row-at-requires c κs = row-within (c .before .before .loop .inv .part) (c .before .loop-test .taken)
 
 push-lead-requires : tie.Need-push-lead-requires Inv-loop μ-loop
-push-lead-requires c κs = ((c .before .before .before .before .before .before .before .before .pre .0 .0, c .before .before .before .loop .inv .indent), row-inside (c .before .before .before .loop .inv .part) (c .before .before .loop-test .taken) (c .row-at .ensures))
+push-lead-requires c κs = ((c .before .before .before .before .before .before .before .pre .0 .0, c .before .before .before .loop .inv .indent), row-inside (c .before .before .before .loop .inv .part) (c .before .before .loop-test .taken) (c .row-at .ensures))
 
 add-at : tie.Need-add-at Inv-loop μ-loop
-add-at c = let b = row-within (c .before .before .before .before .before .before .loop .inv .part) (c .before .before .before .before .before .loop-test .taken) in omega (arith, c .before .before .before .before .before .before .before .before .before .before .before .good .1 .1 .1 .0 .0)
+add-at c = let b = row-within (c .before .before .before .before .before .before .loop .inv .part) (c .before .before .before .before .before .loop-test .taken) in omega (arith, c .before .before .before .before .before .before .before .before .before .before .good .1 .1 .1 .0 .0)
 
 loop-less : tie.Need-loop-less Inv-loop μ-loop
 loop-less c = omega arith
@@ -39,7 +35,7 @@ same-length : tie.Need-same-length Inv-loop μ-loop
 same-length c = c .before .loop .inv .size
 
 returns : tie.Need-returns Inv-loop μ-loop
-returns c = ⊎-elim (λ w. lead-bare (c .before .loop .inv) (c .loop-test .left) (w .0 .taken) (λ s x. rw (w .1) (updated refl refl nothing))) (λ w. lead-behind (c .before .loop .inv) (c .loop-test .left) (c .before .before .before .before .before .before .pre .1) (w .0 .left) (w .1)) (c .before .before .if1 .came)
+returns c = lead-behind (c .before .loop .inv) (c .loop-test .left) (c .before .before .before .before .before .pre .1 .0) (c .before .before .before .before .before .pre .1 .1)
 
 pub push-leading-spec : {M : Type 1} → statement M
 push-leading-spec =
