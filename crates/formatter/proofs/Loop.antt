@@ -336,6 +336,10 @@ module _ {rows text : List ℕ} {o : Options.Options} {k₀ l₀ k l : List ℕ}
   last-kind : kindOf (f .prev .kind) ≤ Other
   last-kind = rw (kinds-same (f .prev .kind)) at (ι .going .told .last)
 
+  -- a whole number of rows is left
+  pub rows-left : (at ≤ length rows) × (length rows % 16 ≡ at % 16)
+  rows-left = (ι .going .head .within, let a = ω .whole in let b = ι .going .head .whole in omega arith)
+
   -- the rows up to a later place are few
   pub past-within : {to : ℕ} → to ≡ at + 16 * ((to - at) / 16) → to ≤ length rows → (at ≤ to) × (to ≤ 1048560)
   past-within w h = (omega arith, let b = ω .few in omega arith)

@@ -9,7 +9,7 @@ use rows::row_at;
 ghost use mathlib.Core.Bool.{true};
 ghost use mathlib.Core.List.{[], _∷_};
 ghost use mathlib.Core.Path.{_≡_};
-ghost use Prim.Native.Nat.{_+_, _≤_, _<_};
+ghost use Prim.Native.Nat.{_+_, _%_, _≤_, _<_};
 ghost use lib.ListN.{length, drop};
 ghost use Rattle.rows.specs.Row.{rowsOf};
 ghost use Rattle.sink.specs.Sink.{Writes};
@@ -31,13 +31,13 @@ impl Formatter {
     // Whether braces of a one-line block may come next: outside records, in a line, with nothing pending, and
     // there is no trivia.
     pub fn is_nested(self, bare: bool, rows: &[u8], at: usize) -> bool
-        requires { ⌜ at ≤ length (now rows) ⌝ }
+        requires { ⌜ (at ≤ length (now rows)) × (length (now rows) % 16 ≡ at % 16) ⌝ }
         ensures { λ r. ⌜ (r ≡ true → MayNest self bare) ⌝ }
     {
         if !self.in_one_line_block() {
             return false;
         }
-        if rows.len() - at < ROW_BYTES {
+        if rows.len() <= at {
             return false;
         }
         let row = row_at(rows, at);

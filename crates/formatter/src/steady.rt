@@ -15,7 +15,7 @@ use sink::space::spaces_between;
 ghost use mathlib.Core.Bool.{Bool, true, cond, not, _&&_};
 ghost use mathlib.Core.List.{List};
 ghost use mathlib.Core.Path.{_≡_};
-ghost use Prim.Native.Nat.{ℕ, _+_, _-_, _/_, _*_, _≤_, _<_};
+ghost use Prim.Native.Nat.{ℕ, _+_, _-_, _/_, _*_, _%_, _≤_, _<_};
 ghost use lib.Dec.{eqb};
 ghost use lib.ListN.{length, drop};
 ghost use Rattle.rows.specs.Kinds.{Other};
@@ -69,10 +69,10 @@ impl Formatter {
     // Whether the tokens from the row at `at` on may only write their lexemes: in a line, behind no `}` of a one-line
     // block. Braces, openers, Newline, Eof and trivia never do.
     pub fn is_steady(self, rows: &[u8], at: usize) -> bool
-        requires { ⌜ at ≤ length (now rows) ⌝ }
+        requires { ⌜ (at ≤ length (now rows)) × (length (now rows) % 16 ≡ at % 16) ⌝ }
         ensures { λ r. ⌜ (r ≡ true → MayBegin self) ⌝ }
     {
-        if rows.len() - at < ROW_BYTES {
+        if rows.len() <= at {
             return false;
         }
         let row = row_at(rows, at);

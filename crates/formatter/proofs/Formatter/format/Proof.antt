@@ -1,5 +1,5 @@
 -- `formatter::Formatter::format` meets its contract. Assumes nothing.
-use Rattle.formatter.proofs.Loop.{Loop, Led, unled, led-by, led-puts, led-room, Calls, written, left-out, begins, small-indent, its-rows, lead-size, full-lead, ready, stack-room, deep-at, turn-size, full-turn, next-bounds, next-there-too, placed, further, past-within, past-few, steady-room, steadied, nested-place, nested-rows, nested-on}
+use Rattle.formatter.proofs.Loop.{Loop, Led, unled, led-by, led-puts, led-room, Calls, written, left-out, begins, small-indent, its-rows, lead-size, full-lead, ready, stack-room, deep-at, turn-size, full-turn, next-bounds, next-there-too, placed, further, rows-left, past-within, past-few, steady-room, steadied, nested-place, nested-rows, nested-on}
 use Rattle.formatter.proofs.Going.{laid-stopped, laid-done}
 use Rattle.formatter.proofs.Place.{ahead, leads, next-token, trails}
 use Rattle.formatter.specs.Pen.{on, optionsOf}
@@ -92,7 +92,7 @@ next-place-requires : tie.Need-next-place-requires Inv-loop μ-loop
 next-place-requires c κs = let ν : Led (optionsOf (c .before .before .before .before .before .before .before .before .before .before .before .before .before .before .before .before .before .before .before .before .before .before .before .before .before .before .args .options)) (c .before .before .before .before .before .before .before .before .before .before .before .before .before .before .before .before .before .before .before .before .before .before .before .before .before .before .args .rows .now) (c .before .before .before .before .before .before .before .before .before .before .before .before .before .before .before .before .before .before .before .before .before .before .before .before .before .before .args .text .now) (c .before .before .before .before .before .before .before .before .before .before .before .before .before .before .before .before .before .before .token-at .result) (c .before .before .before .before .before .before .before .before .before .before .before .before .before .before .before .before .before .before .before .before .loop .self) (c .before .before .before .before .before .before .before .before .before .before .before .before .before .before .before .before .before .before .before .before .loop .out) (c .before .before .before .before .before .before .before .before .before .before .before .before .before .before .before .if1 .self) (c .before .before .before .before .before .before .before .before .before .before .before .before .before .before .before .if1 .out) = ⊎-elim (λ w. unled (w .0 .taken) (w .1 .ensures .0) (w .1 .ensures .1) (w .2) (w .3)) (λ w. led-by (w .2 .ensures) (w .6 .left) (w .7) (w .8)) (c .before .before .before .before .before .before .before .before .before .before .before .before .before .before .before .if1 .came) in let κ : Calls _ _ _ _ _ _ _ _ _ _ _ _ _ _ _ _ _ = record { overflow = c .before .before .before .before .before .before .before .before .before .before .before .before .before .before .overflows .ensures _ _; calm = c .before .before .before .before .before .before .before .before .before .before .before .before .before .if3 .left; taken = c .before .before .before .before .before .before .before .before .before .before .before .before .before .before .before .before .before .takes-inline-close .ensures; trailing = c .before .before .before .before .before .before .before .before .before .before .before .writes-trailing .ensures _; arms = c .before .before .before .before .before .before .before .before .push-token .ensures; trailed = ⊎-elim (λ w. written (w .0 .taken) (w .2 .ensures) (w .5) (w .6)) (λ w. left-out (w .0 .left) (w .1) (w .2)) (c .before .before .before .if4 .came); tracked = c .before .before .track-fn-state .ensures } in (next-bounds (c .before .before .before .before .before .before .before .before .before .before .before .before .before .before .before .before .before .before .before .before .before .before .before .before .before .before .args .options) (c .before .before .before .before .before .before .before .before .before .before .before .before .before .before .before .before .before .before .before .before .before .before .before .before .before .before .pre .1 .0) (c .before .before .before .before .before .before .before .before .before .before .before .before .before .before .before .before .before .before .before .before .loop .inv) (c .before .before .before .before .before .before .before .before .before .before .before .before .before .before .before .before .before .before .before .loop-test .taken) (c .before .before .before .before .before .before .before .before .before .before .before .before .before .before .before .before .before .before .token-at .ensures) (led-puts ν) (led-room (c .before .before .before .before .before .before .before .before .before .before .before .before .before .before .before .before .before .before .before .before .loop .inv .going .room) ν) κ (c .if5 .left) (c .before .before .before .before .before .stack .given), next-there-too (c .before .before .before .before .before .before .before .before .before .before .before .before .before .before .before .before .before .before .before .before .before .before .before .before .before .before .args .options) (c .before .before .before .before .before .before .before .before .before .before .before .before .before .before .before .before .before .before .before .before .before .before .before .before .before .before .pre .1 .0) (c .before .before .before .before .before .before .before .before .before .before .before .before .before .before .before .before .before .before .before .before .loop .inv) (c .before .before .before .before .before .before .before .before .before .before .before .before .before .before .before .before .before .before .before .loop-test .taken) (c .before .before .before .before .before .before .before .before .before .before .before .before .before .before .before .before .before .before .token-at .ensures) (led-puts ν) (led-room (c .before .before .before .before .before .before .before .before .before .before .before .before .before .before .before .before .before .before .before .before .loop .inv .going .room) ν) κ (c .if5 .left) (c .before .before .before .before .before .stack .given) (c .before .before .before .before .before .before .before .before .before .before .before .before .before .before .before .before .before .before .before .before .before .before .before .before .before .before .pre .1 .1))
 
 is-steady-requires : tie.Need-is-steady-requires Inv-loop μ-loop
-is-steady-requires c κs = let ν : Led (optionsOf (c .before .before .before .before .before .before .before .before .before .before .before .before .before .before .before .before .before .before .before .before .before .before .before .before .before .before .before .args .options)) (c .before .before .before .before .before .before .before .before .before .before .before .before .before .before .before .before .before .before .before .before .before .before .before .before .before .before .before .args .rows .now) (c .before .before .before .before .before .before .before .before .before .before .before .before .before .before .before .before .before .before .before .before .before .before .before .before .before .before .before .args .text .now) (c .before .before .before .before .before .before .before .before .before .before .before .before .before .before .before .before .before .before .before .token-at .result) (c .before .before .before .before .before .before .before .before .before .before .before .before .before .before .before .before .before .before .before .before .before .loop .self) (c .before .before .before .before .before .before .before .before .before .before .before .before .before .before .before .before .before .before .before .before .before .loop .out) (c .before .before .before .before .before .before .before .before .before .before .before .before .before .before .before .before .if1 .self) (c .before .before .before .before .before .before .before .before .before .before .before .before .before .before .before .before .if1 .out) = ⊎-elim (λ w. unled (w .0 .taken) (w .1 .ensures .0) (w .1 .ensures .1) (w .2) (w .3)) (λ w. led-by (w .2 .ensures) (w .6 .left) (w .7) (w .8)) (c .before .before .before .before .before .before .before .before .before .before .before .before .before .before .before .before .if1 .came) in let κ : Calls _ _ _ _ _ _ _ _ _ _ _ _ _ _ _ _ _ = record { overflow = c .before .before .before .before .before .before .before .before .before .before .before .before .before .before .before .overflows .ensures _ _; calm = c .before .before .before .before .before .before .before .before .before .before .before .before .before .before .if3 .left; taken = c .before .before .before .before .before .before .before .before .before .before .before .before .before .before .before .before .before .before .takes-inline-close .ensures; trailing = c .before .before .before .before .before .before .before .before .before .before .before .before .writes-trailing .ensures _; arms = c .before .before .before .before .before .before .before .before .before .push-token .ensures; trailed = ⊎-elim (λ w. written (w .0 .taken) (w .2 .ensures) (w .5) (w .6)) (λ w. left-out (w .0 .left) (w .1) (w .2)) (c .before .before .before .before .if4 .came); tracked = c .before .before .before .track-fn-state .ensures } in let ι = placed (c .before .before .before .before .before .before .before .before .before .before .before .before .before .before .before .before .before .before .before .before .before .before .before .before .before .before .before .args .options) (c .before .before .before .before .before .before .before .before .before .before .before .before .before .before .before .before .before .before .before .before .before .before .before .before .before .before .before .pre .1 .0) (c .before .before .before .before .before .before .before .before .before .before .before .before .before .before .before .before .before .before .before .before .before .loop .inv) (c .before .before .before .before .before .before .before .before .before .before .before .before .before .before .before .before .before .before .before .before .loop-test .taken) (c .before .before .before .before .before .before .before .before .before .before .before .before .before .before .before .before .before .before .before .token-at .ensures) (led-puts ν) (led-room (c .before .before .before .before .before .before .before .before .before .before .before .before .before .before .before .before .before .before .before .before .before .loop .inv .going .room) ν) κ (c .before .if5 .left) (c .before .before .before .before .before .before .stack .given) (c .next-place .ensures) in ι .going .head .within
+is-steady-requires c κs = let ν : Led (optionsOf (c .before .before .before .before .before .before .before .before .before .before .before .before .before .before .before .before .before .before .before .before .before .before .before .before .before .before .before .args .options)) (c .before .before .before .before .before .before .before .before .before .before .before .before .before .before .before .before .before .before .before .before .before .before .before .before .before .before .before .args .rows .now) (c .before .before .before .before .before .before .before .before .before .before .before .before .before .before .before .before .before .before .before .before .before .before .before .before .before .before .before .args .text .now) (c .before .before .before .before .before .before .before .before .before .before .before .before .before .before .before .before .before .before .before .token-at .result) (c .before .before .before .before .before .before .before .before .before .before .before .before .before .before .before .before .before .before .before .before .before .loop .self) (c .before .before .before .before .before .before .before .before .before .before .before .before .before .before .before .before .before .before .before .before .before .loop .out) (c .before .before .before .before .before .before .before .before .before .before .before .before .before .before .before .before .if1 .self) (c .before .before .before .before .before .before .before .before .before .before .before .before .before .before .before .before .if1 .out) = ⊎-elim (λ w. unled (w .0 .taken) (w .1 .ensures .0) (w .1 .ensures .1) (w .2) (w .3)) (λ w. led-by (w .2 .ensures) (w .6 .left) (w .7) (w .8)) (c .before .before .before .before .before .before .before .before .before .before .before .before .before .before .before .before .if1 .came) in let κ : Calls _ _ _ _ _ _ _ _ _ _ _ _ _ _ _ _ _ = record { overflow = c .before .before .before .before .before .before .before .before .before .before .before .before .before .before .before .overflows .ensures _ _; calm = c .before .before .before .before .before .before .before .before .before .before .before .before .before .before .if3 .left; taken = c .before .before .before .before .before .before .before .before .before .before .before .before .before .before .before .before .before .before .takes-inline-close .ensures; trailing = c .before .before .before .before .before .before .before .before .before .before .before .before .writes-trailing .ensures _; arms = c .before .before .before .before .before .before .before .before .before .push-token .ensures; trailed = ⊎-elim (λ w. written (w .0 .taken) (w .2 .ensures) (w .5) (w .6)) (λ w. left-out (w .0 .left) (w .1) (w .2)) (c .before .before .before .before .if4 .came); tracked = c .before .before .before .track-fn-state .ensures } in let ι = placed (c .before .before .before .before .before .before .before .before .before .before .before .before .before .before .before .before .before .before .before .before .before .before .before .before .before .before .before .args .options) (c .before .before .before .before .before .before .before .before .before .before .before .before .before .before .before .before .before .before .before .before .before .before .before .before .before .before .before .pre .1 .0) (c .before .before .before .before .before .before .before .before .before .before .before .before .before .before .before .before .before .before .before .before .before .loop .inv) (c .before .before .before .before .before .before .before .before .before .before .before .before .before .before .before .before .before .before .before .before .loop-test .taken) (c .before .before .before .before .before .before .before .before .before .before .before .before .before .before .before .before .before .before .before .token-at .ensures) (led-puts ν) (led-room (c .before .before .before .before .before .before .before .before .before .before .before .before .before .before .before .before .before .before .before .before .before .loop .inv .going .room) ν) κ (c .before .if5 .left) (c .before .before .before .before .before .before .stack .given) (c .next-place .ensures) in rows-left (c .before .before .before .before .before .before .before .before .before .before .before .before .before .before .before .before .before .before .before .before .before .before .before .before .before .before .before .pre .1 .0) ι (c .before .before .before .before .before .before .before .before .before .before .before .before .before .before .before .before .before .before .before .before .before .before .before .before .before .before .before .pre .1 .1)
 
 push-steady-requires : tie.Need-push-steady-requires Inv-loop μ-loop
 push-steady-requires c κs = let ν : Led (optionsOf (c .before .before .before .before .before .before .before .before .before .before .before .before .before .before .before .before .before .before .before .before .before .before .before .before .before .before .before .before .before .before .before .args .options)) (c .before .before .before .before .before .before .before .before .before .before .before .before .before .before .before .before .before .before .before .before .before .before .before .before .before .before .before .before .before .before .before .args .rows .now) (c .before .before .before .before .before .before .before .before .before .before .before .before .before .before .before .before .before .before .before .before .before .before .before .before .before .before .before .before .before .before .before .args .text .now) (c .before .before .before .before .before .before .before .before .before .before .before .before .before .before .before .before .before .before .before .before .before .before .before .token-at .result) (c .before .before .before .before .before .before .before .before .before .before .before .before .before .before .before .before .before .before .before .before .before .before .before .before .before .loop .self) (c .before .before .before .before .before .before .before .before .before .before .before .before .before .before .before .before .before .before .before .before .before .before .before .before .before .loop .out) (c .before .before .before .before .before .before .before .before .before .before .before .before .before .before .before .before .before .before .before .before .if1 .self) (c .before .before .before .before .before .before .before .before .before .before .before .before .before .before .before .before .before .before .before .before .if1 .out) = ⊎-elim (λ w. unled (w .0 .taken) (w .1 .ensures .0) (w .1 .ensures .1) (w .2) (w .3)) (λ w. led-by (w .2 .ensures) (w .6 .left) (w .7) (w .8)) (c .before .before .before .before .before .before .before .before .before .before .before .before .before .before .before .before .before .before .before .before .if1 .came) in let κ : Calls _ _ _ _ _ _ _ _ _ _ _ _ _ _ _ _ _ = record { overflow = c .before .before .before .before .before .before .before .before .before .before .before .before .before .before .before .before .before .before .before .overflows .ensures _ _; calm = c .before .before .before .before .before .before .before .before .before .before .before .before .before .before .before .before .before .before .if3 .left; taken = c .before .before .before .before .before .before .before .before .before .before .before .before .before .before .before .before .before .before .before .before .before .before .takes-inline-close .ensures; trailing = c .before .before .before .before .before .before .before .before .before .before .before .before .before .before .before .before .writes-trailing .ensures _; arms = c .before .before .before .before .before .before .before .before .before .before .before .before .before .push-token .ensures; trailed = ⊎-elim (λ w. written (w .0 .taken) (w .2 .ensures) (w .5) (w .6)) (λ w. left-out (w .0 .left) (w .1) (w .2)) (c .before .before .before .before .before .before .before .before .if4 .came); tracked = c .before .before .before .before .before .before .before .track-fn-state .ensures } in let ι = placed (c .before .before .before .before .before .before .before .before .before .before .before .before .before .before .before .before .before .before .before .before .before .before .before .before .before .before .before .before .before .before .before .args .options) (c .before .before .before .before .before .before .before .before .before .before .before .before .before .before .before .before .before .before .before .before .before .before .before .before .before .before .before .before .before .before .before .pre .1 .0) (c .before .before .before .before .before .before .before .before .before .before .before .before .before .before .before .before .before .before .before .before .before .before .before .before .before .loop .inv) (c .before .before .before .before .before .before .before .before .before .before .before .before .before .before .before .before .before .before .before .before .before .before .before .before .loop-test .taken) (c .before .before .before .before .before .before .before .before .before .before .before .before .before .before .before .before .before .before .before .before .before .before .before .token-at .ensures) (led-puts ν) (led-room (c .before .before .before .before .before .before .before .before .before .before .before .before .before .before .before .before .before .before .before .before .before .before .before .before .before .loop .inv .going .room) ν) κ (c .before .before .before .before .before .if5 .left) (c .before .before .before .before .before .before .before .before .before .before .stack .given) (c .before .before .before .before .next-place .ensures) in (steady-room (c .before .before .before .before .before .before .before .before .before .before .before .before .before .before .before .before .before .before .before .before .before .before .before .before .before .before .before .before .before .before .before .pre .1 .0) ι (c .before .before .before .before .before .before .before .before .before .before .before .before .before .before .before .before .before .before .before .before .before .before .before .before .before .before .before .before .before .before .before .pre .1 .1) (c .before .before .before .is-steady .ensures (c .before .before .if6 .taken)), ((ι .going .room, (c .before .before .before .before .before .before .before .before .before .before .before .before .before .before .before .before .before .before .before .before .before .before .before .before .before .before .before .before .before .before .before .pre .1 .0)), (ι .going .head, (c .before .before .before .before .before .before .before .before .before .before .before .before .before .before .before .before .before .before .before .before .before .before .before .before .before .before .before .before .before .before .before .pre .1 .1))))
@@ -113,7 +113,7 @@ loop-again : tie.Need-loop-again Inv-loop μ-loop
 loop-again c = let ν : Led (optionsOf (c .before .before .before .before .before .before .before .before .before .before .before .before .before .before .before .before .before .before .before .before .before .before .before .before .before .before .before .before .before .before .before .before .before .before .before .before .args .options)) (c .before .before .before .before .before .before .before .before .before .before .before .before .before .before .before .before .before .before .before .before .before .before .before .before .before .before .before .before .before .before .before .before .before .before .before .before .args .rows .now) (c .before .before .before .before .before .before .before .before .before .before .before .before .before .before .before .before .before .before .before .before .before .before .before .before .before .before .before .before .before .before .before .before .before .before .before .before .args .text .now) (c .before .before .before .before .before .before .before .before .before .before .before .before .before .before .before .before .before .before .before .before .before .before .before .before .before .before .before .before .token-at .result) (c .before .before .before .before .before .before .before .before .before .before .before .before .before .before .before .before .before .before .before .before .before .before .before .before .before .before .before .before .before .before .loop .self) (c .before .before .before .before .before .before .before .before .before .before .before .before .before .before .before .before .before .before .before .before .before .before .before .before .before .before .before .before .before .before .loop .out) (c .before .before .before .before .before .before .before .before .before .before .before .before .before .before .before .before .before .before .before .before .before .before .before .before .before .if1 .self) (c .before .before .before .before .before .before .before .before .before .before .before .before .before .before .before .before .before .before .before .before .before .before .before .before .before .if1 .out) = ⊎-elim (λ w. unled (w .0 .taken) (w .1 .ensures .0) (w .1 .ensures .1) (w .2) (w .3)) (λ w. led-by (w .2 .ensures) (w .6 .left) (w .7) (w .8)) (c .before .before .before .before .before .before .before .before .before .before .before .before .before .before .before .before .before .before .before .before .before .before .before .before .before .if1 .came) in let κ : Calls _ _ _ _ _ _ _ _ _ _ _ _ _ _ _ _ _ = record { overflow = c .before .before .before .before .before .before .before .before .before .before .before .before .before .before .before .before .before .before .before .before .before .before .before .before .overflows .ensures _ _; calm = c .before .before .before .before .before .before .before .before .before .before .before .before .before .before .before .before .before .before .before .before .before .before .before .if3 .left; taken = c .before .before .before .before .before .before .before .before .before .before .before .before .before .before .before .before .before .before .before .before .before .before .before .before .before .before .before .takes-inline-close .ensures; trailing = c .before .before .before .before .before .before .before .before .before .before .before .before .before .before .before .before .before .before .before .before .before .writes-trailing .ensures _; arms = c .before .before .before .before .before .before .before .before .before .before .before .before .before .before .before .before .before .before .push-token .ensures; trailed = ⊎-elim (λ w. written (w .0 .taken) (w .2 .ensures) (w .5) (w .6)) (λ w. left-out (w .0 .left) (w .1) (w .2)) (c .before .before .before .before .before .before .before .before .before .before .before .before .before .if4 .came); tracked = c .before .before .before .before .before .before .before .before .before .before .before .before .track-fn-state .ensures } in let ι = placed (c .before .before .before .before .before .before .before .before .before .before .before .before .before .before .before .before .before .before .before .before .before .before .before .before .before .before .before .before .before .before .before .before .before .before .before .before .args .options) (c .before .before .before .before .before .before .before .before .before .before .before .before .before .before .before .before .before .before .before .before .before .before .before .before .before .before .before .before .before .before .before .before .before .before .before .before .pre .1 .0) (c .before .before .before .before .before .before .before .before .before .before .before .before .before .before .before .before .before .before .before .before .before .before .before .before .before .before .before .before .before .before .loop .inv) (c .before .before .before .before .before .before .before .before .before .before .before .before .before .before .before .before .before .before .before .before .before .before .before .before .before .before .before .before .before .loop-test .taken) (c .before .before .before .before .before .before .before .before .before .before .before .before .before .before .before .before .before .before .before .before .before .before .before .before .before .before .before .before .token-at .ensures) (led-puts ν) (led-room (c .before .before .before .before .before .before .before .before .before .before .before .before .before .before .before .before .before .before .before .before .before .before .before .before .before .before .before .before .before .before .loop .inv .going .room) ν) κ (c .before .before .before .before .before .before .before .before .before .before .if5 .left) (c .before .before .before .before .before .before .before .before .before .before .before .before .before .before .before .stack .given) (c .before .before .before .before .before .before .before .before .before .next-place .ensures) in rw (c .rows-between .ensures) (steadied (c .before .before .before .before .before .before .before .before .before .before .before .before .before .before .before .before .before .before .before .before .before .before .before .before .before .before .before .before .before .before .before .before .before .before .before .before .pre .1 .0) ι (c .before .before .before .before .before .before .before .before .before .before .before .before .before .before .before .before .before .before .before .before .before .before .before .before .before .before .before .before .before .before .before .before .before .before .before .before .pre .1 .1) (c .before .before .before .before .before .before .before .before .is-steady .ensures (c .before .before .before .before .before .before .before .if6 .taken)) (c .before .before .before .before .push-steady .ensures) (c .before .behind-steady .ensures))
 
 is-nested-requires : tie.Need-is-nested-requires Inv-loop μ-loop
-is-nested-requires c κs = let ν : Led (optionsOf (c .before .before .before .before .before .before .before .before .before .before .before .before .before .before .before .before .before .before .before .before .before .before .before .before .before .before .before .before .before .args .options)) (c .before .before .before .before .before .before .before .before .before .before .before .before .before .before .before .before .before .before .before .before .before .before .before .before .before .before .before .before .before .args .rows .now) (c .before .before .before .before .before .before .before .before .before .before .before .before .before .before .before .before .before .before .before .before .before .before .before .before .before .before .before .before .before .args .text .now) (c .before .before .before .before .before .before .before .before .before .before .before .before .before .before .before .before .before .before .before .before .before .token-at .result) (c .before .before .before .before .before .before .before .before .before .before .before .before .before .before .before .before .before .before .before .before .before .before .before .loop .self) (c .before .before .before .before .before .before .before .before .before .before .before .before .before .before .before .before .before .before .before .before .before .before .before .loop .out) (c .before .before .before .before .before .before .before .before .before .before .before .before .before .before .before .before .before .before .if1 .self) (c .before .before .before .before .before .before .before .before .before .before .before .before .before .before .before .before .before .before .if1 .out) = ⊎-elim (λ w. unled (w .0 .taken) (w .1 .ensures .0) (w .1 .ensures .1) (w .2) (w .3)) (λ w. led-by (w .2 .ensures) (w .6 .left) (w .7) (w .8)) (c .before .before .before .before .before .before .before .before .before .before .before .before .before .before .before .before .before .before .if1 .came) in let κ : Calls _ _ _ _ _ _ _ _ _ _ _ _ _ _ _ _ _ = record { overflow = c .before .before .before .before .before .before .before .before .before .before .before .before .before .before .before .before .before .overflows .ensures _ _; calm = c .before .before .before .before .before .before .before .before .before .before .before .before .before .before .before .before .if3 .left; taken = c .before .before .before .before .before .before .before .before .before .before .before .before .before .before .before .before .before .before .before .before .takes-inline-close .ensures; trailing = c .before .before .before .before .before .before .before .before .before .before .before .before .before .before .writes-trailing .ensures _; arms = c .before .before .before .before .before .before .before .before .before .before .before .push-token .ensures; trailed = ⊎-elim (λ w. written (w .0 .taken) (w .2 .ensures) (w .5) (w .6)) (λ w. left-out (w .0 .left) (w .1) (w .2)) (c .before .before .before .before .before .before .if4 .came); tracked = c .before .before .before .before .before .track-fn-state .ensures } in let ι = placed (c .before .before .before .before .before .before .before .before .before .before .before .before .before .before .before .before .before .before .before .before .before .before .before .before .before .before .before .before .before .args .options) (c .before .before .before .before .before .before .before .before .before .before .before .before .before .before .before .before .before .before .before .before .before .before .before .before .before .before .before .before .before .pre .1 .0) (c .before .before .before .before .before .before .before .before .before .before .before .before .before .before .before .before .before .before .before .before .before .before .before .loop .inv) (c .before .before .before .before .before .before .before .before .before .before .before .before .before .before .before .before .before .before .before .before .before .before .loop-test .taken) (c .before .before .before .before .before .before .before .before .before .before .before .before .before .before .before .before .before .before .before .before .before .token-at .ensures) (led-puts ν) (led-room (c .before .before .before .before .before .before .before .before .before .before .before .before .before .before .before .before .before .before .before .before .before .before .before .loop .inv .going .room) ν) κ (c .before .before .before .if5 .left) (c .before .before .before .before .before .before .before .before .stack .given) (c .before .before .next-place .ensures) in ι .going .head .within
+is-nested-requires c κs = let ν : Led (optionsOf (c .before .before .before .before .before .before .before .before .before .before .before .before .before .before .before .before .before .before .before .before .before .before .before .before .before .before .before .before .before .args .options)) (c .before .before .before .before .before .before .before .before .before .before .before .before .before .before .before .before .before .before .before .before .before .before .before .before .before .before .before .before .before .args .rows .now) (c .before .before .before .before .before .before .before .before .before .before .before .before .before .before .before .before .before .before .before .before .before .before .before .before .before .before .before .before .before .args .text .now) (c .before .before .before .before .before .before .before .before .before .before .before .before .before .before .before .before .before .before .before .before .before .token-at .result) (c .before .before .before .before .before .before .before .before .before .before .before .before .before .before .before .before .before .before .before .before .before .before .before .loop .self) (c .before .before .before .before .before .before .before .before .before .before .before .before .before .before .before .before .before .before .before .before .before .before .before .loop .out) (c .before .before .before .before .before .before .before .before .before .before .before .before .before .before .before .before .before .before .if1 .self) (c .before .before .before .before .before .before .before .before .before .before .before .before .before .before .before .before .before .before .if1 .out) = ⊎-elim (λ w. unled (w .0 .taken) (w .1 .ensures .0) (w .1 .ensures .1) (w .2) (w .3)) (λ w. led-by (w .2 .ensures) (w .6 .left) (w .7) (w .8)) (c .before .before .before .before .before .before .before .before .before .before .before .before .before .before .before .before .before .before .if1 .came) in let κ : Calls _ _ _ _ _ _ _ _ _ _ _ _ _ _ _ _ _ = record { overflow = c .before .before .before .before .before .before .before .before .before .before .before .before .before .before .before .before .before .overflows .ensures _ _; calm = c .before .before .before .before .before .before .before .before .before .before .before .before .before .before .before .before .if3 .left; taken = c .before .before .before .before .before .before .before .before .before .before .before .before .before .before .before .before .before .before .before .before .takes-inline-close .ensures; trailing = c .before .before .before .before .before .before .before .before .before .before .before .before .before .before .writes-trailing .ensures _; arms = c .before .before .before .before .before .before .before .before .before .before .before .push-token .ensures; trailed = ⊎-elim (λ w. written (w .0 .taken) (w .2 .ensures) (w .5) (w .6)) (λ w. left-out (w .0 .left) (w .1) (w .2)) (c .before .before .before .before .before .before .if4 .came); tracked = c .before .before .before .before .before .track-fn-state .ensures } in let ι = placed (c .before .before .before .before .before .before .before .before .before .before .before .before .before .before .before .before .before .before .before .before .before .before .before .before .before .before .before .before .before .args .options) (c .before .before .before .before .before .before .before .before .before .before .before .before .before .before .before .before .before .before .before .before .before .before .before .before .before .before .before .before .before .pre .1 .0) (c .before .before .before .before .before .before .before .before .before .before .before .before .before .before .before .before .before .before .before .before .before .before .before .loop .inv) (c .before .before .before .before .before .before .before .before .before .before .before .before .before .before .before .before .before .before .before .before .before .before .loop-test .taken) (c .before .before .before .before .before .before .before .before .before .before .before .before .before .before .before .before .before .before .before .before .before .token-at .ensures) (led-puts ν) (led-room (c .before .before .before .before .before .before .before .before .before .before .before .before .before .before .before .before .before .before .before .before .before .before .before .loop .inv .going .room) ν) κ (c .before .before .before .if5 .left) (c .before .before .before .before .before .before .before .before .stack .given) (c .before .before .next-place .ensures) in rows-left (c .before .before .before .before .before .before .before .before .before .before .before .before .before .before .before .before .before .before .before .before .before .before .before .before .before .before .before .before .before .pre .1 .0) ι (c .before .before .before .before .before .before .before .before .before .before .before .before .before .before .before .before .before .before .before .before .before .before .before .before .before .before .before .before .before .pre .1 .1)
 
 push-nested-requires : tie.Need-push-nested-requires Inv-loop μ-loop
 push-nested-requires c κs = let ν : Led (optionsOf (c .before .before .before .before .before .before .before .before .before .before .before .before .before .before .before .before .before .before .before .before .before .before .before .before .before .before .before .before .before .before .before .before .args .options)) (c .before .before .before .before .before .before .before .before .before .before .before .before .before .before .before .before .before .before .before .before .before .before .before .before .before .before .before .before .before .before .before .before .args .rows .now) (c .before .before .before .before .before .before .before .before .before .before .before .before .before .before .before .before .before .before .before .before .before .before .before .before .before .before .before .before .before .before .before .before .args .text .now) (c .before .before .before .before .before .before .before .before .before .before .before .before .before .before .before .before .before .before .before .before .before .before .before .before .token-at .result) (c .before .before .before .before .before .before .before .before .before .before .before .before .before .before .before .before .before .before .before .before .before .before .before .before .before .before .loop .self) (c .before .before .before .before .before .before .before .before .before .before .before .before .before .before .before .before .before .before .before .before .before .before .before .before .before .before .loop .out) (c .before .before .before .before .before .before .before .before .before .before .before .before .before .before .before .before .before .before .before .before .before .if1 .self) (c .before .before .before .before .before .before .before .before .before .before .before .before .before .before .before .before .before .before .before .before .before .if1 .out) = ⊎-elim (λ w. unled (w .0 .taken) (w .1 .ensures .0) (w .1 .ensures .1) (w .2) (w .3)) (λ w. led-by (w .2 .ensures) (w .6 .left) (w .7) (w .8)) (c .before .before .before .before .before .before .before .before .before .before .before .before .before .before .before .before .before .before .before .before .before .if1 .came) in let κ : Calls _ _ _ _ _ _ _ _ _ _ _ _ _ _ _ _ _ = record { overflow = c .before .before .before .before .before .before .before .before .before .before .before .before .before .before .before .before .before .before .before .before .overflows .ensures _ _; calm = c .before .before .before .before .before .before .before .before .before .before .before .before .before .before .before .before .before .before .before .if3 .left; taken = c .before .before .before .before .before .before .before .before .before .before .before .before .before .before .before .before .before .before .before .before .before .before .before .takes-inline-close .ensures; trailing = c .before .before .before .before .before .before .before .before .before .before .before .before .before .before .before .before .before .writes-trailing .ensures _; arms = c .before .before .before .before .before .before .before .before .before .before .before .before .before .before .push-token .ensures; trailed = ⊎-elim (λ w. written (w .0 .taken) (w .2 .ensures) (w .5) (w .6)) (λ w. left-out (w .0 .left) (w .1) (w .2)) (c .before .before .before .before .before .before .before .before .before .if4 .came); tracked = c .before .before .before .before .before .before .before .before .track-fn-state .ensures } in let ι = placed (c .before .before .before .before .before .before .before .before .before .before .before .before .before .before .before .before .before .before .before .before .before .before .before .before .before .before .before .before .before .before .before .before .args .options) (c .before .before .before .before .before .before .before .before .before .before .before .before .before .before .before .before .before .before .before .before .before .before .before .before .before .before .before .before .before .before .before .before .pre .1 .0) (c .before .before .before .before .before .before .before .before .before .before .before .before .before .before .before .before .before .before .before .before .before .before .before .before .before .before .loop .inv) (c .before .before .before .before .before .before .before .before .before .before .before .before .before .before .before .before .before .before .before .before .before .before .before .before .before .loop-test .taken) (c .before .before .before .before .before .before .before .before .before .before .before .before .before .before .before .before .before .before .before .before .before .before .before .before .token-at .ensures) (led-puts ν) (led-room (c .before .before .before .before .before .before .before .before .before .before .before .before .before .before .before .before .before .before .before .before .before .before .before .before .before .before .loop .inv .going .room) ν) κ (c .before .before .before .before .before .before .if5 .left) (c .before .before .before .before .before .before .before .before .before .before .before .stack .given) (c .before .before .before .before .before .next-place .ensures) in (nested-place (c .before .before .before .before .before .before .before .before .before .before .before .before .before .before .before .before .before .before .before .before .before .before .before .before .before .before .before .before .before .before .before .before .pre .1 .0) ι (c .before .before .before .before .before .before .before .before .before .before .before .before .before .before .before .before .before .before .before .before .before .before .before .before .before .before .before .before .before .before .before .before .pre .1 .1) (c .before .before .is-nested .ensures (c .before .if7 .taken)), nested-rows (c .before .before .before .before .before .before .before .before .before .before .before .before .before .before .before .before .before .before .before .before .before .before .before .before .before .before .before .before .before .before .before .before .pre .1 .0) ι (c .before .before .before .before .before .before .before .before .before .before .before .before .before .before .before .before .before .before .before .before .before .before .before .before .before .before .before .before .before .before .before .before .pre .1 .1) (c .before .before .is-nested .ensures (c .before .if7 .taken)))

@@ -1,4 +1,5 @@
 -- `formatter::Formatter::is_nested` meets its contract. Assumes nothing.
+use native.Mathlib.Omega.{arith}
 use borrow.Author.Needs.{needs}
 use borrow.Author.Tests.{not-false, eqb-true}
 use Rattle.report.proofs.Logic.{impossible′}
@@ -11,14 +12,11 @@ in-one-line-block-requires c κs = search needs
 returns : tie.Need-returns
 returns c = λ e. impossible′ e
 
-sub-if2 : tie.Need-sub-if2
-sub-if2 c = search needs
-
 returns-2 : tie.Need-returns-2
 returns-2 c = λ e. impossible′ e
 
 row-at-requires : tie.Need-row-at-requires
-row-at-requires c κs = search needs
+row-at-requires c κs = let p = c .before .before .before .before .pre in let t = c .if2 .left in omega arith
 
 returns-3 : tie.Need-returns-3
 returns-3 c = λ e. impossible′ e
@@ -44,7 +42,6 @@ is-nested-spec =
     (tie.spec
     in-one-line-block-requires
     returns
-    sub-if2
     returns-2
     row-at-requires
     returns-3

@@ -1,5 +1,6 @@
 -- `formatter::Formatter::is_steady` meets its contract. Assumes nothing.
 use mathlib.Core.Path.{sym, _∙_}
+use native.Mathlib.Omega.{arith}
 use borrow.Author.Needs.{needs}
 use borrow.Author.Tests.{eqb-true}
 use Rattle.report.proofs.Logic.{impossible, impossible′}
@@ -7,14 +8,11 @@ use Rattle.formatter.proofs.Does.{told}
 use Rattle.formatter.proofs.Formatter.is_steady.Statement.{statement}
 use Rattle.formatter.proofs.Formatter.is_steady.Tie as tie
 
-sub-if1 : tie.Need-sub-if1
-sub-if1 c = search needs
-
 returns : tie.Need-returns
 returns c = λ e. impossible′ e
 
 row-at-requires : tie.Need-row-at-requires
-row-at-requires c κs = search needs
+row-at-requires c κs = let p = c .before .before .pre in let t = c .if1 .left in omega arith
 
 returns-2 : tie.Need-returns-2
 returns-2 c = λ e. impossible′ e
@@ -38,4 +36,4 @@ returns-7 : tie.Need-returns-7
 returns-7 c = λ e. record { mid-line = c .before .before .before .if4 .left; not-closed = c .before .before .if5 .left; no-fn = λ s. impossible (sym s ∙ told (c .before .in-broken-signature .ensures) (c .if6 .left)) }
 
 pub is-steady-spec : {M : Type 1} → statement M
-is-steady-spec = tie.close (tie.spec sub-if1 returns row-at-requires returns-2 returns-3 returns-4 returns-5 in-broken-signature-requires returns-6 returns-7)
+is-steady-spec = tie.close (tie.spec returns row-at-requires returns-2 returns-3 returns-4 returns-5 in-broken-signature-requires returns-6 returns-7)
