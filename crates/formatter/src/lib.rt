@@ -89,7 +89,7 @@ pub struct Ends {
 // The fields of format.rs under its names. The port adds `len`, the length of the text, which is one past the
 // output's end once something did not fit; `break_count`, the number of entries of the broken-group stack;
 // and `commas`, the number of inserted commas. Their order is the one of about 190 that takes the fewest
-// instructions (docs/BENCHMARKS.md); the order of format.rs takes a twelfth more.
+// instructions (docs/BENCHMARKS.md); the order of format.rs takes a tenth more.
 pub struct Formatter {
     pub just_closed_inline: bool,
     pub record_depth: RecordDepth,
