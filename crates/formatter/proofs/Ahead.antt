@@ -11,7 +11,7 @@ use borrow.Author.Tests.{leb-true, leb-false}
 use Rattle.report.proofs.Logic.{split, and-right, impossible′}
 use Rattle.rows.specs.Kinds.{Other, TokenRow, Trailing}
 use Rattle.rows.specs.Options
-use Rattle.rows.specs.Row.{Row, rowAt, rowsOf}
+use Rattle.rows.specs.Row.{Row, rowsOf}
 use Rattle.rows.specs.Token.{tokensOf}
 use Rattle.rows.proofs.RowList.{rows-drop, rows-length}
 use Rattle.push_token.specs.Formatter as definition

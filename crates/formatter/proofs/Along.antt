@@ -2,8 +2,8 @@
 use mathlib.Core.Bool.{true, false, cond, not, _&&_, _||_}
 use mathlib.Core.List.{List, [], _∷_, _++_}
 use mathlib.Core.Option.{none, some}
-use mathlib.Core.Path.{_≡_, refl, sym, ap, subst, _∙_}
-use Prim.Native.Nat.{ℕ, _+_, _-_, _*_, _/_, _≤_, _<_}
+use mathlib.Core.Path.{_≡_, refl, sym, ap, _∙_}
+use Prim.Native.Nat.{ℕ, _+_, _-_, _/_, _≤_, _<_}
 use native.Mathlib.Omega.{arith}
 use borrow.Author.Tests.{lt-ltb, le-ltb, eqb-true, not-true}
 use lib.Dec.{eqb, ltb}
@@ -25,7 +25,7 @@ use Rattle.push_token.specs.Arms.{atRecordFields, inBrokenList}
 use Rattle.push_token.specs.PushToken.{turn}
 use Rattle.push_token.specs.Layout.{finished, layFrom}
 use Rattle.sink.specs.Sink.{Writes}
-use Rattle.sink.specs.Space.{looseBehind, bit, spaces}
+use Rattle.sink.specs.Space.{bit, spaces}
 use Rattle.sink.proofs.Sink.{later}
 use Rattle.formatter.specs.declared.Formatter as code
 use Rattle.formatter.specs.declared.Broken.{Broken}

@@ -1,5 +1,4 @@
 -- A row of trivia, and rows of trivia one by one. Assumes nothing.
-use mathlib.Core.Bool.{true}
 use mathlib.Core.List.{List, [], _∷_, _++_, append-nil}
 use mathlib.Core.Path.{_≡_, refl, ap, _∙_}
 use Prim.Native.Nat.{ℕ, zero, suc, _+_, _-_, _/_, _≤_, _<_}
@@ -15,18 +14,17 @@ use Rattle.rows.specs.Bounds.{Inside, InBounds}
 use Rattle.rows.specs.Options.{Options}
 use Rattle.rows.specs.Token.{Trivia, lineComment, docComment, blockComment, blankLine, bytesOf, triviaOf}
 use Rattle.rows.proofs.RowList.{row-drop}
-use Rattle.push_token.specs.Act.{State, update, run}
+use Rattle.push_token.specs.Act.{State, run}
 use Rattle.push_token.specs.Emit.{indentOrSpace, leadingTrivia, trailingTrivia, leadAct}
-use Rattle.push_token.specs.PushToken.{takeInlineClose}
 use Rattle.push_token.proofs.Said.{said}
 use Rattle.sink.specs.Sink.{Writes}
 use Rattle.sink.specs.Comment.{commentHead, leadTail, trailHead, trailTail}
 use Rattle.sink.proofs.Sink.{andThen, nothing}
 use Rattle.formatter.specs.declared.Formatter.{Formatter}
-use Rattle.formatter.specs.Pen.{Aside, Pen, on, formatterOf, asideOf}
+use Rattle.formatter.specs.Pen.{Aside, Pen, on, formatterOf}
 use Rattle.formatter.specs.Does.{Does, Done, Puts}
 use Rattle.formatter.specs.Trivia.{Part, triviaIn, leadToken, trailBytes}
-use Rattle.formatter.proofs.Does.{does, seq, stays, same-run, updated}
+use Rattle.formatter.proofs.Does.{does, seq, stays, updated}
 
 -- ---- a row, by its kind
 

@@ -1,7 +1,6 @@
 -- The loop's invariant, and what the calls of one turn do to it. Assumes nothing.
 use mathlib.Core.Bool.{Bool, true, false, not, _&&_}
 use mathlib.Core.List.{List, [], map}
-use mathlib.Core.Option.{some}
 use mathlib.Core.Path.{_≡_, refl, sym, ap, subst, _∙_}
 use Prim.Native.Nat.{ℕ, zero, suc, _+_, _-_, _*_, _/_, _%_, _≤_, _<_}
 use native.Mathlib.Omega.{arith}
@@ -13,9 +12,7 @@ use Rattle.report.proofs.Logic.{split}
 use Rattle.rows.specs.Kinds.{LeftBrace, RightBrace, Other}
 use Rattle.rows.specs.Options
 use Rattle.rows.specs.Row.{rowsOf, firstRows}
-use Rattle.rows.specs.Bounds.{InBounds}
 use Rattle.rows.specs.Token.{Token, Trivia, triviaOf}
-use Rattle.rows.proofs.Sound.{in-bounds}
 use Rattle.lookahead.specs.Measure.{isEmpty}
 use Rattle.push_token.specs.Formatter as definition
 use Rattle.push_token.specs.Act.{State, run}

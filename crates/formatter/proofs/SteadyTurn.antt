@@ -21,7 +21,7 @@ use Rattle.push_token.specs.PushToken.{arm, takeInlineClose, turn}
 use Rattle.sink.specs.Space.{looseBehind, bit, spaces}
 use Rattle.sink.proofs.Spaces.{spaces-are, loose-other}
 use Rattle.formatter.specs.declared.steady.Marks.{Marks}
-use Rattle.formatter.specs.Steady.{Takes, isCloser, onlyWrites, steadyKinds, fnAfter, pendingAfter, unaryAfter, groupAfter, marksFor, marked, Right, Steady, behind}
+use Rattle.formatter.specs.Steady.{Takes, isCloser, onlyWrites, steadyKinds, fnAfter, pendingAfter, groupAfter, marksFor, marked, Right, Steady, behind}
 use Rattle.formatter.proofs.Gaps.{token-gap}
 use Rattle.formatter.proofs.Turn.{same, chosen-not, by-arm}
 

@@ -49,7 +49,7 @@ impl Formatter {
             let token = token_at(rows, at, index, bare);
             let inline_close = self.takes_inline_close(token);
             if token.lead == token.own {
-                self = self.take_inline_close();
+                self = self.clear_inline_close();
             } else {
                 self = self.push_leading(options, out, rows, text, token);
                 if out.len() < self.len {

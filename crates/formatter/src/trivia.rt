@@ -23,8 +23,8 @@ ghost use Rattle.formatter.specs.Does.{Puts};
 ghost use Rattle.formatter.specs.Trivia.{Part, triviaIn, leadToken, trailBytes};
 
 impl Formatter {
-    // Takes the mark of a one-line block's `}`, where no trivia was seen.
-    pub fn take_inline_close(mut self) -> Self
+    // Where no trivia was seen, the mark of a one-line block's `}` goes.
+    pub fn clear_inline_close(mut self) -> Self
         ensures does { λ r. ⌜ ((o : Rattle.rows.specs.Options.Options) (l : List ℕ)
             → Puts (leadToken o []) self l r l) ⌝ }
         ensures len { λ r. ⌜ r .len ≡ self .len ⌝ }

@@ -1,7 +1,7 @@
 -- The spaces between two kinds, as the code finds them. proofs/Spaces.antt shows that they are the definition's.
 -- Assumes nothing.
 use mathlib.Core.Bool.{Bool, cond}
-use Prim.Native.Nat.{ℕ, _+_, _-_, _*_, _/_, _%_, _^_}
+use Prim.Native.Nat.{ℕ, _-_, _*_, _/_, _%_, _^_}
 use lib.Dec.{eqb}
 use Rattle.rows.specs.Kinds.{RightBrace, LeftParen, LeftBracket}
 

@@ -31,8 +31,8 @@ token-at-requires c κs = next-token (c .before .before .before .before .before 
 takes-inline-close-requires : tie.Need-takes-inline-close-requires Inv-loop μ-loop
 takes-inline-close-requires c κs = search needs
 
-take-inline-close-requires : tie.Need-take-inline-close-requires Inv-loop μ-loop
-take-inline-close-requires c κs = search needs
+clear-inline-close-requires : tie.Need-clear-inline-close-requires Inv-loop μ-loop
+clear-inline-close-requires c κs = search needs
 
 push-leading-requires : tie.Need-push-leading-requires Inv-loop μ-loop
 push-leading-requires c κs = let p = leads (c .before .before .before .before .before .before .before .before .before .before .before .before .pre .1 .0) (c .before .before .before .before .before .before .loop .inv .going .head) (c .before .before .before .before .before .loop-test .taken) (c .before .before .before .before .token-at .ensures) in ((c .before .before .before .before .before .before .before .before .before .before .before .before .pre .0 .1, small-indent (c .before .before .before .before .before .before .before .before .before .before .before .before .args .options) (c .before .before .before .before .before .before .before .before .before .before .before .before .pre .1 .0) (c .before .before .before .before .before .before .loop .inv) (c .before .before .before .before .before .loop-test .taken) (c .before .before .before .before .token-at .ensures)), (p, let a = p .ordered in omega (arith, c .before .if1 .left)))
@@ -158,7 +158,7 @@ format-spec =
     loop-holds
     token-at-requires
     takes-inline-close-requires
-    take-inline-close-requires
+    clear-inline-close-requires
     push-leading-requires
     cast-t24
     same-length
