@@ -162,11 +162,9 @@ pub fn block_is_single_line(rows: &[u8]) -> bool
     let mut depth = 0;
     let mut behind = false; // a token's row
     let mut at = 0;
-    let mut left = rows.len() / ROW_BYTES;
-    while least_rows(depth) <= left {
+    while least_rows(depth) <= (rows.len() - at) / ROW_BYTES {
         let row = row_at(rows, at);
         at += ROW_BYTES;
-        left -= 1;
         if row.what != kinds::TOKEN {
             if is_trivia(row.what, behind) {
                 return false;

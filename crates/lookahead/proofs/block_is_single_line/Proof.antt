@@ -1,6 +1,6 @@
 -- `lookahead::block_is_single_line` meets its contract. Assumes nothing.
-use mathlib.Core.Path.{_≡_}
-use Prim.Native.Nat.{_-_, _/_, _≤_}
+use mathlib.Core.Path.{refl}
+use Prim.Native.Nat.{_-_, _≤_}
 use native.Mathlib.Omega.{arith}
 use lib.ListN.{length}
 use borrow.Author.Needs.{needs}
@@ -11,25 +11,25 @@ use Rattle.lookahead.proofs.block_is_single_line.Statement.{statement}
 use Rattle.lookahead.proofs.block_is_single_line.Tie as tie
 
 abbrev Inv-loop : tie.InvT-loop
-Inv-loop rows depth₀ behind₀ at₀ left₀ depth behind at left = Ahead rows (singleLineRows 0 (rowsOf rows)) (restOfBlock behind depth) at × (depth ≤ at) × (left ≡ (length rows - at) / 16)
+Inv-loop rows depth₀ behind₀ at₀ depth behind at = Ahead rows (singleLineRows 0 (rowsOf rows)) (restOfBlock behind depth) at × (depth ≤ at)
 
 abbrev μ-loop : tie.MeasureT-loop
-μ-loop rows depth₀ behind₀ at₀ left₀ depth behind at left = length rows - at
+μ-loop rows depth₀ behind₀ at₀ depth behind at = length rows - at
 
 loop-holds : tie.Need-loop-holds Inv-loop μ-loop
-loop-holds c = (block-start _, search needs, search needs)
+loop-holds c = (block-start _, search needs)
 
 least-rows-requires : tie.Need-least-rows-requires Inv-loop μ-loop
 least-rows-requires c κs = search needs
+
+sub-if1 : tie.Need-sub-if1 Inv-loop μ-loop
+sub-if1 c = search needs
 
 row-at-requires : tie.Need-row-at-requires Inv-loop μ-loop
 row-at-requires c κs = search needs
 
 add-at : tie.Need-add-at Inv-loop μ-loop
 add-at c = search needs
-
-sub-left : tie.Need-sub-left Inv-loop μ-loop
-sub-left c = search needs
 
 is-trivia-requires : tie.Need-is-trivia-requires Inv-loop μ-loop
 is-trivia-requires c κs = search needs
@@ -41,7 +41,7 @@ loop-less : tie.Need-loop-less Inv-loop μ-loop
 loop-less c = search needs
 
 loop-again : tie.Need-loop-again Inv-loop μ-loop
-loop-again c = (block-passed (c .before .before .before .before .before .before .before .loop .behind) (c .before .before .before .before .before .before .before .loop .depth) (c .before .before .before .before .before .before .before .loop .inv .0) (search needs) (c .before .before .before .before .row-at .ensures) (c .before .before .if2 .taken) (c .before .is-trivia .ensures) (c .if3 .left), search needs, search needs)
+loop-again c = (block-passed (c .before .before .before .before .before .before .before .loop .behind) (c .before .before .before .before .before .before .before .loop .depth) (c .before .before .before .before .before .before .before .loop .inv .0) (search needs) (c .before .before .before .before .row-at .ensures) (c .before .before .if2 .taken) (c .before .is-trivia .ensures) (c .if3 .left), search needs)
 
 add-depth : tie.Need-add-depth Inv-loop μ-loop
 add-depth c = search needs
@@ -50,7 +50,7 @@ loop-less-2 : tie.Need-loop-less-2 Inv-loop μ-loop
 loop-less-2 c = search needs
 
 loop-again-2 : tie.Need-loop-again-2 Inv-loop μ-loop
-loop-again-2 c = (block-opened (c .before .before .before .before .before .before .before .loop .behind) (c .before .before .before .before .before .before .before .loop .depth) (c .before .before .before .before .before .before .before .loop .inv .0) (search needs) (c .before .before .before .before .row-at .ensures) (c .before .before .if2 .left) (c .if4 .taken), search needs, search needs)
+loop-again-2 c = (block-opened (c .before .before .before .before .before .before .before .loop .behind) (c .before .before .before .before .before .before .before .loop .depth) (c .before .before .before .before .before .before .before .loop .inv .0) (search needs) (c .before .before .before .before .row-at .ensures) (c .before .before .if2 .left) (c .if4 .taken), search needs)
 
 ends-line-requires : tie.Need-ends-line-requires Inv-loop μ-loop
 ends-line-requires c κs = search needs
@@ -71,16 +71,16 @@ loop-less-3 : tie.Need-loop-less-3 Inv-loop μ-loop
 loop-less-3 c = search needs
 
 loop-again-3 : tie.Need-loop-again-3 Inv-loop μ-loop
-loop-again-3 c = (block-less (c .before .before .before .before .before .before .before .before .before .before .before .before .loop .behind) (c .before .before .before .before .before .before .before .before .before .before .before .before .loop .depth) (c .before .before .before .before .before .before .before .before .before .before .before .before .loop .inv .0) (search needs) (c .before .before .before .before .before .before .before .before .before .row-at .ensures) (c .before .before .before .before .before .before .before .if2 .left) (c .before .before .ends-line .ensures) (c .before .if6 .left) (c .before .before .before .before .before .if4 .left) (c .before .before .before .if5 .taken) (c .if7 .left), search needs, search needs)
+loop-again-3 c = (block-less (c .before .before .before .before .before .before .before .before .before .before .before .before .loop .behind) (c .before .before .before .before .before .before .before .before .before .before .before .before .loop .depth) (c .before .before .before .before .before .before .before .before .before .before .before .before .loop .inv .0) (search needs) (c .before .before .before .before .before .before .before .before .before .row-at .ensures) (c .before .before .before .before .before .before .before .if2 .left) (c .before .before .ends-line .ensures) (c .before .if6 .left) (c .before .before .before .before .before .if4 .left) (c .before .before .before .if5 .taken) (c .if7 .left), search needs)
 
 loop-less-4 : tie.Need-loop-less-4 Inv-loop μ-loop
 loop-less-4 c = search needs
 
 loop-again-4 : tie.Need-loop-again-4 Inv-loop μ-loop
-loop-again-4 c = (block-other (c .before .before .before .before .before .before .before .before .before .loop .behind) (c .before .before .before .before .before .before .before .before .before .loop .depth) (c .before .before .before .before .before .before .before .before .before .loop .inv .0) (search needs) (c .before .before .before .before .before .before .row-at .ensures) (c .before .before .before .before .if2 .left) (c .if5 .left), search needs, search needs)
+loop-again-4 c = (block-other (c .before .before .before .before .before .before .before .before .before .loop .behind) (c .before .before .before .before .before .before .before .before .before .loop .depth) (c .before .before .before .before .before .before .before .before .before .loop .inv .0) (search needs) (c .before .before .before .before .before .before .row-at .ensures) (c .before .before .before .before .if2 .left) (c .if5 .left), search needs)
 
 returns-4 : tie.Need-returns-4 Inv-loop μ-loop
-returns-4 c = λ text. block-said (c .before .before .before .before .args .rows .now) text (block-over (c .before .before .loop .behind) (c .before .before .loop .depth) (c .before .before .loop .inv .0) (c .before .before .loop .inv .2) (omega (arith, c .if1 .left, c .before .least-rows .ensures)))
+returns-4 c = λ text. block-said (c .before .before .before .before .args .rows .now) text (block-over (c .before .before .loop .behind) (c .before .before .loop .depth) (c .before .before .loop .inv .0) refl (omega (arith, c .if1 .left, c .before .least-rows .ensures)))
 
 pub block-is-single-line-spec : {M : Type 1} → statement M
 block-is-single-line-spec =
@@ -90,9 +90,9 @@ block-is-single-line-spec =
     μ-loop
     loop-holds
     least-rows-requires
+    sub-if1
     row-at-requires
     add-at
-    sub-left
     is-trivia-requires
     returns
     loop-less
