@@ -47,7 +47,7 @@ comma-stays span m r rs h =
     lt-ltb 0 (measureRows span (behind span m r) rs .commas) (omega (arith, γ .commas))
 
 -- a group whose own depth and the other are `own` and `other` of a measure, with the kinds that change them
-module _ (span : Span) (own other : Measure → ℕ) (o c o′ c′ : ℕ) (lo : o ≤ Comma) (lc : c ≤ Comma) (lo′ : o′ ≤ Comma) (lc′ : c′ ≤ Comma)
+module _ (span : Span) (own other : Measure → ℕ) (o c o′ c′ : ℕ) (lo : o ≤ Comma) (lc : c < Comma) (lo′ : o′ ≤ Comma) (lc′ : c′ ≤ Comma)
     (stops : (m : Measure) (k : ℕ) → stopsAt span (m .parenDepth) (m .bracketDepth) k ≡ endsGroup c k (own m) (other m))
     (top : (m : Measure) → topIn span (m .parenDepth) (m .bracketDepth) ≡ isTop (own m) (other m))
     (own-after : (m : Measure) (k n : ℕ) → own (counts span m k n) ≡ depthAfter o c k (own m))

@@ -96,7 +96,7 @@ module _ {o c o′ c′ : ℕ} (κ : GroupKinds o c o′ c′) where
       module _ (n : k ≡ o → ⊥) (m : k ≡ c → ⊥) where
         pub top-above : Comma < k → Ahead rows answer (commaAhead o c o′ c′ own other) (at + 16)
         top-above a =
-            top-passed (sym (ends-above c k own other (omega (arith, κ .closer .1)) a)) (rw (ne-eqb k Comma (λ z. omega arith))) (sym (depth-after-none o c k own n m))
+            top-passed (sym (ends-above c k own other (κ .closer .1) (omega arith))) (rw (ne-eqb k Comma (λ z. omega arith))) (sym (depth-after-none o c k own n m))
             (sym (depth-after-none o′ c′ k other (λ z. omega (arith, κ .otherOpener .1)) (λ z. omega (arith, κ .otherCloser .1))))
 
         pub top-eof : k ≡ Eof → false ≡ answer

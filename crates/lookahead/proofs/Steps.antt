@@ -39,11 +39,11 @@ module _ (c k own other : ℕ) where
     pub ends-closer : k ≡ c → isLast own other ≡ endsGroup c k own other
     ends-closer e = rw (eq-eqb k c e, ne-eqb k Eof n, or-false)
 
-  -- no kind above Comma ends one
-  pub ends-above : c ≤ Comma → Comma < k → endsGroup c k own other ≡ false
+  -- no kind from Comma on ends one
+  pub ends-above : c < Comma → Comma ≤ k → endsGroup c k own other ≡ false
   ends-above l h = rw (ne-eqb k c (λ q. omega arith), ne-eqb k Eof (λ q. omega arith))
 
-pub stops-above : (s : Span) (p b k : ℕ) → Comma < k → false ≡ stopsAt s p b k
+pub stops-above : (s : Span) (p b k : ℕ) → Comma ≤ k → false ≡ stopsAt s p b k
 stops-above Signature p b k h = sym (ends-above RightParen k p 0 (omega arith) h)
 stops-above Paren p b k h = sym (ends-above RightParen k p b (omega arith) h)
 stops-above Bracket p b k h = sym (ends-above RightBracket k b p (omega arith) h)

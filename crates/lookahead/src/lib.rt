@@ -299,7 +299,11 @@ fn until_wide(rows: &[u8], span: Span, limit: usize) -> Reached
 {
     let mut m = Measure::new();
     let mut at = 0;
-    while ROW_BYTES <= rows.len() - at {
+    if rows.len() < ROW_BYTES {
+        return Reached { m, at };
+    }
+    let last = rows.len() - ROW_BYTES;
+    while at <= last {
         let row = row_at(rows, at);
         at += ROW_BYTES;
         if row.what == kinds::TOKEN {

@@ -36,11 +36,11 @@ impl Measure {
     }
 
     // Whether the measure stops before a token of this kind: the closer that matches, or Eof. A signature does not
-    // look at brackets; no kind above Comma stops a measure.
+    // look at brackets; no kind from Comma on stops a measure.
     pub fn stops(self, span: Span, kind: u32) -> bool
         ensures { λ r. ⌜ r ≡ stopsAt span (self .parens) (self .brackets) kind ⌝ }
     {
-        if kinds::COMMA < kind {
+        if kinds::COMMA <= kind {
             return false;
         }
         match span {
@@ -50,11 +50,21 @@ impl Measure {
         }
     }
 
-    // A token of this kind and of `size` bytes is counted.
+    // A token of this kind and of `size` bytes is counted. Kinds from Comma on change no depth, and those before it
+    // count no comma.
     pub fn counts(self, span: Span, kind: u32, size: usize) -> Measure
         requires { ⌜ Room self size ⌝ }
         ensures { λ r. ⌜ measureOf r ≡ counts span (measureOf self) kind size ⌝ }
     {
+        let width = self.width + (size + 1);
+        if kinds::COMMA <= kind {
+            return Measure {
+                parens: self.parens,
+                brackets: self.brackets,
+                commas: self.commas_after(span, kind),
+                width,
+            };
+        }
         Measure {
             parens: depth_after(kinds::LEFT_PAREN, kinds::RIGHT_PAREN, kind, self.parens),
             brackets: depth_after(
@@ -63,8 +73,8 @@ impl Measure {
                 kind,
                 self.brackets,
             ),
-            commas: self.commas_after(span, kind),
-            width: self.width + (size + 1),
+            commas: self.commas,
+            width,
         }
     }
 
