@@ -36,11 +36,11 @@ use Rattle.formatter.specs.Pen.{Aside, prevOf, signatureOf, topFirst, fo
 use Rattle.formatter.specs.Token.{kindOf}
 use Rattle.formatter.specs.Trivia.{triviaIn}
 use Rattle.formatter.specs.Format.{Walks, Head, ownRow, nextRow}
-use Rattle.formatter.specs.Steady.{Takes, takesOf, onlyWrites, steadyKinds, groupAfter, isCloser, marksOf, marked, Right, Lone, MayBegin, Steady, behind, Stretched}
+use Rattle.formatter.specs.Steady.{Takes, takesOf, onlyWrites, steadyKinds, spaceBefore, groupAfter, isCloser, marksOf, marked, Right, Lone, Taken, MayBegin, Steady, behind, Stretched}
 use Rattle.formatter.proofs.Comments.{no-trivia}
 use Rattle.formatter.proofs.Place.{tokens-here, head-next, row-in}
 use Rattle.formatter.proofs.Lone.{lone, goes-on, lay-more}
-use Rattle.formatter.proofs.SteadyTurn.{steady-kind, steady-spaces, steady-turn, steady-next}
+use Rattle.formatter.proofs.SteadyTurn.{steady-kind, steady-spaces, space-before, space-few, steady-turn, steady-next}
 
 -- ---- a row that is a token's without trivia
 
@@ -215,18 +215,33 @@ module _ {rows text l k : List ℕ} {from n before at len prev steady : ℕ} {m�
             still = λ t q f σ. rw e (steady-next (α .still t q f σ) kind (only t q));
           }
 
-  -- by the code's row, its mask and its number of spaces
+  -- what is asked where such a token is written
+  pub taken-fits :
+      {spaced : ℕ} → Taken rows steady at (length k) len spaced → spaced < 2 → (r : Row) {space : ℕ} → r ≡ rowAt rows at → space ≡ spaceBefore spaced (r .kind)
+      → ((r .start < r .end) × (r .end ≤ length text)) × ((space ≤ 1) × (len + (space + (r .end - r .start)) ≤ length k))
+  taken-fits {spaced} τ few r e z =
+      let s = space-few spaced (rowAt rows at .kind) few in
+      let f = τ .fits in
+      let l = α .room in
+      rw (z, e) ((τ .byte, lone-inside ω (α .head) h (τ .alone) (rowAt rows at) refl .within), (omega arith, omega arith))
+
+  -- by the code's row, its mask and its numbers of spaces
   pub again :
-      Lone rows at → (r : Row) {space len′ : ℕ} {k′ : List ℕ} {m′ : Marks} → (t : Takes) → steady ≡ steadyKinds t → r ≡ rowAt rows at
-      → (bit steady (r .kind) ≡ 0 → ⊥) → space ≡ spaces (m .loose) prev (r .kind) → space + (r .end - r .start) ≤ length k - len
+      {spaced : ℕ} → Taken rows steady at (length k) len spaced → spaced ≡ bit (m .loose) prev → (r : Row) {space len′ : ℕ} {k′ : List ℕ} {m′ : Marks} → (t : Takes) → steady ≡ steadyKinds t
+      → r ≡ rowAt rows at → space ≡ spaceBefore spaced (r .kind)
       → Writes k len (replicate space 32 ++ bytesOf text r) k′ len′ → m′ ≡ marked prev (r .kind) m → Along rows text from n before m₀ steady l (at + 16) len′ (r .kind) m′ k′
-  again λ₁ r t q e b z f w d =
+  again {spaced} τ y r t q e z w d =
       let κ = rowAt rows at .kind in
       let known = row-known ω (α .head) h (rowAt rows at) refl in
-      let only : (t : Takes) → steady ≡ steadyKinds t → onlyWrites t κ ≡ true = λ t q. steady-kind t κ known (rw (q, e) at b) in
-      let g = rw (α .right .loose, e) at z ∙ steady-spaces t (m .«prev_minus_is_unary») prev κ (α .last) known (only t q) in
+      let only : (t : Takes) → steady ≡ steadyKinds t → onlyWrites t κ ≡ true = λ t q. steady-kind t κ known (rw q at (τ .kind)) in
+      let s : spaceBefore spaced κ ≡ cond (spaceAfter (some prev) (m .«prev_minus_is_unary») κ) 1 0 =
+      ap (λ n. spaceBefore n κ) y
+      ∙ space-before t (m .loose) prev κ known (only t q)
+      ∙ ap (λ l. spaces l prev κ) (α .right .loose)
+      ∙ steady-spaces t (m .«prev_minus_is_unary») prev κ (α .last) known (only t q) in
+      let g = rw e at z ∙ s in
       let far = α .done t q .whole in
-      rw (d, e) (more λ₁ (rw (g, e) at f) (rw (g, e) at w) only (omega arith))
+      rw (d, e) (more (τ .alone) (rw s at (τ .fits)) (rw (g, e) at w) only (omega arith))
 
 -- at the end
 pub ends :

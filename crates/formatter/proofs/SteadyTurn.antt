@@ -3,14 +3,14 @@ use mathlib.Core.Bool.{Bool, true, false, cond, not, _&&_, _||_, and-false}
 use mathlib.Core.List.{List, [], _++_, append-assoc}
 use mathlib.Core.Option.{none, some, Option·map}
 use mathlib.Core.Path.{_≡_, refl, sym, ap, _∙_}
-use Prim.Native.Nat.{ℕ, _-_, _≤_}
+use Prim.Native.Nat.{ℕ, _-_, _*_, _≤_, _<_}
 use native.Mathlib.Omega.{arith}
 use borrow.Author.Tests.{ne-eqb, eqb-true, ltb-true, lt-leb}
 use lib.Dec.{eqb, leb, ltb}
 use lib.ListN.{replicate}
 use Rattle.report.proofs.Logic.{split, impossible′, or-cases, or-left, or-right}
 use Rattle.report.proofs.Below.{allBelow, below}
-use Rattle.rows.specs.Kinds.{Eof, Newline, LeftBrace, RightBrace, LeftParen, RightParen, LeftBracket, RightBracket, Comma, Minus, Else, Fn, Record, Identifier, Other}
+use Rattle.rows.specs.Kinds.{Eof, Newline, LeftBrace, RightBrace, LeftParen, RightParen, LeftBracket, RightBracket, Comma, Hash, Minus, Else, Fn, Record, Identifier, Other}
 use Rattle.rows.specs.Options.{Options}
 use Rattle.rows.specs.Token.{Token}
 use Rattle.push_token.specs.Formatter.{Formatter, setAtLineStart, setPrev, setPrevMinusIsUnary, setFnState, setRecordPending, setJustClosedInline, setGroupDepth, setSigBreakDepth, setInlineClose, setReturned}
@@ -21,7 +21,7 @@ use Rattle.push_token.specs.PushToken.{arm, takeInlineClose, turn}
 use Rattle.sink.specs.Space.{looseBehind, bit, spaces}
 use Rattle.sink.proofs.Spaces.{spaces-are, loose-other}
 use Rattle.formatter.specs.declared.steady.Marks.{Marks}
-use Rattle.formatter.specs.Steady.{Takes, isCloser, onlyWrites, steadyKinds, fnAfter, pendingAfter, groupAfter, marksFor, marked, Right, Steady, behind}
+use Rattle.formatter.specs.Steady.{Takes, isCloser, onlyWrites, steadyKinds, spaceBefore, fnAfter, pendingAfter, groupAfter, marksFor, marked, Right, Steady, behind}
 use Rattle.formatter.proofs.Gaps.{token-gap}
 use Rattle.formatter.proofs.Turn.{same, chosen-not, by-arm}
 
@@ -66,6 +66,36 @@ unfolding onlyWrites
 steady-spaces t unary p k g h w =
     ap (λ loose. spaces loose p k) (loose-other k unary (λ e. impossible′ (rw e at w)) (λ e. impossible′ (rw e at w)) (λ e. impossible′ (rw e at w)))
     ∙ spaces-are p k unary g h
+
+-- the kinds before which a space may stand are, of such kinds, those from Hash on: one test, computed at every kind
+abbrev opensOrSpaces : ℕ → Bool
+opensOrSpaces k =
+    eqb k Eof
+    || (eqb k Newline
+    || (eqb k LeftBrace
+    || (eqb k RightBrace
+    || (eqb k LeftParen
+    || (eqb k LeftBracket || eqb (bit 0x7_ffff_805f k) (cond (ltb k Hash) 0 1))))))
+
+from-hash : allBelow 35 opensOrSpaces ≡ true
+from-hash = refl
+
+space-bit : (t : Takes) (k : ℕ) → k ≤ Other → onlyWrites t k ≡ true → bit 0x7_ffff_805f k ≡ cond (ltb k Hash) 0 1
+unfolding onlyWrites
+space-bit t k h w =
+    eqb-true _ _
+    (rw (never t k Eof w refl, never t k Newline w refl, never t k LeftBrace w refl, never t k RightBrace w refl, never t k LeftParen w refl, never t k LeftBracket w refl)
+    at (below 35 opensOrSpaces from-hash k (omega arith)))
+
+times : (n : ℕ) (b : Bool) → cond b 0 n ≡ n * cond b 0 1
+times n true = omega arith
+times n false = omega arith
+
+pub space-before : (t : Takes) (loose p k : ℕ) → k ≤ Other → onlyWrites t k ≡ true → spaceBefore (bit loose p) k ≡ spaces loose p k
+space-before t loose p k h w = times (bit loose p) (ltb k Hash) ∙ ap (λ n. bit loose p * n) (sym (space-bit t k h w))
+
+pub space-few : (spaced k : ℕ) → spaced < 2 → spaceBefore spaced k < 2
+space-few spaced k h = split (ltb k Hash) (λ e. rw e (omega arith)) (λ e. rw e h)
 
 -- ---- the kinds that change a mark, by the bits of a number
 

@@ -5,11 +5,11 @@ use mathlib.Core.Bool.{Bool, true, false, cond, not, _&&_, _||_}
 use mathlib.Core.List.{List, []}
 use mathlib.Core.Option.{none, some}
 use mathlib.Core.Path.{_≡_}
-use Prim.Native.Nat.{ℕ, _+_, _-_, _*_, _/_, _≤_}
+use Prim.Native.Nat.{ℕ, _+_, _-_, _*_, _/_, _≤_, _<_}
 use lib.Dec.{eqb, leb, ltb}
 use lib.ListN.{length, take, drop}
-use Rattle.rows.specs.Kinds.{Leading, Trailing, RightBrace, RightParen, RightBracket, Comma, Minus, Else, Fn, Record, Identifier, Other}
-use Rattle.rows.specs.Row.{rowsOf}
+use Rattle.rows.specs.Kinds.{Leading, Trailing, RightBrace, RightParen, RightBracket, Comma, Hash, Minus, Else, Fn, Record, Identifier, Other}
+use Rattle.rows.specs.Row.{rowAt, rowsOf}
 use Rattle.rows.specs.Options.{Options}
 use Rattle.rows.specs.Token.{tokensOf}
 use Rattle.lookahead.specs.Space.{isValueKind}
@@ -18,7 +18,7 @@ use Rattle.push_token.specs.Act.{state}
 use Rattle.push_token.specs.Emit.{isSome, isAt}
 use Rattle.push_token.specs.Arms.{atRecordFields, inBrokenList}
 use Rattle.push_token.specs.Layout.{finished, layFrom}
-use Rattle.sink.specs.Space.{looseBehind}
+use Rattle.sink.specs.Space.{looseBehind, bit}
 use Rattle.formatter.specs.declared.Formatter as code
 use Rattle.formatter.specs.declared.steady.Marks.{Marks}
 use Rattle.formatter.specs.declared.steady.Steady as code-steady
@@ -55,6 +55,10 @@ onlyWrites t k = cond (eqb k Comma) (t .commas) (cond (eqb k Else) (t .elses) (c
 -- the same kinds as the bits of a number
 abbrev pub steadyKinds : Takes → ℕ
 steadyKinds t = 0x7_ffe7_fe00 + cond (t .commas) 0x100 0 + cond (t .elses) 0x8_0000 0 + cond (t .fns) 0x10_0000 0 + cond (t .closers) 0xa0 0
+
+-- the spaces before such a token of the kind k, where so many may stand: of these kinds the ones before Hash take none
+abbrev pub spaceBefore : ℕ → ℕ → ℕ
+spaceBefore spaced k = cond (ltb k Hash) 0 spaced
 
 -- ---- the marks: what such a token of the kind k changes, behind one of the kind p
 
@@ -106,6 +110,18 @@ atMarks k m f = setPrev (some k) (setFnState (m .«fn_state») (setRecordPending
 pub record Lone (rows : List ℕ) (at : ℕ) : Type 0 where
   pub leads : runRows Leading (rowsOf (drop at rows)) ≡ 0
   pub trails : runRows Trailing (rowsOf (drop (at + 16) rows)) ≡ 0
+
+-- a row stands at the index, unless the rows end there
+abbrev pub RowAhead : List ℕ → ℕ → Type 0
+RowAhead rows at = at < length rows → (at + 16 ≤ length rows) × ((at ≡ 16 * (at / 16)) × (rowAt rows at .kind ≤ Other))
+
+-- such a token's row, which fits with its spaces into `size` bytes behind `len` of them
+pub record Taken (rows : List ℕ) (steady at size len spaced : ℕ) : Type 0 where
+  pub ahead : at < length rows
+  pub kind : bit steady (rowAt rows at .kind) ≡ 0 → ⊥
+  pub alone : Lone rows at
+  pub byte : rowAt rows at .start < rowAt rows at .end
+  pub fits : spaceBefore spaced (rowAt rows at .kind) + (rowAt rows at .end - rowAt rows at .start) ≤ size - len
 
 -- in a line, behind no `}` of a one-line block; in a broken signature no `fn` is looked back to
 pub record MayBegin (f : code.Formatter) : Type 0 where

@@ -11,10 +11,10 @@ use sink::numbers::less;
 use sink::numbers::record_pending_after;
 use sink::put::put_token;
 use sink::space::loose_behind;
-use sink::space::spaces_between;
+use sink::space::space_behind;
 ghost use mathlib.Core.Bool.{true, cond, not, _&&_};
 ghost use mathlib.Core.Path.{_≡_};
-ghost use Prim.Native.Nat.{_+_, _-_, _/_, _*_, _%_, _≤_, _<_};
+ghost use Prim.Native.Nat.{_+_, _-_, _/_, _*_, _%_, _^_, _≤_, _<_};
 ghost use lib.Dec.{eqb};
 ghost use lib.ListN.{length};
 ghost use Rattle.rows.specs.Kinds.{Other};
@@ -23,9 +23,9 @@ ghost use Rattle.push_token.specs.Emit.{isSome};
 ghost use Rattle.formatter.specs.Pen.{signatureOf};
 ghost use Rattle.formatter.specs.Token.{StackRoom, kindOf};
 ghost use Rattle.formatter.specs.Format.{Walks, Head, onlyTokens};
-ghost use Rattle.formatter.specs.Steady.{MayBegin, Lone, Right, Stretched, Changed};
+ghost use Rattle.formatter.specs.Steady.{MayBegin, Lone, RowAhead, Taken, Right, Stretched, Changed};
 ghost use Rattle.formatter.specs.Steady.{takesOf, steadyKinds, marksOf, marked, markingKinds, atMarks};
-ghost use Rattle.formatter.specs.Steady.{fnAfter, pendingAfter, unaryAfter, groupAfter};
+ghost use Rattle.formatter.specs.Steady.{spaceBefore, fnAfter, pendingAfter, unaryAfter, groupAfter};
 
 // Sets of kinds, as the bits of a number. Those that only write their lexeme and change a mark at most: Colon to
 // Minus, Record, Identifier to Other.
@@ -118,39 +118,17 @@ impl Formatter {
         let mut at = from;
         let mut len = self.len;
         let mut prev = kind_of(last);
-        while at < rows.len() {
+        let mut spaced = space_behind(marks.loose, prev);
+        while takes(steady, rows, at, bare, out.len(), len, spaced) {
             let row = row_at(rows, at);
             let kind = row.kind;
-            if (steady >> kind) % 2 == 0 {
-                return Steady {
-                    at,
-                    prev,
-                    len,
-                    marks,
-                };
-            }
-            if !is_lone(rows, at, bare) {
-                return Steady {
-                    at,
-                    prev,
-                    len,
-                    marks,
-                };
-            }
-            let space = spaces_between(marks.loose, prev, kind);
+            let space = space_before(spaced, kind);
             let start = row.start as usize;
             let end = row.end as usize;
-            if !has_room(out.len() - len, space, start, end) {
-                return Steady {
-                    at,
-                    prev,
-                    len,
-                    marks,
-                };
-            }
             len = put_token(out, len, space, text, start, end);
             marks = marks_behind(marks, prev, kind);
             prev = kind;
+            spaced = space_behind(marks.loose, kind);
             at += ROW_BYTES;
         }
         Steady {
@@ -214,6 +192,53 @@ impl Formatter {
             loose: loose_behind(kinds::OTHER, self.prev_minus_is_unary),
         }
     }
+}
+
+// Whether the row at `at` is a token of the kinds `steady`, without trivia, that fits behind `len` of `size` bytes. One
+// space may stand before it, or none: `spaced`.
+fn takes(
+    steady: u64,
+    rows: &[u8],
+    at: usize,
+    bare: bool,
+    size: usize,
+    len: usize,
+    spaced: usize,
+) -> bool
+    requires { ⌜ RowAhead (now rows) at ⌝ }
+    requires { ⌜ (bare ≡ true → onlyTokens (rowsOf (now rows)) ≡ true) ⌝ }
+    requires { ⌜ (len ≤ size) × (size < 2 ^ 63) × (spaced < 2) ⌝ }
+    ensures { λ r. ⌜ (r ≡ true → Taken (now (rows .entry)) steady at size len spaced) ⌝ }
+{
+    if rows.len() <= at {
+        return false;
+    }
+    let row = row_at(rows, at);
+    let kind = row.kind;
+    if (steady >> kind) % 2 == 0 {
+        return false;
+    }
+    if !is_lone(rows, at, bare) {
+        return false;
+    }
+    has_room(
+        size,
+        len,
+        space_before(spaced, kind),
+        row.start as usize,
+        row.end as usize,
+    )
+}
+
+// How many spaces stand before a token of the kind, where one may: of the kinds that only write their lexeme, those
+// before Hash (closers, separators and dots) take none.
+fn space_before(spaced: usize, kind: u32) -> usize
+    ensures { λ r. ⌜ r ≡ spaceBefore spaced kind ⌝ }
+{
+    if kind < kinds::HASH {
+        return 0;
+    }
+    spaced
 }
 
 // The marks behind a token of the kind; most kinds change none.
@@ -329,16 +354,16 @@ fn is_lone(rows: &[u8], at: usize, bare: bool) -> bool
     behind.what != kinds::TRAILING
 }
 
-// Whether a lexeme has a byte, and fits with the space before it into `room` bytes.
-fn has_room(room: usize, space: usize, start: usize, end: usize) -> bool
-    requires { ⌜ space < 2 ⌝ }
-    requires { ⌜ end < 4294967296 ⌝ }
-    ensures { λ r. ⌜ (r ≡ true → (start < end) × (space + (end - start) ≤ room)) ⌝ }
+// Whether a lexeme has a byte, and fits with the space before it behind `len` of `size` bytes.
+fn has_room(size: usize, len: usize, space: usize, start: usize, end: usize) -> bool
+    requires { ⌜ (len ≤ size) × (size < 2 ^ 63) ⌝ }
+    requires { ⌜ (space < 2) × (end < 2 ^ 32) ⌝ }
+    ensures { λ r. ⌜ (r ≡ true → (start < end) × (space + (end - start) ≤ size - len)) ⌝ }
 {
     if end <= start {
         return false;
     }
-    space + (end - start) <= room
+    len + space + (end - start) <= size
 }
 
 // The last token's kind; 0 where there is none.

@@ -22,6 +22,9 @@ pub struct Place {
 // The list width from which on all tokens are measured together; below it a list's measure ends within so many tokens.
 const WIDE: u32 = 1024;
 
+// The bytes of rows up to which nothing is looked for: 64 rows, in which each lookahead is short.
+const FEW: usize = 1024;
+
 // The token whose rows start at `lead`: its own row alone, where there is no trivia.
 pub fn token_at(rows: &[u8], lead: usize, index: u32, bare: bool) -> TokenAt
     requires { ⌜ NextToken (now rows) lead bare ⌝ }
@@ -70,6 +73,13 @@ pub fn ends_of(rows: &[u8], list_width: u32) -> Ends
     requires { ⌜ length (now rows) ≤ 1048560 ⌝ }
     ensures { λ r. ⌜ Ending (now (rows .entry)) r ⌝ }
 {
+    if rows.len() <= FEW {
+        return Ends {
+            commas: rows.len(),
+            braces: rows.len(),
+            width: 0,
+        };
+    }
     let commas = behind_last(rows, kinds::COMMA);
     let braces = behind_last(rows, kinds::RIGHT_BRACE);
     if list_width < WIDE {

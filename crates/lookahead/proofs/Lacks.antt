@@ -27,6 +27,11 @@ module _ (k : ℕ) (r : Row) (rs : List Row) (e : lacks k (r ∷ rs) ≡ true) w
   unfolding lacks
   rest-lacks = and-right (not (eqb (r .what) TokenRow && eqb (r .kind) k)) (lacks k rs) e
 
+-- no row is left where the rows end
+pub none-left : (k : ℕ) (rows : List ℕ) (at : ℕ) → length rows ≤ at → lacks k (rowsOf (drop at rows)) ≡ true
+unfolding lacks
+none-left k rows at h = rw (part-none rows at (omega arith))
+
 -- ---- no comma: no list breaks
 
 commas-stay : (stops : Measure → ℕ → Bool) (top : Measure → Bool) (text : List ℕ) (m : Measure) (l : List Trivia) (rs : List Row) → lacks Comma rs ≡ true → measureFrom stops top m (sizes (tokensFrom text l rs)) .commas ≡ m .commas

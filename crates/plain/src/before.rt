@@ -79,11 +79,14 @@ pub fn fits_read(rows: &[u8], text: &[u8], at: usize, kind: u32, lexeme: &[u8]) 
 
 // ---- clauses 6 and 7, at a bracket
 
-// A `{` behind a comma, a `}` that leaves a record empty.
+// A `{` behind a comma, a `}` that leaves a record empty. Most brackets are neither: that is asked first.
 fn forbids(rows: &[u8], at: usize, kind: u32) -> bool
     requires { ⌜ (at ≤ length (now rows)) × (kind ≤ 8) ⌝ }
     ensures { λ r. ⌜ ((text : List ℕ) → r ≡ forbids (factsAt (now (rows .entry)) text at) kind) ⌝ }
 {
+    if kinds::RIGHT_BRACE < kind {
+        return false;
+    }
     match kind {
         kinds::LEFT_BRACE => follows_comma(rows, at),
         kinds::RIGHT_BRACE => empties_record(rows, at),

@@ -28,7 +28,7 @@ spaces-are p k unary g h =
 
 -- ---- bounds
 
-bit-few : (mask k : ℕ) → bit mask k ≤ 1
+pub bit-few : (mask k : ℕ) → bit mask k ≤ 1
 bit-few mask k = omega arith
 
 pub spaces-few : (loose p k : ℕ) → spaces loose p k ≤ 1

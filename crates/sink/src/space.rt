@@ -3,7 +3,7 @@ use rows::kinds;
 ghost use mathlib.Core.Path.{_≡_};
 ghost use Prim.Native.Nat.{_≤_};
 ghost use Rattle.rows.specs.Kinds.{Other};
-ghost use Rattle.sink.specs.Space.{looseKinds, looseBehind, spaces};
+ghost use Rattle.sink.specs.Space.{looseKinds, looseBehind, bit, spaces};
 
 // All kinds but LeftParen, LeftBracket, Dot, DotDot, ColonColon, Hash, Bang, BangHash: behind those no space stands.
 const SPACE_AFTER: u64 = 0x7_fffc_0faf;
@@ -50,7 +50,14 @@ pub fn spaces_between(loose: u64, prev: u32, kind: u32) -> usize
     requires { ⌜ (prev ≤ Other) × (kind ≤ Other) ⌝ }
     ensures { λ r. ⌜ r ≡ spaces loose prev kind ⌝ }
 {
-    let behind = (loose >> prev) % 2;
-    let before = (SPACE_BEFORE >> kind) % 2;
-    (behind * before) as usize
+    let before = ((SPACE_BEFORE >> kind) % 2) as usize;
+    space_behind(loose, prev) * before
+}
+
+// Whether there may be one behind a token of the kind: 1, else 0.
+pub fn space_behind(loose: u64, kind: u32) -> usize
+    requires { ⌜ kind ≤ Other ⌝ }
+    ensures { λ r. ⌜ r ≡ bit loose kind ⌝ }
+{
+    ((loose >> kind) % 2) as usize
 }

@@ -1,10 +1,14 @@
 -- `formatter::token::ends_of` meets its contract. Assumes nothing.
 use native.Mathlib.Omega.{arith}
 use borrow.Author.Needs.{needs}
-use Rattle.lookahead.proofs.Lacks.{none-behind}
 use Rattle.lookahead.proofs.Narrow.{width-part}
+use Rattle.lookahead.proofs.Lacks.{none-behind, none-left}
+use Rattle.rows.specs.Kinds.{RightBrace, Comma}
 use Rattle.formatter.proofs.token.ends_of.Statement.{statement}
 use Rattle.formatter.proofs.token.ends_of.Tie as tie
+
+returns : tie.Need-returns
+returns c = record { ahead = λ j. record { commas = none-left Comma (c .before .before .args .rows .now) _; braces = none-left RightBrace (c .before .before .args .rows .now) _; width = λ h. absurd (omega arith) } }
 
 behind-last-requires : tie.Need-behind-last-requires
 behind-last-requires c κs = search needs
@@ -12,14 +16,22 @@ behind-last-requires c κs = search needs
 behind-last-requires-2 : tie.Need-behind-last-requires-2
 behind-last-requires-2 c κs = search needs
 
-returns : tie.Need-returns
-returns c = record { ahead = λ j. record { commas = none-behind _ _ (c .before .before .behind-last .ensures) j; braces = none-behind _ _ (c .before .behind-last2 .ensures) j; width = λ h. absurd (omega arith) } }
+returns-2 : tie.Need-returns-2
+returns-2 c = record { ahead = λ j. record { commas = none-behind _ _ (c .before .before .behind-last .ensures) j; braces = none-behind _ _ (c .before .behind-last2 .ensures) j; width = λ h. absurd (omega arith) } }
 
 total-width-requires : tie.Need-total-width-requires
-total-width-requires c κs = c .before .before .before .before .pre
+total-width-requires c κs = c .before .before .before .before .before .pre
 
-returns-2 : tie.Need-returns-2
-returns-2 c = record { ahead = λ j. record { commas = none-behind _ _ (c .before .before .before .behind-last .ensures) j; braces = none-behind _ _ (c .before .before .behind-last2 .ensures) j; width = λ h. rw (c .total-width .ensures) (width-part j (c .before .before .before .before .before .args .rows .now)) } }
+returns-3 : tie.Need-returns-3
+returns-3 c = record { ahead = λ j. record { commas = none-behind _ _ (c .before .before .before .behind-last .ensures) j; braces = none-behind _ _ (c .before .before .behind-last2 .ensures) j; width = λ h. rw (c .total-width .ensures) (width-part j (c .before .before .before .before .before .before .args .rows .now)) } }
 
 pub ends-of-spec : {M : Type 1} → statement M
-ends-of-spec = tie.close (tie.spec behind-last-requires behind-last-requires-2 returns total-width-requires returns-2)
+ends-of-spec =
+    tie.close
+    (tie.spec
+    returns
+    behind-last-requires
+    behind-last-requires-2
+    returns-2
+    total-width-requires
+    returns-3)
