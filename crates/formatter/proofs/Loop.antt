@@ -338,11 +338,8 @@ module _ {rows text : List ℕ} {o : Options.Options} {k₀ l₀ k l : List ℕ}
   rows-left = (ι .going .head .within, let a = ω .whole in let b = ι .going .head .whole in omega arith)
 
   -- the rows up to a later place are few
-  pub past-within : {to : ℕ} → to ≡ at + 16 * ((to - at) / 16) → to ≤ length rows → (at ≤ to) × (to ≤ 1048560)
-  past-within w h = (omega arith, let b = ω .few in omega arith)
-
-  pub past-few : {to : ℕ} → to ≡ at + 16 * ((to - at) / 16) → to ≤ length rows → i + (to - at) / 16 ≤ 65535
-  past-few w h = let a = ι .going .index in let d = ω .few in omega arith
+  pub past : {to : ℕ} → to ≡ at + 16 * ((to - at) / 16) → to ≤ length rows → (at ≤ to) × (to ≤ 1048560) × (i + (to - at) / 16 ≤ 65535)
+  past w h = let a = ι .going .index in let d = ω .few in (omega arith, omega arith, omega arith)
 
   -- those that only write their lexeme
 

@@ -6,7 +6,7 @@ use crate::Options;
 use crate::TokenAt;
 use crate::token::Place;
 use crate::token::ends_of;
-use crate::token::rows_between;
+use crate::token::place_at;
 use crate::token::token_at;
 use rows::ROW_BYTES;
 use rows::kinds;
@@ -43,21 +43,20 @@ impl Formatter {
             r (now (out .exit)) ⌝ }
     {
         let ends = ends_of(rows, options.list_width);
-        let mut at = 0;
-        let mut index: u32 = 0;
-        while at < rows.len() {
-            let token = token_at(rows, at, index, bare);
+        let mut place = Place { at: 0, index: 0 };
+        while place.at < rows.len() {
+            let token = token_at(rows, place.at, place.index, bare);
             let inline_close = self.takes_inline_close(token);
             if token.lead == token.own {
                 self = self.clear_inline_close();
             } else {
                 self = self.push_leading(options, out, rows, text, token);
                 if out.len() < self.len {
-                    return Formatted::Full(index as usize);
+                    return Formatted::Full(place.index as usize);
                 }
             }
             if self.overflows(options, ends, rows, token) {
-                return Formatted::Deep(index as usize);
+                return Formatted::Deep(place.index as usize);
             }
             let trails = self.writes_trailing(stack, rows, token);
             self = self.push_token(options, ends, out, stack, rows, text, token, inline_close);
@@ -67,21 +66,17 @@ impl Formatter {
             let state = self.track_fn_state(token.kind);
             self.fn_state = state;
             if out.len() < self.len {
-                return Formatted::Full(index as usize);
+                return Formatted::Full(place.index as usize);
             }
-            let next = self.next_place(rows, token, bare);
-            at = next.at;
-            index = next.index;
-            if self.is_steady(rows, at) {
-                let ahead = self.push_steady(out, stack, rows, text, at, bare);
+            place = self.next_place(rows, token, bare);
+            if self.is_steady(rows, place.at) {
+                let ahead = self.push_steady(out, stack, rows, text, place.at, bare);
                 self = self.behind_steady(ahead);
-                index += rows_between(at, ahead.at);
-                at = ahead.at;
-            } else if self.is_nested(bare, rows, at) {
-                let braces = self.push_nested(out, rows, at);
+                place = place_at(place, ahead.at);
+            } else if self.is_nested(bare, rows, place.at) {
+                let braces = self.push_nested(out, rows, place.at);
                 self = self.behind_braces(braces);
-                index += rows_between(at, braces.at);
-                at = braces.at;
+                place = place_at(place, braces.at);
             }
         }
         Formatted::Finished(self.len, self.commas)

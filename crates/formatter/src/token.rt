@@ -97,10 +97,12 @@ pub fn ends_of(rows: &[u8], list_width: u32) -> Ends
     }
 }
 
-// How many rows stand between two places.
-pub fn rows_between(from: usize, to: usize) -> u32
-    requires { ⌜ (from ≤ to) × (to ≤ 1048560) ⌝ }
-    ensures { λ r. ⌜ r ≡ (to - from) / 16 ⌝ }
+// The place of the row at `at`: from `place` on, which stands before it, each row is a token's.
+pub fn place_at(place: Place, at: usize) -> Place
+    requires { ⌜ (place .at ≤ at) × (at ≤ 1048560) × (place .index + (at - place .at) / 16 ≤ 65535) ⌝ }
+    ensures { λ r. ⌜ (r .at ≡ at) × (r .index ≡ place .index + (at - place .at) / 16) ⌝ }
 {
-    ((to - from) / ROW_BYTES) as u32
+    let passed = (at - place.at) / ROW_BYTES;
+    let index = place.index + passed as u32;
+    Place { at, index }
 }
