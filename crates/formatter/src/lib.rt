@@ -88,24 +88,24 @@ pub struct Ends {
 
 // The fields of format.rs under its names. The port adds `len`, the length of the text, which is one past the
 // output's end once something did not fit; `break_count`, the number of entries of the broken-group stack;
-// and `commas`, the number of inserted commas. Their order is the one of about 190 that takes the fewest
-// instructions (docs/BENCHMARKS.md); the order of format.rs takes a tenth more.
+// and `commas`, the number of inserted commas. Their order was found by counting instructions
+// (docs/BENCHMARKS.md); the order of format.rs takes a tenth more.
 pub struct Formatter {
-    pub just_closed_inline: bool,
-    pub record_depth: RecordDepth,
-    pub in_record: bool,
-    pub record_pending: bool,
-    pub indent: usize,
-    pub group_depth: GroupDepth,
-    pub suppress_newline_at: Suppressed,
     pub fn_state: u8,
-    pub len: usize,
-    pub at_line_start: bool,
-    pub prev_minus_is_unary: bool,
     pub inline_depth: InlineDepth,
-    pub break_count: usize,
-    pub commas: usize,
+    pub in_record: bool,
+    pub just_closed_inline: bool,
+    pub prev_minus_is_unary: bool,
     pub sig_break_depth: SignatureDepth,
+    pub record_depth: RecordDepth,
+    pub record_pending: bool,
+    pub at_line_start: bool,
+    pub indent: usize,
+    pub len: usize,
+    pub commas: usize,
+    pub suppress_newline_at: Suppressed,
+    pub group_depth: GroupDepth,
+    pub break_count: usize,
     pub prev: Before,
 }
 
@@ -121,23 +121,23 @@ impl Formatter {
         ensures { λ r. ⌜ ((stack : List ℕ) → 64 ≤ length stack → Fresh r stack) ⌝ }
     {
         Formatter {
-            just_closed_inline: false,
-            record_depth: RecordDepth(0),
+            fn_state: 0,
+            inline_depth: InlineDepth(0),
             in_record: false,
+            just_closed_inline: false,
+            prev_minus_is_unary: false,
+            sig_break_depth: SignatureDepth(Broken::Nowhere),
+            record_depth: RecordDepth(0),
             record_pending: false,
+            at_line_start: true,
             indent: 0,
-            group_depth: GroupDepth(0),
+            len: 0,
+            commas: 0,
             suppress_newline_at: Suppressed {
                 at: NewlineAt::Never,
             },
-            fn_state: 0,
-            len: 0,
-            at_line_start: true,
-            prev_minus_is_unary: false,
-            inline_depth: InlineDepth(0),
+            group_depth: GroupDepth(0),
             break_count: 0,
-            commas: 0,
-            sig_break_depth: SignatureDepth(Broken::Nowhere),
             prev: Before {
                 kind: Prev::Nothing,
             },
