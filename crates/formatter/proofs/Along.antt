@@ -1,5 +1,5 @@
 -- The loop over tokens that only write their lexeme: what holds at each turn, and what a turn does with it. Assumes nothing.
-use mathlib.Core.Bool.{true, false, cond, not, _&&_, _||_}
+use mathlib.Core.Bool.{true, false, cond, not, _||_}
 use mathlib.Core.List.{List, [], _∷_, _++_}
 use mathlib.Core.Option.{none, some}
 use mathlib.Core.Path.{_≡_, refl, sym, ap, _∙_}

@@ -78,8 +78,9 @@ pub struct TokenAt {
     pub next: usize,
 }
 
-// Behind the last Comma and behind the last `}` of all rows: from there on no list breaks, and no block is one line.
-// `width` is of all tokens together, as a list's width counts them; 0 where it was not measured.
+// Behind the last Comma and behind the last `}` of all rows, or the rows' end where they were not looked for: from
+// there on no list breaks, and no block is one line. `width` is of all tokens together, as a list's width counts
+// them; 0 where it was not measured.
 pub struct Ends {
     pub commas: usize,
     pub braces: usize,

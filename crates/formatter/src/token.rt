@@ -68,7 +68,7 @@ fn rows_end(rows: &[u8], at: usize, what: u32) -> usize
     end
 }
 
-// What stands for the last time in the rows, and how wide all tokens are, found once.
+// What stands for the last time in the rows, and how wide all tokens are, found once; few rows are not searched.
 pub fn ends_of(rows: &[u8], list_width: u32) -> Ends
     requires { ⌜ length (now rows) ≤ 1048560 ⌝ }
     ensures { λ r. ⌜ Ending (now (rows .entry)) r ⌝ }

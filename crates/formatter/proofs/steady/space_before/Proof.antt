@@ -1,6 +1,5 @@
 -- `formatter::steady::space_before` meets its contract. Assumes nothing.
 use borrow.Author.Tests.{lt-ltb, le-ltb}
-use borrow.Author.Needs.{needs}
 use Rattle.formatter.proofs.steady.space_before.Statement.{statement}
 use Rattle.formatter.proofs.steady.space_before.Tie as tie
 
