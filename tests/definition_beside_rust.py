@@ -1,5 +1,5 @@
 #!/usr/bin/env python3
-"""Holds the definition of the layout call (crates/push_token/specs/Layout.antt: `layout`) against the Rust, by computation.
+"""Holds the definition of the layout call (crates/definition/specs/Layout.antt: `layout`) against the Rust, by computation.
 
     python3 tests/definition_beside_rust.py [LISTS [SEED]]
 

@@ -7,7 +7,7 @@ use native.Mathlib.Omega.{arith}
 use lib.ListN.{length, set, length-set, length-append, drop-of-length-le}
 use lib.Seq.{sets, sets-eq}
 use mir.Val.{boolByte}
-use Rattle.report.specs.Report.{Report}
+use Rattle.shared.specs.Report.{Report}
 use Rattle.sheet.proofs.Writing.{sets-append}
 use Rattle.doors.specs.Bytes.{littleEndian, reportBytes}
 

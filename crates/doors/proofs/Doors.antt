@@ -4,7 +4,7 @@ use mathlib.Core.Path.{_≡_, ap, _∙_}
 use Prim.Native.Nat.{ℕ}
 use lib.ListN.{length}
 use borrow.Author.Tests.{eq-eqb, ne-eqb}
-use Rattle.report.specs.Report.{Report, report}
+use Rattle.shared.specs.Report.{Report, report}
 use Rattle.doors.specs.Bytes.{reportBytes}
 use Rattle.doors.specs.Door.{doorRefusal, doorReport, doorSlice}
 

@@ -2,7 +2,7 @@
 -- Assumes nothing.
 use mathlib.Core.List.{List, [], _∷_, _++_}
 use Prim.Native.Nat.{ℕ, zero, suc, _/_, _%_}
-use Rattle.report.specs.Report.{Report}
+use Rattle.shared.specs.Report.{Report}
 
 -- The n lowest bytes of a number, the lowest first.
 unfoldable pub littleEndian : ℕ → ℕ → List ℕ

@@ -5,7 +5,7 @@ use mathlib.Core.List.{List}
 use Prim.Native.Nat.{ℕ}
 use lib.Dec.{eqb}
 use lib.ListN.{length}
-use Rattle.report.specs.Report.{Report, report}
+use Rattle.shared.specs.Report.{Report, report}
 use Rattle.doors.specs.Bytes.{reportBytes}
 
 -- Refusal 11 is for a report slice that isn't 24 bytes.

@@ -1,6 +1,6 @@
 -- What the steps of a door promise to it.
 -- Assumes nothing.
-use Rattle.report.specs.Report.{Report}
+use Rattle.shared.specs.Report.{Report}
 use Rattle.doors.specs.declared.fill.Report.{}
 
 -- the report that a `Report` of the code is

@@ -3,7 +3,7 @@ ghost use mathlib.Core.Path.{_≡_};
 ghost use Prim.Native.Nat.{_+_, _≤_};
 ghost use lib.ListN.{length};
 ghost use lib.Seq.{sets};
-ghost use Rattle.report.specs.Report.{success, refuse};
+ghost use Rattle.shared.specs.Report.{success, refuse};
 ghost use Rattle.doors.specs.Bytes.{littleEndian, reportBytes};
 ghost use Rattle.doors.specs.Steps.{reportOf};
 

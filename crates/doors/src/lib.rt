@@ -8,7 +8,7 @@ use pieces::read_pieces;
 use sheet::read_sheet;
 ghost use mathlib.Core.Path.{_≡_};
 ghost use lib.ListN.{length};
-ghost use Rattle.push_token.specs.Layout.{layout};
+ghost use Rattle.definition.specs.Layout.{layout};
 ghost use Rattle.format_source.specs.Source.{layoutSource};
 ghost use Rattle.sheet.specs.Answer.{sheetAnswer, sheetRows, sheetText};
 ghost use Rattle.pieces.specs.Answer.{readAnswer, readSlots};

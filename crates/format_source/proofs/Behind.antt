@@ -11,11 +11,11 @@ use lib.Dec.{eqb, leb, ltb}
 use lib.ListN.{length, take, drop, length-append, length-take, length-drop, take-append-drop, drop-of-length-le}
 use lib.Seq.{take-all, drop-at}
 use borrow.Author.Tests.{eqb-true, leb-true, leb-false, lt-ltb, le-ltb, ltb-false}
-use Rattle.report.specs.Bytes.{lineFeed}
-use Rattle.report.specs.Report.{Report, success, refuse, accepted, zeroed, option, raggedRows, badRow, deep, full}
-use Rattle.report.proofs.Logic.{split, or-cases}
-use Rattle.push_token.specs.Layout.{Layout, layout}
-use Rattle.push_token.proofs.Laid.{layout-size, layout-fits, layout-unchanged}
+use Rattle.shared.specs.Bytes.{lineFeed}
+use Rattle.shared.specs.Report.{Report, success, refuse, accepted, zeroed, option, raggedRows, badRow, deep, full}
+use Rattle.shared.proofs.Logic.{split, or-cases}
+use Rattle.definition.specs.Layout.{Layout, layout}
+use Rattle.definition.proofs.Laid.{layout-size, layout-fits, layout-unchanged}
 use Rattle.format_tokens.specs.declared.Answer.{Answer}
 use Rattle.format_tokens.specs.declared.Answer.the-variants.{Text, BadOption, RaggedRows, BadRow, Deep, Full}
 use Rattle.format_tokens.specs.Answer.{reported}

@@ -6,12 +6,12 @@ use native.Mathlib.Omega.{arith}
 use lib.Dec.{ltb}
 use lib.ListN.{length}
 use borrow.Author.Tests.{eqb-false}
-use Rattle.report.specs.Report.{accepted}
-use Rattle.report.proofs.Logic.{split}
+use Rattle.shared.specs.Report.{accepted}
+use Rattle.shared.proofs.Logic.{split}
 use Rattle.pieces.specs.Answer.{readAnswer, readSlots}
-use Rattle.push_token.specs.Layout.{Layout, layout}
-use Rattle.push_token.specs.Demand3.{lexemes, IsPlain, textOf, FirstHalfOf, SecondHalfOf}
-use Rattle.push_token.proofs.Demand3.{first-half, second-half}
+use Rattle.definition.specs.Layout.{Layout, layout}
+use Rattle.definition.specs.Demand3.{lexemes, IsPlain, textOf, FirstHalfOf, SecondHalfOf}
+use Rattle.definition.proofs.Demand3.{first-half, second-half}
 use Rattle.format_source.specs.Source.{shebang, beforeWalk, behind, putFirst, layoutSource}
 use Rattle.format_source.specs.Demand3.{FirstHalfSource, SecondHalfSource, SecondHalfBeside}
 use Rattle.format_source.proofs.Behind.{of-checks}

@@ -10,8 +10,8 @@ use lib.Dec.{eqb}
 use lib.ListN.{length, take, drop, set, getD, length-set, drop-of-length-le}
 use lib.Seq.{drop-cons, take-length, append-snoc, set-append-seam, paste-suc}
 use borrow.Author.Tests.{eq-eqb, ne-eqb, eqb-true}
-use Rattle.report.proofs.Logic.{split}
-use Rattle.report.specs.Bytes.{byte, lineFeed}
+use Rattle.shared.proofs.Logic.{split}
+use Rattle.shared.specs.Bytes.{byte, lineFeed}
 use Rattle.format_source.specs.Source.{firstLine, isShebang}
 
 -- ---- the line's end

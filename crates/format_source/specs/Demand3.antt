@@ -5,8 +5,8 @@ use mathlib.Core.List.{List}
 use Prim.Native.Nat.{ℕ}
 use lib.ListN.{length}
 use Rattle.pieces.specs.Answer.{readAnswer, readSlots}
-use Rattle.push_token.specs.Layout.{layout}
-use Rattle.push_token.specs.Demand3.{lexemes, textOf, FirstHalfOf, SecondHalfOf}
+use Rattle.definition.specs.Layout.{layout}
+use Rattle.definition.specs.Demand3.{lexemes, textOf, FirstHalfOf, SecondHalfOf}
 use Rattle.format_source.specs.Source.{layoutSource}
 
 -- The first half, for every call of the wrapper.

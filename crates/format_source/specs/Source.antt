@@ -6,9 +6,9 @@ use mathlib.Core.List.{List, [], _∷_, _++_}
 use Prim.Native.Nat.{ℕ, _+_}
 use lib.Dec.{eqb, ltb}
 use lib.ListN.{length, drop, getD}
-use Rattle.report.specs.Bytes.{byte, lineFeed}
-use Rattle.report.specs.Report.{Report, success, refuse, accepted, zeroed, option, raggedRows, badRow, full}
-use Rattle.push_token.specs.Layout.{Layout, layout}
+use Rattle.shared.specs.Bytes.{byte, lineFeed}
+use Rattle.shared.specs.Report.{Report, success, refuse, accepted, zeroed, option, raggedRows, badRow, full}
+use Rattle.definition.specs.Layout.{Layout, layout}
 
 -- the bytes before the first line feed, or all of them
 unfoldable pub firstLine : List ℕ → List ℕ

@@ -1,12 +1,12 @@
 // The layout of a source's tokens behind its shebang line (document 01, 'Around the call').
 use format_tokens::Answer;
 use format_tokens::format_tokens_with;
-use report::clear_bytes;
+use shared::clear_bytes;
 ghost use mathlib.Core.List.{_++_};
 ghost use mathlib.Core.Path.{_≡_};
 ghost use Prim.Native.Nat.{_+_, _-_, _≤_, _<_, min};
 ghost use lib.ListN.{length, drop};
-ghost use Rattle.report.specs.Bytes.{lineFeed};
+ghost use Rattle.shared.specs.Bytes.{lineFeed};
 ghost use Rattle.format_tokens.specs.Answer.{reported};
 ghost use Rattle.format_source.specs.Source.{firstLine, isShebang, shebang, beforeWalk, putFirst, layoutSource};
 

@@ -6,12 +6,12 @@ use mathlib.Core.Path.{_≡_, refl, sym, _∙_}
 use Prim.Native.Nat.{ℕ}
 use lib.Dec.{eqb}
 use lib.ListN.{length}
-use Rattle.report.proofs.Logic.{and-left, and-right}
+use Rattle.shared.proofs.Logic.{and-left, and-right}
 use Rattle.rows.specs.Kinds.{TokenRow}
 use Rattle.rows.specs.Row.{Row, rowsOf}
 use Rattle.rows.specs.Checks.{atStart, badFrom}
 use Rattle.rows.specs.Token.{bytesOf, tokensOf}
-use Rattle.push_token.specs.Plain.{plain}
+use Rattle.definition.specs.Plain.{plain}
 use Rattle.plain.specs.Scan.{Facts, unseen, fits, behind, plainRows}
 use Rattle.plain.proofs.Rows.{pass}
 use Rattle.formatter.specs.Format.{onlyTokens}

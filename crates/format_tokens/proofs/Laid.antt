@@ -7,16 +7,16 @@ use native.Mathlib.Omega.{arith}
 use lib.Dec.{eqb, ltb}
 use lib.ListN.{length, drop, replicate}
 use borrow.Author.Tests.{eqb-true, ne-eqb, ltb-false}
-use Rattle.report.specs.Report.{Report, success, refuse, zeroed, deep, full, bit}
-use Rattle.report.proofs.Logic.{split}
+use Rattle.shared.specs.Report.{Report, success, refuse, zeroed, deep, full, bit}
+use Rattle.shared.proofs.Logic.{split}
 use Rattle.rows.specs.Options.{Options, optionsOf, badOption}
 use Rattle.rows.specs.Answer.{eachRowReport, rowsReport, checkReport}
 use Rattle.rows.specs.Token.{tokensOf}
 use Rattle.rows.proofs.Passed.{Passed, whole-rows, few-rows}
-use Rattle.push_token.specs.Act.{State}
-use Rattle.push_token.specs.Plain.{plain}
-use Rattle.push_token.specs.Layout.{Ended, finished, stopped, lay, laidOut, layout}
-use Rattle.push_token.proofs.Laid.{sane, lay-sane}
+use Rattle.definition.specs.Act.{State}
+use Rattle.definition.specs.Plain.{plain}
+use Rattle.definition.specs.Layout.{Ended, finished, stopped, lay, laidOut, layout}
+use Rattle.definition.proofs.Laid.{sane, lay-sane}
 use Rattle.formatter.specs.declared.Formatted.{Formatted}
 use Rattle.formatter.specs.declared.Formatted.the-variants.{Finished, Deep, Full}
 use Rattle.formatter.specs.Format.{Walks, formattedOf, Laid}

@@ -2,8 +2,8 @@
 use mathlib.Core.Bool.{true, false, cond}
 use mathlib.Core.Path.{_≡_, refl}
 use lib.Dec.{eqb}
-use Rattle.report.specs.Report.{Report, option, raggedRows, badRow, deep, full}
-use Rattle.report.proofs.Injective.{injective}
+use Rattle.shared.specs.Report.{Report, option, raggedRows, badRow, deep, full}
+use Rattle.shared.proofs.Injective.{injective}
 use Rattle.format_tokens.specs.declared.Answer.{Answer}
 use Rattle.format_tokens.specs.declared.Answer.the-variants.{Text, BadOption, RaggedRows, BadRow, Deep, Full}
 use Rattle.format_tokens.specs.Answer.{reported}

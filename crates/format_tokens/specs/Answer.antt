@@ -1,6 +1,6 @@
 -- What the layout answers.
 -- Assumes nothing.
-use Rattle.report.specs.Report.{Report, success, refuse, option, raggedRows, badRow, deep, full, bit}
+use Rattle.shared.specs.Report.{Report, success, refuse, option, raggedRows, badRow, deep, full, bit}
 use Rattle.format_tokens.specs.declared.Answer.{Answer}
 use Rattle.format_tokens.specs.declared.Answer.the-variants.{Text, BadOption, RaggedRows, BadRow, Deep, Full}
 

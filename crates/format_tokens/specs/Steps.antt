@@ -5,8 +5,8 @@ use Prim.Native.Nat.{ℕ}
 use lib.ListN.{length}
 use Rattle.rows.specs.Options.{Options}
 use Rattle.rows.specs.Token.{tokensOf}
-use Rattle.push_token.specs.Plain.{plain}
-use Rattle.push_token.specs.Layout.{Layout, lay, laidOut}
+use Rattle.definition.specs.Plain.{plain}
+use Rattle.definition.specs.Layout.{Layout, lay, laidOut}
 
 -- the layout of rows that refusals 1, 2 and 3 let pass
 abbrev pub walkedLayout : Options → List ℕ → List ℕ → List ℕ → Layout

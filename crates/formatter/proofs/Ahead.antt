@@ -8,19 +8,19 @@ use native.Mathlib.Omega.{arith}
 use lib.Dec.{eqb, leb, ltb}
 use lib.ListN.{length, drop}
 use borrow.Author.Tests.{leb-true, leb-false}
-use Rattle.report.proofs.Logic.{split, and-right, impossible′}
+use Rattle.shared.proofs.Logic.{split, and-right, impossible′}
 use Rattle.rows.specs.Kinds.{Other, TokenRow, Trailing}
 use Rattle.rows.specs.Options
 use Rattle.rows.specs.Row.{Row, rowsOf}
 use Rattle.rows.specs.Token.{tokensOf}
 use Rattle.rows.proofs.RowList.{rows-drop, rows-length}
-use Rattle.push_token.specs.Formatter as definition
-use Rattle.push_token.specs.Act.{State, run, update}
-use Rattle.push_token.specs.Emit.{isSome}
-use Rattle.push_token.specs.Arms.{nextIs}
-use Rattle.push_token.specs.PushToken.{pushToken, turn}
-use Rattle.push_token.specs.Layout.{finished, layFrom}
-use Rattle.push_token.proofs.Last.{Told}
+use Rattle.definition.specs.Formatter as definition
+use Rattle.definition.specs.Act.{State, run, update}
+use Rattle.definition.specs.Emit.{isSome}
+use Rattle.definition.specs.Arms.{nextIs}
+use Rattle.definition.specs.PushToken.{pushToken, turn}
+use Rattle.definition.specs.Layout.{finished, layFrom}
+use Rattle.definition.proofs.Last.{Told}
 use Rattle.sink.proofs.Sink.{nothing, later}
 use Rattle.formatter.specs.declared.Formatter.{Formatter}
 use Rattle.formatter.specs.declared.Prev.{Prev}

@@ -9,7 +9,7 @@ use borrow.Author.Tests.{lt-ltb, le-ltb, eqb-true, not-true}
 use lib.Dec.{eqb, ltb}
 use lib.ListN.{length, take, drop, replicate, length-append, length-replicate}
 use lib.Seq.{length-slice, length-take-le}
-use Rattle.report.proofs.Logic.{split, impossible′, and-left, and-right}
+use Rattle.shared.proofs.Logic.{split, impossible′, and-left, and-right}
 use Rattle.rows.specs.Kinds.{TokenRow, RightBrace, Other}
 use Rattle.rows.specs.Row.{Row, rowAt, rowsOf}
 use Rattle.rows.specs.Bounds.{Inside}
@@ -18,12 +18,12 @@ use Rattle.rows.specs.Checks.{topKind}
 use Rattle.rows.specs.Token.{bytesOf, tokensOf}
 use Rattle.rows.proofs.RowList.{part-cons}
 use Rattle.rows.proofs.Sound.{first-sound}
-use Rattle.push_token.specs.Formatter.{Formatter}
-use Rattle.push_token.specs.Act.{State, state, run}
-use Rattle.push_token.specs.Emit.{isSome, isAt, spaceAfter}
-use Rattle.push_token.specs.Arms.{atRecordFields, inBrokenList}
-use Rattle.push_token.specs.PushToken.{turn}
-use Rattle.push_token.specs.Layout.{finished, layFrom}
+use Rattle.definition.specs.Formatter.{Formatter}
+use Rattle.definition.specs.Act.{State, state, run}
+use Rattle.definition.specs.Emit.{isSome, isAt, spaceAfter}
+use Rattle.definition.specs.Arms.{atRecordFields, inBrokenList}
+use Rattle.definition.specs.PushToken.{turn}
+use Rattle.definition.specs.Layout.{finished, layFrom}
 use Rattle.sink.specs.Sink.{Writes}
 use Rattle.sink.specs.Space.{bit, spaces}
 use Rattle.sink.proofs.Sink.{later}
@@ -86,7 +86,7 @@ module _ {rows text : List ℕ} {at : ℕ} (ω : Walks rows text) (η : Head row
     lay-lone o size i s {s′} e f d =
         ap (λ x. layFrom o size (finished s) i x) lone-tokens
         ∙ lay-more o size s i (lone text (rowAt rows at)) (tokensOf (drop (at + 16) rows) text)
-        ∙ ap (λ x. layFrom o size (Rattle.push_token.specs.Layout.checked size i x) (i + 1) (tokensOf (drop (at + 16) rows) text)) e
+        ∙ ap (λ x. layFrom o size (Rattle.definition.specs.Layout.checked size i x) (i + 1) (tokensOf (drop (at + 16) rows) text)) e
         ∙ ap (λ x. layFrom o size x (i + 1) (tokensOf (drop (at + 16) rows) text)) (goes-on size i s′ f d)
 
 -- ---- what holds at the loop's head

@@ -6,17 +6,17 @@ use mathlib.Core.Path.{_≡_, refl, sym, ap, _∙_}
 use Prim.Native.Nat.{ℕ}
 use lib.Dec.{eqb}
 use borrow.Author.Tests.{eqb-true}
-use Rattle.report.proofs.Logic.{either, impossible}
+use Rattle.shared.proofs.Logic.{either, impossible}
 use Rattle.rows.specs.Kinds.{Eof, Newline, LeftBrace, RightBrace, LeftParen, RightParen, LeftBracket, RightBracket, Comma, Else}
 use Rattle.rows.specs.Options.{Options}
 use Rattle.rows.specs.Token.{Trivia, lineComment, docComment, blockComment, blankLine, Token}
-use Rattle.push_token.specs.Formatter.{Formatter, setAtLineStart}
-use Rattle.push_token.specs.Act.{State, Act, run, _⨾_, choose, nothing}
-use Rattle.push_token.specs.Emit.{isAt, leadingTrivia, trailingTrivia, openBlockMultiline}
-use Rattle.push_token.specs.Arms.{newlineArm, rightBraceArm, emptyRecord, openBlock, leftBraceArm, leftParenArm, leftBracketArm, rightParenArm, closeArray, rightBracketArm, commaArm, elseArm, otherArm}
-use Rattle.push_token.specs.PushToken.{arm}
+use Rattle.definition.specs.Formatter.{Formatter, setAtLineStart}
+use Rattle.definition.specs.Act.{State, Act, run, _⨾_, choose, nothing}
+use Rattle.definition.specs.Emit.{isAt, leadingTrivia, trailingTrivia, openBlockMultiline}
+use Rattle.definition.specs.Arms.{newlineArm, rightBraceArm, emptyRecord, openBlock, leftBraceArm, leftParenArm, leftBracketArm, rightParenArm, closeArray, rightBracketArm, commaArm, elseArm, otherArm}
+use Rattle.definition.specs.PushToken.{arm}
 use Rattle.formatter.specs.Parts.{returnsEarly}
-use Rattle.push_token.proofs.After.{After, chosen, first}
+use Rattle.definition.proofs.After.{After, chosen, first}
 
 -- ---- trivia
 

@@ -5,16 +5,16 @@ use mathlib.Core.Path.{_≡_, sym}
 use Prim.Native.Nat.{ℕ, _+_}
 use native.Mathlib.Omega.{arith}
 use borrow.Author.Tests.{ltb-false}
-use Rattle.report.proofs.Logic.{split}
+use Rattle.shared.proofs.Logic.{split}
 use Rattle.rows.specs.Kinds.{LeftBrace, RightBrace}
 use Rattle.rows.specs.Options.{Options, SameLine, Allman}
 use Rattle.rows.specs.Token.{Token}
 use Rattle.lookahead.specs.Measure.{blockIsSingleLine}
-use Rattle.push_token.specs.Formatter.{setInlineDepth, setRecordPending, setInRecord, setRecordDepth}
-use Rattle.push_token.specs.Act.{State, Act, update, _⨾_, if, run}
-use Rattle.push_token.specs.Emit.{endedBy, openBlockMultiline, openAllman, openSameLine}
-use Rattle.push_token.specs.Arms.{inOneLineBlock, nextIs, emptyRecord, openBlock, leftBraceArm, openInnerInline, openInline}
-use Rattle.push_token.proofs.Said.{said}
+use Rattle.definition.specs.Formatter.{setInlineDepth, setRecordPending, setInRecord, setRecordDepth}
+use Rattle.definition.specs.Act.{State, Act, update, _⨾_, if, run}
+use Rattle.definition.specs.Emit.{endedBy, openBlockMultiline, openAllman, openSameLine}
+use Rattle.definition.specs.Arms.{inOneLineBlock, nextIs, emptyRecord, openBlock, leftBraceArm, openInnerInline, openInline}
+use Rattle.definition.proofs.Said.{said}
 use Rattle.sink.specs.Sink.{Writes}
 use Rattle.formatter.specs.Pen.{Aside, Pen, stateOf, formatterOf}
 use Rattle.formatter.specs.Parts.{opensBlock, recordEntered, openOneLine, oneLineBytes, braced}

@@ -8,12 +8,12 @@ use lib.Dec.{eqb}
 use Rattle.rows.specs.Kinds.{Newline, LeftBrace, RightBrace, LeftParen, LeftBracket, Fn}
 use Rattle.rows.specs.Options.{Options}
 use Rattle.rows.specs.Token.{Token}
-use Rattle.push_token.specs.Formatter.{Formatter, setInlineDepth, setJustClosedInline}
-use Rattle.push_token.specs.Act.{state, run}
-use Rattle.report.specs.Bytes.{space}
-use Rattle.push_token.specs.Emit.{endedBy, trackFnState}
-use Rattle.push_token.specs.Arms.{inOneLineBlock, rightBraceArm, leftBraceArm}
-use Rattle.push_token.specs.PushToken.{arm, takeInlineClose, turn}
+use Rattle.definition.specs.Formatter.{Formatter, setInlineDepth, setJustClosedInline}
+use Rattle.definition.specs.Act.{state, run}
+use Rattle.shared.specs.Bytes.{space}
+use Rattle.definition.specs.Emit.{endedBy, trackFnState}
+use Rattle.definition.specs.Arms.{inOneLineBlock, rightBraceArm, leftBraceArm}
+use Rattle.definition.specs.PushToken.{arm, takeInlineClose, turn}
 use Rattle.formatter.specs.declared.nested.Braces.{Braces}
 use Rattle.formatter.specs.Nested.{Inline, behindBraces, opener, closer, opened, closed}
 use Rattle.formatter.proofs.Turn.{by-arm, with-same, fn-kept}

@@ -6,9 +6,9 @@ use borrow.Author.Tests.{ne-eqb}
 use Rattle.rows.specs.Kinds.{Eof, Newline, LeftBrace, RightBrace, LeftParen, RightParen, LeftBracket, RightBracket, Comma, Else}
 use Rattle.rows.specs.Options.{Options}
 use Rattle.rows.specs.Token.{Token}
-use Rattle.push_token.specs.Act.{nothing}
-use Rattle.push_token.specs.Arms.{newlineArm, rightBraceArm, leftBraceArm, leftParenArm, leftBracketArm, rightParenArm, rightBracketArm, commaArm, elseArm, otherArm}
-use Rattle.push_token.specs.PushToken.{arm}
+use Rattle.definition.specs.Act.{nothing}
+use Rattle.definition.specs.Arms.{newlineArm, rightBraceArm, leftBraceArm, leftParenArm, leftBracketArm, rightParenArm, rightBracketArm, commaArm, elseArm, otherArm}
+use Rattle.definition.specs.PushToken.{arm}
 use Rattle.formatter.specs.Pen.{Aside, Pen}
 use Rattle.formatter.specs.Does.{Does}
 use Rattle.formatter.proofs.Does.{yes, no}

@@ -7,16 +7,16 @@ use native.Mathlib.Omega.{arith}
 use lib.ListN.{length, drop}
 use lib.Seq.{drop-drop}
 use borrow.Author.Tests.{ne-eqb}
-use Rattle.report.specs.Bytes.{space}
+use Rattle.shared.specs.Bytes.{space}
 use Rattle.rows.specs.Kinds.{BlockComment}
 use Rattle.rows.specs.Row.{Row, rowAt, firstRows}
 use Rattle.rows.specs.Bounds.{Inside, InBounds}
 use Rattle.rows.specs.Options.{Options}
 use Rattle.rows.specs.Token.{Trivia, lineComment, docComment, blockComment, blankLine, bytesOf, triviaOf}
 use Rattle.rows.proofs.RowList.{row-drop}
-use Rattle.push_token.specs.Act.{State, run}
-use Rattle.push_token.specs.Emit.{indentOrSpace, leadingTrivia, trailingTrivia, leadAct}
-use Rattle.push_token.proofs.Said.{said}
+use Rattle.definition.specs.Act.{State, run}
+use Rattle.definition.specs.Emit.{indentOrSpace, leadingTrivia, trailingTrivia, leadAct}
+use Rattle.definition.proofs.Said.{said}
 use Rattle.sink.specs.Sink.{Writes}
 use Rattle.sink.specs.Comment.{commentHead, leadTail, trailHead, trailTail}
 use Rattle.sink.proofs.Sink.{andThen, nothing}

@@ -9,9 +9,9 @@ use borrow.Author.Tests.{leb-true, leb-false}
 use lib.Dec.{leb}
 use lib.ListN.{length, take, length-append}
 use lib.Seq.{length-take-le}
-use Rattle.push_token.specs.Formatter.{Formatter}
-use Rattle.push_token.specs.Act.{State, state, Act, update, gap, lexeme, insert, _⨾_, choose, if, run}
-use Rattle.push_token.proofs.Said.{said, run-said}
+use Rattle.definition.specs.Formatter.{Formatter}
+use Rattle.definition.specs.Act.{State, state, Act, update, gap, lexeme, insert, _⨾_, choose, if, run}
+use Rattle.definition.proofs.Said.{said, run-said}
 use Rattle.sink.specs.Sink.{Writes, countComma}
 use Rattle.formatter.specs.Pen.{Aside, Pen, stateOf, asideOf, formatterOf}
 use Rattle.formatter.specs.Does.{Arrives, Does}

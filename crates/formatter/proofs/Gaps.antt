@@ -4,12 +4,12 @@ use mathlib.Core.List.{List, [], _++_}
 use mathlib.Core.Path.{_≡_, refl}
 use Prim.Native.Nat.{ℕ, _*_}
 use lib.ListN.{replicate}
-use Rattle.report.specs.Bytes.{space}
+use Rattle.shared.specs.Bytes.{space}
 use Rattle.rows.specs.Kinds.{LeftBrace}
 use Rattle.rows.specs.Options.{Options}
-use Rattle.push_token.specs.Formatter.{Formatter}
-use Rattle.push_token.specs.Emit.{prevIs, tokenGap, spaceAfter, indentOrSpace}
-use Rattle.push_token.specs.Arms.{inlineCloseGap}
+use Rattle.definition.specs.Formatter.{Formatter}
+use Rattle.definition.specs.Emit.{prevIs, tokenGap, spaceAfter, indentOrSpace}
+use Rattle.definition.specs.Arms.{inlineCloseGap}
 use Rattle.sink.specs.Sink.{Writes}
 use Rattle.sink.proofs.Sink.{same-bytes}
 use Rattle.formatter.specs.Parts.{gapSize, inlineCloseSize, indentOrSpaceSize}

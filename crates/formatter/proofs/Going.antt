@@ -9,17 +9,17 @@ use borrow.Author.Tests.{leb-true, leb-false, le-ltb, lt-ltb}
 use lib.Dec.{leb}
 use lib.ListN.{length, take, drop, take-append-drop}
 use lib.Seq.{length-take-le}
-use Rattle.report.specs.Report.{deep, full}
-use Rattle.report.proofs.Logic.{split}
+use Rattle.shared.specs.Report.{deep, full}
+use Rattle.shared.proofs.Logic.{split}
 use Rattle.rows.specs.Kinds.{Other}
 use Rattle.rows.specs.Options
 use Rattle.rows.specs.Token.{Token, tokensOf}
-use Rattle.push_token.specs.Formatter
-use Rattle.push_token.specs.Act.{State, state, run}
-use Rattle.push_token.specs.PushToken.{overflows, turn, begun}
-use Rattle.push_token.specs.Layout.{finished, stopped, checked, layFrom}
-use Rattle.push_token.proofs.Growth.{depth, Grown, turn-grown}
-use Rattle.push_token.proofs.Last.{Told, turn-told}
+use Rattle.definition.specs.Formatter
+use Rattle.definition.specs.Act.{State, state, run}
+use Rattle.definition.specs.PushToken.{overflows, turn, begun}
+use Rattle.definition.specs.Layout.{finished, stopped, checked, layFrom}
+use Rattle.definition.proofs.Growth.{depth, Grown, turn-grown}
+use Rattle.definition.proofs.Last.{Told, turn-told}
 use Rattle.sink.proofs.Sink.{later}
 use Rattle.formatter.specs.declared.Formatter.{Formatter}
 use Rattle.formatter.specs.declared.Formatted.the-variants.{Finished}

@@ -7,15 +7,15 @@ use native.Mathlib.Omega.{arith}
 use borrow.Author.Tests.{ltb-true, ltb-false, leb-false, eq-eqb, ne-eqb}
 use lib.Dec.{eqb, ltb, leb}
 use lib.ListN.{length}
-use Rattle.report.specs.Bytes.{lineFeed}
-use Rattle.report.proofs.Logic.{split, impossible}
+use Rattle.shared.specs.Bytes.{lineFeed}
+use Rattle.shared.proofs.Logic.{split, impossible}
 use Rattle.rows.specs.Kinds.{LeftParen, LeftBracket}
 use Rattle.rows.specs.Options.{Options}
 use Rattle.rows.specs.Token.{Token}
-use Rattle.push_token.specs.Act.{Act, update, _⨾_, run}
-use Rattle.push_token.specs.Emit.{lineBegun, indented}
-use Rattle.push_token.specs.Arms.{atSignature, breaksList, groupOpened, pushed, openList, closeSignature, rightParenArm}
-use Rattle.push_token.specs.PushToken.{overflows}
+use Rattle.definition.specs.Act.{Act, update, _⨾_, run}
+use Rattle.definition.specs.Emit.{lineBegun, indented}
+use Rattle.definition.specs.Arms.{atSignature, breaksList, groupOpened, pushed, openList, closeSignature, rightParenArm}
+use Rattle.definition.specs.PushToken.{overflows}
 use Rattle.formatter.specs.declared.Formatter.{Formatter}
 use Rattle.formatter.specs.declared.TokenAt.{TokenAt}
 use Rattle.formatter.specs.Pen.{Aside, Pen, stateOf, asideOf, fieldsOf, fieldsOn, topFirst}

@@ -9,14 +9,14 @@ use borrow.Author.Tests.{lt-ltb, le-ltb}
 use lib.Dec.{eqb, ltb}
 use lib.ListN.{length, take, drop}
 use lib.Seq.{length-take-le}
-use Rattle.report.proofs.Logic.{split}
+use Rattle.shared.proofs.Logic.{split}
 use Rattle.rows.specs.Kinds.{LeftBrace, RightBrace, Other}
 use Rattle.rows.specs.Row.{Row, rowAt, rowsOf}
 use Rattle.rows.specs.Options.{Options}
 use Rattle.rows.specs.Token.{tokensOf}
-use Rattle.push_token.specs.Formatter.{Formatter}
-use Rattle.push_token.specs.Act.{state}
-use Rattle.push_token.specs.Layout.{finished, layFrom}
+use Rattle.definition.specs.Formatter.{Formatter}
+use Rattle.definition.specs.Act.{state}
+use Rattle.definition.specs.Layout.{finished, layFrom}
 use Rattle.sink.specs.Sink.{Writes}
 use Rattle.sink.proofs.Sink.{later}
 use Rattle.formatter.specs.declared.Formatter as code

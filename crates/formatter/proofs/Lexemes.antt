@@ -10,10 +10,10 @@ use lib.Dec.{eqb, ltb, lit<}
 use lib.ListN.{replicate}
 use Rattle.rows.specs.Options.{Options}
 use Rattle.rows.specs.Token.{Token}
-use Rattle.push_token.specs.Formatter.{setPrevMinusIsUnary}
-use Rattle.push_token.specs.Act.{update, _⨾_, run}
-use Rattle.push_token.specs.Emit.{tokenGap, endedBy, trackMinus, pushLexeme}
-use Rattle.push_token.proofs.Said.{said}
+use Rattle.definition.specs.Formatter.{setPrevMinusIsUnary}
+use Rattle.definition.specs.Act.{update, _⨾_, run}
+use Rattle.definition.specs.Emit.{tokenGap, endedBy, trackMinus, pushLexeme}
+use Rattle.definition.proofs.Said.{said}
 use Rattle.sink.specs.Sink.{Writes}
 use Rattle.sink.proofs.Sink.{same-bytes}
 use Rattle.formatter.specs.Pen.{Aside, Pen, stateOf, formatterOf}

@@ -7,15 +7,15 @@ use Prim.Native.Nat.{ℕ, _+_, _≤_}
 use borrow.Author.Tests.{eqb-true, le-ltb}
 use lib.Dec.{eqb}
 use lib.ListN.{length, drop}
-use Rattle.report.proofs.Logic.{and-left, and-right}
+use Rattle.shared.proofs.Logic.{and-left, and-right}
 use Rattle.rows.specs.Kinds.{TokenRow}
 use Rattle.rows.specs.Row.{Row, rowAt, rowsOf}
 use Rattle.rows.specs.Options.{Options}
 use Rattle.rows.specs.Token.{Token, bytesOf, trailingOf, tokensFrom, tokensOf}
 use Rattle.rows.proofs.RowList.{part-cons}
-use Rattle.push_token.specs.Act.{State, run}
-use Rattle.push_token.specs.PushToken.{turn}
-use Rattle.push_token.specs.Layout.{finished, checked, layFrom}
+use Rattle.definition.specs.Act.{State, run}
+use Rattle.definition.specs.PushToken.{turn}
+use Rattle.definition.specs.Layout.{finished, checked, layFrom}
 use Rattle.formatter.specs.Token.{bareToken}
 use Rattle.formatter.specs.Format.{onlyTokens}
 

@@ -7,20 +7,20 @@ use native.Mathlib.Omega.{arith}
 use lib.Dec.{eqb, ltb}
 use lib.ListN.{length, drop}
 use borrow.Author.Tests.{ltb-false, eq-eqb, ne-eqb}
-use Rattle.report.specs.Report.{deep, full}
-use Rattle.report.proofs.Logic.{split}
+use Rattle.shared.specs.Report.{deep, full}
+use Rattle.shared.proofs.Logic.{split}
 use Rattle.rows.specs.Kinds.{LeftBrace, RightBrace, Other}
 use Rattle.rows.specs.Options
 use Rattle.rows.specs.Row.{rowsOf, firstRows}
 use Rattle.rows.specs.Token.{Token, Trivia, triviaOf}
 use Rattle.lookahead.specs.Measure.{isEmpty}
-use Rattle.push_token.specs.Formatter as definition
-use Rattle.push_token.specs.Act.{State, run}
-use Rattle.push_token.specs.Emit.{isAt, trackFnState, trailingTrivia}
-use Rattle.push_token.specs.PushToken.{arm, overflows, turn}
-use Rattle.push_token.specs.Layout.{stopped}
-use Rattle.push_token.proofs.Growth.{depth}
-use Rattle.push_token.proofs.Last
+use Rattle.definition.specs.Formatter as definition
+use Rattle.definition.specs.Act.{State, run}
+use Rattle.definition.specs.Emit.{isAt, trackFnState, trailingTrivia}
+use Rattle.definition.specs.PushToken.{arm, overflows, turn}
+use Rattle.definition.specs.Layout.{stopped}
+use Rattle.definition.proofs.Growth.{depth}
+use Rattle.definition.proofs.Last
 use Rattle.sink.proofs.Sink.{nothing}
 use Rattle.formatter.specs.declared.Formatter.{Formatter}
 use Rattle.formatter.specs.declared.Options.{Options}
@@ -170,7 +170,7 @@ module _ (options : Options) {rows text : List ℕ} {k₀ l₀ k l : List ℕ} {
       form = ap (λ (v : State). v .formatter) (u .state)
 
       -- leading trivia change no count
-      same : Same (stateOf x p .formatter) (run (Rattle.push_token.specs.Emit.leadingTrivia o (t .leading)) (stateOf x p) .formatter)
+      same : Same (stateOf x p .formatter) (run (Rattle.definition.specs.Emit.leadingTrivia o (t .leading)) (stateOf x p) .formatter)
       same = lead-same o (t .leading) (stateOf x p)
 
       field : {A : Type 0} (φ : definition.Formatter → A) → φ (s .formatter) ≡ φ (stateOf x p .formatter) → φ (formatterOf g k (asideOf (s .formatter))) ≡ φ (stateOf x p .formatter)
@@ -258,7 +258,7 @@ module _ (options : Options) {rows text : List ℕ} {k₀ l₀ k l : List ℕ} {
                 (trails-not o i t ts y (on g k m) not-returned (ltb (token .own + 16) (token .next)) (κ .trailing t ts σ) e
                 (λ n. trailing-is ω (ι .going .head) h τ ∙ no-trivia rows text (ltb-false (token .own + 16) (token .next) n)))
 
-        its-track : (z : Aside) → Does (Rattle.push_token.specs.Act.update (trackFnState (t .kind))) z (on g₃ k₂ m₃) (on q k₂ m₃)
+        its-track : (z : Aside) → Does (Rattle.definition.specs.Act.update (trackFnState (t .kind))) z (on g₃ k₂ m₃) (on q k₂ m₃)
         its-track z =
             updated (ap (λ n. trackFnState n (formatterOf g₃ k₂ z)) (σ .kind) ∙ ap (λ n. definition.setFnState n (formatterOf g₃ k₂ z)) (sym (κ .tracked))) refl nothing
 

@@ -8,12 +8,12 @@ use native.Mathlib.Omega.{arith}
 use borrow.Author.Tests.{ne-eqb}
 use lib.Dec.{eqb}
 use lib.ListN.{length, take}
-use Rattle.report.proofs.Logic.{split}
+use Rattle.shared.proofs.Logic.{split}
 use Rattle.rows.specs.Token.{Token}
 use Rattle.lookahead.specs.Measure.{nextHasComment, isEmpty}
-use Rattle.push_token.specs.Act.{State, choose, nothing, run}
-use Rattle.push_token.specs.Emit.{isAt}
-use Rattle.push_token.specs.Arms.{inOneLineBlock, endsWithTwoFeeds, newlineArm, feedLine}
+use Rattle.definition.specs.Act.{State, choose, nothing, run}
+use Rattle.definition.specs.Emit.{isAt}
+use Rattle.definition.specs.Arms.{inOneLineBlock, endsWithTwoFeeds, newlineArm, feedLine}
 use Rattle.formatter.specs.Pen.{Aside, Pen, newlineOf}
 use Rattle.formatter.specs.Parts.{feedsLine}
 use Rattle.formatter.specs.Does.{Does}

@@ -7,8 +7,8 @@ use borrow.Author.Tests.{lt-leb, le-leb, ne-eqb}
 use Rattle.rows.specs.Kinds.{LeftParen, LeftBracket}
 use Rattle.rows.specs.Options.{Options}
 use Rattle.rows.specs.Token.{Token}
-use Rattle.push_token.specs.Arms.{breaksList, atSignature}
-use Rattle.push_token.specs.PushToken.{overflows}
+use Rattle.definition.specs.Arms.{breaksList, atSignature}
+use Rattle.definition.specs.PushToken.{overflows}
 use Rattle.formatter.specs.declared.Formatter.{Formatter}
 use Rattle.formatter.specs.Pen.{fieldsOf, fieldsOn}
 use Rattle.formatter.proofs.Stack.{top-length}

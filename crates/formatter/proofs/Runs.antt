@@ -8,7 +8,7 @@ use native.Mathlib.Omega.{arith}
 use lib.Dec.{eqb}
 use lib.ListN.{length, getD, take, drop}
 use borrow.Author.Tests.{eqb-true, eqb-false}
-use Rattle.report.proofs.Logic.{split, impossible, and-left, and-right}
+use Rattle.shared.proofs.Logic.{split, impossible, and-left, and-right}
 use Rattle.rows.specs.Kinds.{Leading, TokenRow, Trailing}
 use Rattle.rows.specs.Row.{Row}
 use Rattle.rows.specs.Checks.{Before, after, mayTrail, badFrom}

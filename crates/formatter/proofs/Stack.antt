@@ -8,7 +8,7 @@ use native.Mathlib.Omega.{arith}
 use lib.Dec.{eqb}
 use lib.ListN.{length, getD, set, drop}
 use lib.Seq.{getD-set-same, getD-set-other}
-use Rattle.push_token.specs.Emit.{isAt}
+use Rattle.definition.specs.Emit.{isAt}
 use Rattle.formatter.specs.Pen.{topFirst}
 
 pub top-popped : (n : ℕ) (k : List ℕ) → topFirst (n - 1) k ≡ drop 1 (topFirst n k)

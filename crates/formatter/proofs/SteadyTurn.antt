@@ -8,16 +8,16 @@ use native.Mathlib.Omega.{arith}
 use borrow.Author.Tests.{ne-eqb, eqb-true, ltb-true, lt-leb}
 use lib.Dec.{eqb, leb, ltb}
 use lib.ListN.{replicate}
-use Rattle.report.proofs.Logic.{split, impossible′, or-cases, or-left, or-right}
-use Rattle.report.proofs.Below.{allBelow, below}
+use Rattle.shared.proofs.Logic.{split, impossible′, or-cases, or-left, or-right}
+use Rattle.shared.proofs.Below.{allBelow, below}
 use Rattle.rows.specs.Kinds.{Eof, Newline, LeftBrace, RightBrace, LeftParen, RightParen, LeftBracket, RightBracket, Comma, Hash, Minus, Else, Fn, Record, Identifier, Other}
 use Rattle.rows.specs.Options.{Options}
 use Rattle.rows.specs.Token.{Token}
-use Rattle.push_token.specs.Formatter.{Formatter, setAtLineStart, setPrev, setPrevMinusIsUnary, setFnState, setRecordPending, setJustClosedInline, setGroupDepth, setSigBreakDepth, setInlineClose, setReturned}
-use Rattle.push_token.specs.Act.{State, state, Act, if, run}
-use Rattle.push_token.specs.Emit.{isSome, isAt, fnStateAfter, spaceAfter, endedBy, trackFnState, tokenGap, trackMinus, pushLexeme}
-use Rattle.push_token.specs.Arms.{atRecordFields, inBrokenList, elseOnNewLine, closeGroup, closeCall, closeSignature, rightParenArm, rightBracketArm, commaArm, elseArm, otherArm}
-use Rattle.push_token.specs.PushToken.{arm, takeInlineClose, turn}
+use Rattle.definition.specs.Formatter.{Formatter, setAtLineStart, setPrev, setPrevMinusIsUnary, setFnState, setRecordPending, setJustClosedInline, setGroupDepth, setSigBreakDepth, setInlineClose, setReturned}
+use Rattle.definition.specs.Act.{State, state, Act, if, run}
+use Rattle.definition.specs.Emit.{isSome, isAt, fnStateAfter, spaceAfter, endedBy, trackFnState, tokenGap, trackMinus, pushLexeme}
+use Rattle.definition.specs.Arms.{atRecordFields, inBrokenList, elseOnNewLine, closeGroup, closeCall, closeSignature, rightParenArm, rightBracketArm, commaArm, elseArm, otherArm}
+use Rattle.definition.specs.PushToken.{arm, takeInlineClose, turn}
 use Rattle.sink.specs.Space.{looseBehind, bit, spaces}
 use Rattle.sink.proofs.Spaces.{spaces-are, loose-other}
 use Rattle.formatter.specs.declared.steady.Marks.{Marks}

@@ -10,10 +10,10 @@ use Rattle.rows.specs.Kinds.{Newline, LeftParen, LeftBracket, Fn, Identifier}
 use Rattle.rows.specs.Options.{Options}
 use Rattle.rows.specs.Token.{Token, Trivia}
 use Rattle.lookahead.specs.Measure.{isEmpty}
-use Rattle.push_token.specs.Formatter.{Formatter, setAtLineStart, setPrev, setPrevMinusIsUnary, setFnState, setRecordPending, setJustClosedInline, setInlineClose, setReturned}
-use Rattle.push_token.specs.Act.{State, state, Act, update, _⨾_, choose, nothing, if, run}
-use Rattle.push_token.specs.Emit.{isSome, fnStateAfter, trackFnState, leadingTrivia, trailingTrivia}
-use Rattle.push_token.specs.PushToken.{arm, takeInlineClose, overflows, turn}
+use Rattle.definition.specs.Formatter.{Formatter, setAtLineStart, setPrev, setPrevMinusIsUnary, setFnState, setRecordPending, setJustClosedInline, setInlineClose, setReturned}
+use Rattle.definition.specs.Act.{State, state, Act, update, _⨾_, choose, nothing, if, run}
+use Rattle.definition.specs.Emit.{isSome, fnStateAfter, trackFnState, leadingTrivia, trailingTrivia}
+use Rattle.definition.specs.PushToken.{arm, takeInlineClose, overflows, turn}
 
 pub same : {A : Type 0} (b : Bool) {x : A} → cond b x x ≡ x
 same true = refl

@@ -8,15 +8,15 @@ use native.Mathlib.Omega.{arith}
 use lib.ListN.{length}
 use borrow.Author.Tests.{not-true, eqb-true}
 use lib.Dec.{eqb}
-use Rattle.report.proofs.Logic.{split, either, and-left, and-right}
+use Rattle.shared.proofs.Logic.{split, either, and-left, and-right}
 use Rattle.rows.specs.Kinds.{LeftBrace, RightBrace}
 use Rattle.rows.specs.Options.{Options}
 use Rattle.rows.specs.Token.{Token, Trivia}
-use Rattle.push_token.specs.Formatter.{Formatter, setTooDeep}
-use Rattle.push_token.specs.Act.{State, Act, run, update, _⨾_, choose, nothing, if}
-use Rattle.push_token.specs.Emit.{isSome, isAt, trackFnState, trailingTrivia}
-use Rattle.push_token.specs.Arms.{nextIs}
-use Rattle.push_token.specs.PushToken.{arm, overflows, pushToken, turn}
+use Rattle.definition.specs.Formatter.{Formatter, setTooDeep}
+use Rattle.definition.specs.Act.{State, Act, run, update, _⨾_, choose, nothing, if}
+use Rattle.definition.specs.Emit.{isSome, isAt, trackFnState, trailingTrivia}
+use Rattle.definition.specs.Arms.{nextIs}
+use Rattle.definition.specs.PushToken.{arm, overflows, pushToken, turn}
 use Rattle.formatter.specs.Pen.{Aside, Pen, stateOf, asideOf}
 use Rattle.formatter.specs.Does.{Does}
 use Rattle.formatter.specs.Trivia.{leadToken}

@@ -5,7 +5,7 @@ use mathlib.Core.List.{List}
 use mathlib.Core.Path.{_≡_}
 use Prim.Native.Nat.{ℕ, _≤_, _<_}
 use lib.ListN.{length, drop}
-use Rattle.push_token.specs.Act.{State, Act, run}
+use Rattle.definition.specs.Act.{State, Act, run}
 use Rattle.formatter.specs.declared.Formatter.{Formatter}
 use Rattle.formatter.specs.Pen.{Aside, Pen, on, stateOf, asideOf}
 

@@ -7,15 +7,15 @@ use mathlib.Core.Path.{_≡_}
 use Prim.Native.Nat.{ℕ, zero, suc, _+_, _*_, _/_, _%_, _≤_}
 use lib.Dec.{eqb}
 use lib.ListN.{length, drop}
-use Rattle.report.specs.Report.{deep}
+use Rattle.shared.specs.Report.{deep}
 use Rattle.rows.specs.Kinds.{Leading, TokenRow, Trailing}
 use Rattle.rows.specs.Options
 use Rattle.rows.specs.Row.{Row, rowAt, rowsOf}
 use Rattle.rows.specs.Checks.{Before, atStart, badFrom}
 use Rattle.rows.specs.Token.{tokensOf}
-use Rattle.push_token.specs.Formatter.{new}
-use Rattle.push_token.specs.Act.{State}
-use Rattle.push_token.specs.Layout.{Ended, finished, stopped, lay}
+use Rattle.definition.specs.Formatter.{new}
+use Rattle.definition.specs.Act.{State}
+use Rattle.definition.specs.Layout.{Ended, finished, stopped, lay}
 use Rattle.formatter.specs.declared.Formatter.{Formatter}
 use Rattle.formatter.specs.declared.Ends.{Ends}
 use Rattle.formatter.specs.declared.TokenAt.{TokenAt}

@@ -11,10 +11,10 @@ use lib.ListN.{length, take, drop}
 use Rattle.rows.specs.Kinds.{LeftBrace, RightBrace, Other}
 use Rattle.rows.specs.Options.{Options}
 use Rattle.rows.specs.Token.{tokensOf}
-use Rattle.report.specs.Bytes.{space}
-use Rattle.push_token.specs.Formatter.{Formatter, setPrev, setInlineDepth, setJustClosedInline, setInlineClose, setReturned}
-use Rattle.push_token.specs.Act.{state}
-use Rattle.push_token.specs.Layout.{finished, layFrom}
+use Rattle.shared.specs.Bytes.{space}
+use Rattle.definition.specs.Formatter.{Formatter, setPrev, setInlineDepth, setJustClosedInline, setInlineClose, setReturned}
+use Rattle.definition.specs.Act.{state}
+use Rattle.definition.specs.Layout.{finished, layFrom}
 use Rattle.formatter.specs.declared.Formatter as code
 use Rattle.formatter.specs.declared.nested.Braces.{Braces}
 use Rattle.formatter.specs.Token.{kindOf}

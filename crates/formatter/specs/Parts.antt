@@ -5,17 +5,17 @@ use mathlib.Core.List.{List, [], _++_}
 use mathlib.Core.Option.{some, Option·map}
 use Prim.Native.Nat.{ℕ, _+_, _-_, _*_}
 use lib.Dec.{eqb}
-use Rattle.report.specs.Bytes.{leftBrace}
+use Rattle.shared.specs.Bytes.{leftBrace}
 use Rattle.rows.specs.Kinds.{LeftBrace, RightBrace, RightParen, RightBracket}
 use Rattle.rows.specs.Options.{Options}
 use Rattle.rows.specs.Token.{Token}
 use Rattle.lookahead.specs.Measure.{isEmpty, nextHasComment, blockIsSingleLine}
-use Rattle.push_token.specs.Formatter.{Formatter, setInRecord, setRecordDepth, setRecordPending, setReturned, setPrev}
-use Rattle.push_token.specs.Act.{State, Act, if, update, gap, lexeme, insert, _⨾_}
-use Rattle.push_token.specs.Emit.{isAt, prevIs, indentOrSpace, onNewLine, endedBy, dedented, spaceAfter, emitTokenText}
+use Rattle.definition.specs.Formatter.{Formatter, setInRecord, setRecordDepth, setRecordPending, setReturned, setPrev}
+use Rattle.definition.specs.Act.{State, Act, if, update, gap, lexeme, insert, _⨾_}
+use Rattle.definition.specs.Emit.{isAt, prevIs, indentOrSpace, onNewLine, endedBy, dedented, spaceAfter, emitTokenText}
 use Rattle.formatter.specs.declared.Prev.{Prev}
 use Rattle.formatter.specs.Pen.{prevOf}
-use Rattle.push_token.specs.Arms.{inOneLineBlock, inBrokenList, endsWithTwoFeeds, nextIs, groupClosed, popped, openInline, openInnerInline}
+use Rattle.definition.specs.Arms.{inOneLineBlock, inBrokenList, endsWithTwoFeeds, nextIs, groupClosed, popped, openInline, openInnerInline}
 
 -- ---- Newline
 

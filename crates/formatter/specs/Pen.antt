@@ -6,8 +6,8 @@ use mathlib.Core.Option.{Option, none, some}
 use Prim.Native.Nat.{ℕ, zero, suc}
 use lib.ListN.{take, getD}
 use Rattle.rows.specs.Options
-use Rattle.push_token.specs.Formatter
-use Rattle.push_token.specs.Act.{State, state}
+use Rattle.definition.specs.Formatter
+use Rattle.definition.specs.Act.{State, state}
 use Rattle.formatter.specs.declared.Formatter.{Formatter}
 use Rattle.formatter.specs.declared.Options.{Options}
 use Rattle.formatter.specs.declared.BraceStyle.{BraceStyle}

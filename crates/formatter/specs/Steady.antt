@@ -13,11 +13,11 @@ use Rattle.rows.specs.Row.{rowAt, rowsOf}
 use Rattle.rows.specs.Options.{Options}
 use Rattle.rows.specs.Token.{tokensOf}
 use Rattle.lookahead.specs.Space.{isValueKind}
-use Rattle.push_token.specs.Formatter.{Formatter, setPrev, setPrevMinusIsUnary, setFnState, setRecordPending, setGroupDepth, setInlineClose, setReturned}
-use Rattle.push_token.specs.Act.{state}
-use Rattle.push_token.specs.Emit.{isSome, isAt}
-use Rattle.push_token.specs.Arms.{atRecordFields, inBrokenList}
-use Rattle.push_token.specs.Layout.{finished, layFrom}
+use Rattle.definition.specs.Formatter.{Formatter, setPrev, setPrevMinusIsUnary, setFnState, setRecordPending, setGroupDepth, setInlineClose, setReturned}
+use Rattle.definition.specs.Act.{state}
+use Rattle.definition.specs.Emit.{isSome, isAt}
+use Rattle.definition.specs.Arms.{atRecordFields, inBrokenList}
+use Rattle.definition.specs.Layout.{finished, layFrom}
 use Rattle.sink.specs.Space.{looseBehind, bit}
 use Rattle.formatter.specs.declared.Formatter as code
 use Rattle.formatter.specs.declared.steady.Marks.{Marks}

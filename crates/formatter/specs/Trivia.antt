@@ -7,12 +7,12 @@ use lib.ListN.{length, drop}
 use Rattle.rows.specs.Row.{firstRows}
 use Rattle.rows.specs.Bounds.{InBounds}
 use Rattle.rows.specs.Options.{Options}
-use Rattle.report.specs.Bytes.{space, slashes, docSlashes, slashStar, starSlash}
+use Rattle.shared.specs.Bytes.{space, slashes, docSlashes, slashStar, starSlash}
 use Rattle.rows.specs.Token.{Trivia, lineComment, docComment, blockComment, blankLine, triviaOf}
 use Rattle.lookahead.specs.Measure.{isEmpty}
-use Rattle.push_token.specs.Act.{Act, update, _⨾_}
-use Rattle.push_token.specs.Emit.{leadingTrivia}
-use Rattle.push_token.specs.PushToken.{takeInlineClose}
+use Rattle.definition.specs.Act.{Act, update, _⨾_}
+use Rattle.definition.specs.Emit.{leadingTrivia}
+use Rattle.definition.specs.PushToken.{takeInlineClose}
 
 -- the trivia of the rows from an index to an index
 abbrev pub triviaIn : List ℕ → List ℕ → ℕ → ℕ → List Trivia

@@ -17,7 +17,7 @@ ghost use Prim.Native.Nat.{ℕ, _+_, _≤_, _<_};
 ghost use lib.Dec.{eqb, ltb};
 ghost use lib.ListN.{length};
 ghost use Rattle.rows.specs.Row.{rowsOf};
-ghost use Rattle.push_token.specs.PushToken.{arm, overflows};
+ghost use Rattle.definition.specs.PushToken.{arm, overflows};
 ghost use Rattle.formatter.specs.Pen.{Aside, on, fieldsOn, optionsOf};
 ghost use Rattle.formatter.specs.Does.{Does};
 ghost use Rattle.formatter.specs.Token.{Ready, StackRoom, InRows, Ahead, Here};

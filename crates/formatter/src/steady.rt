@@ -19,7 +19,7 @@ ghost use lib.Dec.{eqb};
 ghost use lib.ListN.{length};
 ghost use Rattle.rows.specs.Kinds.{Other};
 ghost use Rattle.rows.specs.Row.{rowsOf};
-ghost use Rattle.push_token.specs.Emit.{isSome};
+ghost use Rattle.definition.specs.Emit.{isSome};
 ghost use Rattle.formatter.specs.Pen.{signatureOf};
 ghost use Rattle.formatter.specs.Token.{StackRoom, kindOf};
 ghost use Rattle.formatter.specs.Format.{Walks, Head, onlyTokens};

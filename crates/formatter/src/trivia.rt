@@ -16,7 +16,7 @@ ghost use Prim.Native.Nat.{ℕ, _+_, _≤_, _<_};
 ghost use Rattle.rows.specs.Options;
 ghost use Rattle.rows.specs.Bounds.{Inside, rowOf};
 ghost use Rattle.rows.specs.Token.{triviaOf};
-ghost use Rattle.push_token.specs.Emit.{leadAct, trailingTrivia};
+ghost use Rattle.definition.specs.Emit.{leadAct, trailingTrivia};
 ghost use Rattle.sink.specs.Sink.{Writes};
 ghost use Rattle.formatter.specs.Pen.{optionsOf};
 ghost use Rattle.formatter.specs.Does.{Puts};

@@ -1,4 +1,4 @@
 // The program `layout` on a sheet with a bad line: it writes `refusal place` and their values.
 fn main() {
-    paper::lay_out_sheet();
+    program::lay_out_sheet();
 }

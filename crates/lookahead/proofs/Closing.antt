@@ -7,7 +7,7 @@ use native.Mathlib.Omega.{arith}
 use lib.Dec.{eqb}
 use lib.ListN.{length}
 use borrow.Author.Tests.{eqb-true, eqb-false, ne-eqb}
-use Rattle.report.proofs.Logic.{split, and-left, and-right}
+use Rattle.shared.proofs.Logic.{split, and-left, and-right}
 use Rattle.rows.specs.Kinds.{Leading, TokenRow, LeftBrace, RightBrace, Comma}
 use Rattle.rows.specs.Row.{Row}
 use Rattle.lookahead.specs.Measure.{depthAfter}

@@ -7,7 +7,7 @@ use native.Mathlib.Omega.{arith}
 use lib.Dec.{eqb}
 use lib.ListN.{length, drop}
 use borrow.Author.Tests.{eqb-true, eq-eqb, ne-eqb, not-true}
-use Rattle.report.proofs.Logic.{split, and-left, and-right}
+use Rattle.shared.proofs.Logic.{split, and-left, and-right}
 use Rattle.rows.specs.Kinds.{Leading, TokenRow, Eof, RightBrace, Comma}
 use Rattle.rows.specs.Row.{Row, rowAt, rowsOf}
 use Rattle.rows.specs.Token.{Trivia, tokenOf, tokensFrom, tokensOf}

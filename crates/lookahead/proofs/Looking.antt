@@ -7,7 +7,7 @@ use native.Mathlib.Omega.{arith}
 use lib.Dec.{eqb}
 use lib.ListN.{length, drop}
 use borrow.Author.Tests.{eqb-true, eq-eqb, ne-eqb}
-use Rattle.report.proofs.Logic.{impossible, and-left, and-right, or-cases, or-left, or-right}
+use Rattle.shared.proofs.Logic.{impossible, and-left, and-right, or-cases, or-left, or-right}
 use Rattle.rows.specs.Kinds.{Leading, TokenRow, Trailing, Eof, Newline, LeftBrace, RightBrace, LeftParen, Comma}
 use Rattle.rows.specs.Row.{Row, rowAt, rowsOf}
 use Rattle.rows.specs.Token.{tokensOf}

@@ -6,9 +6,9 @@ use Prim.Native.Nat.{ℕ, _≤_, _<_}
 use native.Mathlib.Omega.{arith}
 use lib.Dec.{eqb, leb, ltb}
 use borrow.Author.Tests.{ltb-true, ltb-false, le-leb, lt-leb, ne-eqb}
-use Rattle.report.proofs.Logic.{and-left, and-right, split}
-use Rattle.report.proofs.Below.{allBelow, agree-below}
-use Rattle.report.specs.Bytes.{oneOf}
+use Rattle.shared.proofs.Logic.{and-left, and-right, split}
+use Rattle.shared.proofs.Below.{allBelow, agree-below}
+use Rattle.shared.specs.Bytes.{oneOf}
 use Rattle.rows.specs.Kinds.{LeftBrace, RightBrace, LeftParen, RightParen, LeftBracket, RightBracket, Comma, Colon, Semicolon, Question, Dot, DotDot, ColonColon, Hash, Bang, BangHash, Identifier, NumberLiteral, ByteLiteral, StringLiteral, CharacterLiteral, FloatLiteral, BoolLiteral, Null, Array, Map, Set, Result}
 use Rattle.lookahead.specs.Sets.{member}
 use Rattle.lookahead.specs.Space.{noSpaceAfter, noSpaceBefore, needsSpace, isValueKind}

@@ -2,8 +2,8 @@
 use mathlib.Core.Bool.{true, false, cond}
 use mathlib.Core.Path.{_≡_, refl}
 use lib.Dec.{eqb}
-use Rattle.report.specs.Report.{Report, badRow}
-use Rattle.report.proofs.Injective.{injective}
+use Rattle.shared.specs.Report.{Report, badRow}
+use Rattle.shared.proofs.Injective.{injective}
 use Rattle.lookahead.specs.declared.Space.{Space}
 use Rattle.lookahead.specs.declared.Space.the-variants.{Needed, BadRow}
 use Rattle.lookahead.specs.Answer.{reported}

@@ -6,7 +6,7 @@ use Prim.Native.Nat.{ℕ, _+_, _-_}
 use native.Mathlib.Omega.{arith}
 use lib.Dec.{eqb}
 use borrow.Author.Tests.{eqb-true, eqb-false, eq-eqb, ne-eqb}
-use Rattle.report.proofs.Logic.{split}
+use Rattle.shared.proofs.Logic.{split}
 use Rattle.rows.specs.Kinds.{TokenRow, Eof, RightParen, RightBracket}
 use Rattle.rows.specs.Row.{Row, rowsOf}
 use Rattle.rows.specs.Token.{Trivia, tokensFrom, tokensOf}

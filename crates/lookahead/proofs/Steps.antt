@@ -5,7 +5,7 @@ use Prim.Native.Nat.{ℕ, _+_, _-_, _≤_, _<_}
 use native.Mathlib.Omega.{arith}
 use lib.Dec.{eqb, leb, ltb}
 use borrow.Author.Tests.{eq-eqb, ne-eqb, leb-true, leb-false, ltb-false}
-use Rattle.report.proofs.Logic.{split}
+use Rattle.shared.proofs.Logic.{split}
 use Rattle.rows.specs.Kinds.{Eof, RightParen, RightBracket, Comma}
 use Rattle.lookahead.specs.declared.measure.Span.{Span}
 use Rattle.lookahead.specs.declared.measure.Span.the-variants.{Signature, Paren, Bracket}

@@ -6,7 +6,7 @@ use Prim.Native.Nat.{ℕ, _+_, _-_}
 use native.Mathlib.Omega.{arith}
 use lib.Dec.{eqb, ltb}
 use borrow.Author.Tests.{eqb-true, eqb-false, le-ltb}
-use Rattle.report.proofs.Logic.{split}
+use Rattle.shared.proofs.Logic.{split}
 use Rattle.rows.specs.Kinds.{Leading, TokenRow, Trailing, LineComment, DocComment, BlockComment, BlankLine, Eof, Newline, LeftBrace, RightBrace}
 use Rattle.rows.specs.Row.{Row}
 use Rattle.rows.specs.Token.{Trivia, lineComment, docComment, blockComment, blankLine, triviaOf, trailingOf, tokensFrom}

@@ -5,7 +5,7 @@ use mathlib.Core.List.{List, []}
 use Prim.Native.Nat.{ℕ}
 use lib.Dec.{ltb}
 use lib.ListN.{length}
-use Rattle.report.specs.Report.{Report, success, refuse, badRow, bit}
+use Rattle.shared.specs.Report.{Report, success, refuse, badRow, bit}
 use Rattle.rows.specs.Kinds.{Other}
 use Rattle.rows.specs.Row.{rowsOf}
 use Rattle.lookahead.specs.declared.Space.{Space}

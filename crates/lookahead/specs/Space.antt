@@ -6,7 +6,7 @@ use mathlib.Core.Option.{Option, none, some}
 use Prim.Native.Nat.{ℕ}
 use lib.Dec.{eqb}
 use Rattle.rows.specs.Kinds.{LeftBrace, RightBrace, LeftParen, RightParen, LeftBracket, RightBracket, Comma, Colon, Semicolon, Question, Dot, DotDot, ColonColon, Hash, Bang, BangHash}
-use Rattle.report.specs.Bytes.{oneOf}
+use Rattle.shared.specs.Bytes.{oneOf}
 use Rattle.rows.specs.Kinds.{Identifier, NumberLiteral, ByteLiteral, StringLiteral, CharacterLiteral, FloatLiteral, BoolLiteral, Null, Array, Map, Set, Result}
 
 -- ---- `needs_space` (format.rs 684)

@@ -6,7 +6,7 @@ use native.Mathlib.Numerals.{add-one}
 use native.Mathlib.Omega.{arith}
 use lib.ListN.{length}
 use borrow.Author.Tests.{le-leb}
-use Rattle.report.specs.Report.{success}
+use Rattle.shared.specs.Report.{success}
 use Rattle.pieces.specs.Answer.{reported, answerFrom, readAnswer}
 use Rattle.pieces.specs.Reading.{Reading, done, refused, piece, reading, readFrom}
 use Rattle.pieces.specs.Next.{next}

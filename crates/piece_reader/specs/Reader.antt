@@ -3,7 +3,7 @@
 use mathlib.Core.List.{List}
 use Prim.Native.Nat.{ℕ, suc}
 use denote.Ref.{now}
-use Rattle.report.specs.Report.{Report, success, refuse, unreadable}
+use Rattle.shared.specs.Report.{Report, success, refuse, unreadable}
 use Rattle.pieces.specs.declared.Next.{Next}
 use Rattle.pieces.specs.declared.Next.the-variants.{Piece, End, Unreadable}
 use Rattle.pieces.specs.Reading.{Reading, done, refused, piece, reading, readFrom}

@@ -7,8 +7,8 @@ use native.Mathlib.Numerals.{add-one}
 use native.Mathlib.Omega.{arith}
 use lib.ListN.{length, getD, drop, set, length-append, length-drop, length-set}
 use lib.Seq.{drop-cons, set-at}
-use Rattle.report.specs.Report.{Report, success, refuse, accepted, zeroed, unreadable, piecesFull}
-use Rattle.report.proofs.Logic.{and-left}
+use Rattle.shared.specs.Report.{Report, success, refuse, accepted, zeroed, unreadable, piecesFull}
+use Rattle.shared.proofs.Logic.{and-left}
 use borrow.Author.Tests.{leb-true}
 use lib.Dec.{leb}
 use Rattle.pieces.specs.declared.Answer.{Answer}

@@ -6,7 +6,7 @@ use Prim.Native.Nat.{ℕ, _+_, _≤_}
 use lib.Dec.{eqb}
 use lib.ListN.{length, getD, List·getD-eq-default}
 use borrow.Author.Tests.{ne-eqb}
-use Rattle.report.specs.Bytes.{digit}
+use Rattle.shared.specs.Bytes.{digit}
 use Rattle.pieces.specs.Class.{class, isWord}
 use Rattle.pieces.specs.Reading.{number, Joined, ends, takes, digits}
 use Rattle.pieces.specs.Ends.{taken, joinAt}

@@ -9,8 +9,8 @@ use lib.Bits.{bitAnd, bitXor, and-le-l, and-le-r, xor-lt, xor-self, xor-add-and}
 use lib.Dec.{eqb}
 use lib.ListN.{length, take, drop}
 use borrow.Author.Tests.{eqb-true, eqb-false, ne-eqb}
-use Rattle.report.proofs.Logic.{split}
-use Rattle.report.proofs.Below.{below}
+use Rattle.shared.proofs.Logic.{split}
+use Rattle.shared.proofs.Below.{below}
 use Rattle.pieces.specs.Sets.{all}
 use Rattle.pieces.specs.Eight.{eightAt, eightOnes, bytesSet, bytesOther}
 use Rattle.pieces.specs.Ends.{ordinary}

@@ -9,7 +9,7 @@ use lib.Dec.{eqb, ltb}
 use lib.ListN.{length, getD, drop}
 use lib.Seq.{drop-drop}
 use borrow.Author.Tests.{eq-eqb, ne-eqb, eqb-true, ltb-true, ltb-false}
-use Rattle.report.proofs.Logic.{split, impossible}
+use Rattle.shared.proofs.Logic.{split, impossible}
 use Rattle.pieces.specs.Reading.{refused, closed, quoted, escaped, inside, read}
 use Rattle.pieces.specs.Sets.{runLength}
 use Rattle.pieces.specs.Ends.{EndsAt, ordinary}

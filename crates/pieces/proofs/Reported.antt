@@ -2,8 +2,8 @@
 use mathlib.Core.Bool.{cond}
 use mathlib.Core.Path.{_≡_, refl}
 use lib.Dec.{eqb}
-use Rattle.report.specs.Report.{Report, unreadable, piecesFull}
-use Rattle.report.proofs.Injective.{injective}
+use Rattle.shared.specs.Report.{Report, unreadable, piecesFull}
+use Rattle.shared.proofs.Injective.{injective}
 use Rattle.pieces.specs.declared.Answer.{Answer}
 use Rattle.pieces.specs.declared.Answer.the-variants.{Pieces, Unreadable, PiecesFull}
 use Rattle.pieces.specs.Answer.{reported}

@@ -10,7 +10,7 @@ use lib.Dec.{ltb}
 use borrow.Author.Tests.{ltb-true, ltb-false}
 use lib.ListN.{length, getD, take, drop, drop-of-length-le, length-drop}
 use lib.Seq.{drop-cons, drop-drop, getD-drop}
-use Rattle.report.proofs.Logic.{split, and-left, and-right}
+use Rattle.shared.proofs.Logic.{split, and-left, and-right}
 use Rattle.pieces.specs.declared.bytes.Class.{Class}
 use Rattle.pieces.specs.declared.bytes.Class.the-variants.{Gap}
 use Rattle.pieces.specs.Class.{class, isWord, isOperator}

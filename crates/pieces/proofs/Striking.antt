@@ -7,9 +7,9 @@ use native.Mathlib.Nat.{zero-add, suc-add}
 use native.Mathlib.Omega.{arith}
 use lib.Dec.{T}
 use lib.ListN.{length}
-use Rattle.report.specs.Bytes.{bytes, sameBytes}
-use Rattle.report.proofs.Bytes.{same-eq}
-use Rattle.report.proofs.Logic.{or-cases}
+use Rattle.shared.specs.Bytes.{bytes, sameBytes}
+use Rattle.shared.proofs.Bytes.{same-eq}
+use Rattle.shared.proofs.Logic.{or-cases}
 use Rattle.pieces.specs.Commas.{comma, closer, closes, struck, Inserted, none, same, more}
 
 is-true : (b : Bool) → T b → b ≡ true

@@ -7,8 +7,8 @@ use native.Mathlib.Omega.{arith}
 use lib.Dec.{eqb}
 use lib.ListN.{length}
 use borrow.Author.Tests.{eqb-true}
-use Rattle.report.specs.Bytes.{digit}
-use Rattle.report.proofs.Logic.{impossible, split}
+use Rattle.shared.specs.Bytes.{digit}
+use Rattle.shared.proofs.Logic.{impossible, split}
 use Rattle.pieces.specs.declared.bytes.Class.{Class}
 use Rattle.pieces.specs.declared.bytes.Class.the-variants.{Gap, Single, Quote, Word, Operator, Unclassed}
 use Rattle.pieces.specs.Class.{class, isWord, isOperator}

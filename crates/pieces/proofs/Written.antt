@@ -9,7 +9,7 @@ use native.Mathlib.Omega.{arith}
 use lib.Dec.{T, leb}
 use lib.ListN.{length, drop, length-append}
 use borrow.Author.Tests.{le-leb}
-use Rattle.report.specs.Report.{Report, success, putFirst}
+use Rattle.shared.specs.Report.{Report, success, putFirst}
 use Rattle.pieces.specs.declared.bytes.Class.{Class}
 use Rattle.pieces.specs.declared.bytes.Class.the-variants.{Single}
 use Rattle.pieces.specs.Class.{class, isWord, isOperator}

@@ -6,7 +6,7 @@ use Prim.Native.Nat.{ℕ, zero, suc, _+_, _*_}
 use lib.Dec.{leb}
 use lib.ListN.{length}
 use lib.Seq.{slice}
-use Rattle.report.specs.Report.{Report, success, refuse, accepted, zeroed, putFirst, unreadable, piecesFull}
+use Rattle.shared.specs.Report.{Report, success, refuse, accepted, zeroed, putFirst, unreadable, piecesFull}
 use Rattle.pieces.specs.declared.Answer.{Answer}
 use Rattle.pieces.specs.declared.Answer.the-variants.{Pieces, Unreadable, PiecesFull}
 use Rattle.pieces.specs.Reading.{Reading, done, refused, piece, reading}

@@ -3,7 +3,7 @@
 use mathlib.Core.Bool.{Bool, true, false, cond, _||_}
 use Prim.Native.Nat.{ℕ}
 use lib.Dec.{eqb}
-use Rattle.report.specs.Bytes.{byte, bytes, oneOf, within, digit}
+use Rattle.shared.specs.Bytes.{byte, bytes, oneOf, within, digit}
 use Rattle.pieces.specs.declared.bytes.Class.{Class}
 use Rattle.pieces.specs.declared.bytes.Class.the-variants.{Gap, Single, Quote, Word, Operator, Unclassed}
 

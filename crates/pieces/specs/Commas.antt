@@ -4,7 +4,7 @@ use mathlib.Core.Bool.{Bool, false, cond, _||_, _&&_}
 use mathlib.Core.List.{List, [], _∷_}
 use Prim.Native.Nat.{ℕ, suc}
 use lib.Dec.{T}
-use Rattle.report.specs.Bytes.{bytes, sameBytes}
+use Rattle.shared.specs.Bytes.{bytes, sameBytes}
 
 -- the comma, `]` and `}` are known by their bytes
 abbrev pub comma : List ℕ → Bool

@@ -6,7 +6,7 @@ use mathlib.Core.List.{List}
 use Prim.Native.Nat.{ℕ, _+_}
 use lib.Dec.{eqb}
 use lib.ListN.{drop, getD}
-use Rattle.report.specs.Bytes.{byte}
+use Rattle.shared.specs.Bytes.{byte}
 use Rattle.pieces.specs.declared.runs.QuoteEnd.{QuoteEnd}
 use Rattle.pieces.specs.declared.runs.QuoteEnd.the-variants.{At, Never}
 use Rattle.pieces.specs.Reading.{Kind, quoted, inside, Joined, ends, takes, join, piece, refused, read, readFrom}

@@ -1,6 +1,6 @@
 // The classes of bytes, by sets that are held as bits.
 ghost use mathlib.Core.Path.{_≡_};
-ghost use Rattle.report.specs.Bytes.{digit};
+ghost use Rattle.shared.specs.Bytes.{digit};
 ghost use Rattle.pieces.specs.Class.{class, isWord, isOperator};
 ghost use Rattle.pieces.specs.Sets.{member, isGap, isSingle, isQuote};
 

@@ -1,5 +1,5 @@
 // Reading back (document 01): a text read into pieces, each with its start and its end.
-use report::clear_numbers;
+use shared::clear_numbers;
 ghost use mathlib.Core.Path.{_≡_};
 ghost use mathlib.Core.Bool.{cond};
 ghost use Prim.Native.Nat.{_*_, _+_, _≤_, _<_};

@@ -5,7 +5,7 @@ ghost use mathlib.Core.Path.{_≡_};
 ghost use mathlib.Core.Bool.{cond};
 ghost use Prim.Native.Nat.{_+_, _≤_, _<_};
 ghost use lib.ListN.{take, drop, length};
-ghost use Rattle.report.specs.Bytes.{digit};
+ghost use Rattle.shared.specs.Bytes.{digit};
 ghost use Rattle.pieces.specs.Class.{class};
 ghost use Rattle.pieces.specs.Reading.{word, number, operator};
 ghost use Rattle.pieces.specs.Sets.{member, runLength, all, isGap};

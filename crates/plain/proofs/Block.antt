@@ -10,9 +10,9 @@ use lib.Dec.{eqb, leb}
 use lib.ListN.{length, getD, take, drop, length-drop}
 use lib.Seq.{getD-drop}
 use borrow.Author.Tests.{eqb-true, eqb-false, eq-eqb, ne-eqb}
-use Rattle.report.specs.Bytes.{digit, within}
-use Rattle.report.proofs.Logic.{split}
-use Rattle.report.proofs.Below.{agree-below}
+use Rattle.shared.specs.Bytes.{digit, within}
+use Rattle.shared.proofs.Logic.{split}
+use Rattle.shared.proofs.Below.{agree-below}
 use Rattle.pieces.specs.Class.{class}
 use Rattle.pieces.specs.Sets.{all}
 use Rattle.plain.specs.Scan.{isWordByte}

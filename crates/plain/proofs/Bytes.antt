@@ -8,14 +8,14 @@ use lib.Dec.{eqb}
 use lib.ListN.{length, getD, take, drop}
 use lib.Seq.{slice, take-nil}
 use borrow.Author.Tests.{eqb-true, ne-eqb}
-use Rattle.report.specs.Bytes.{digit, sameBytes}
-use Rattle.report.proofs.Logic.{split}
+use Rattle.shared.specs.Bytes.{digit, sameBytes}
+use Rattle.shared.proofs.Logic.{split}
 use Rattle.pieces.specs.declared.Next.the-variants.{Piece, End, Unreadable}
 use Rattle.pieces.specs.Reading.{Reading, done, refused, piece, between, readFrom}
 use Rattle.pieces.specs.Next.{next}
 use Rattle.pieces.proofs.Scan.{at-end}
 use Rattle.pieces.proofs.Resume.{next-first, next-done, next-refused}
-use Rattle.push_token.specs.Plain.{operatorByte, isOnePiece, readsWhole, endsOperator, beginsOperator, beginsDigit}
+use Rattle.definition.specs.Plain.{operatorByte, isOnePiece, readsWhole, endsOperator, beginsOperator, beginsDigit}
 
 -- ---- compared
 

@@ -10,8 +10,8 @@ use lib.Bits.{bitAnd, bitOr, bitXor, and-zero-r, and-comm, and-self, and-le-r, a
 use lib.Dec.{eqb}
 use lib.ListN.{length, take, drop}
 use borrow.Author.Tests.{eqb-true, eqb-false, ne-eqb}
-use Rattle.report.proofs.Logic.{split}
-use Rattle.report.proofs.Below.{agree-below}
+use Rattle.shared.proofs.Logic.{split}
+use Rattle.shared.proofs.Below.{agree-below}
 use Rattle.pieces.specs.Class.{class}
 use Rattle.pieces.specs.Sets.{all}
 use Rattle.pieces.specs.Eight.{eightAt, eightOnes}

@@ -6,15 +6,15 @@ use Prim.Native.Nat.{ℕ, suc, _≤_, _<_}
 use native.Mathlib.Omega.{arith}
 use lib.Dec.{eqb, leb}
 use borrow.Author.Tests.{eqb-true, eqb-false, ne-eqb, lt-leb}
-use Rattle.report.specs.Bytes.{sameBytes}
-use Rattle.report.proofs.Bytes.{same-eq}
-use Rattle.report.proofs.Logic.{split, and-left}
-use Rattle.report.proofs.Below.{agree-below}
+use Rattle.shared.specs.Bytes.{sameBytes}
+use Rattle.shared.proofs.Bytes.{same-eq}
+use Rattle.shared.proofs.Logic.{split, and-left}
+use Rattle.shared.proofs.Below.{agree-below}
 use Rattle.rows.specs.Kinds.{LeftBrace, RightBrace, LeftParen, RightParen, LeftBracket, RightBracket, Comma, Colon, Semicolon, Question, Dot, DotDot, ColonColon, Hash, Bang, BangHash, Minus, Else}
 use Rattle.pieces.specs.Class.{class}
 use Rattle.pieces.specs.Reading.{read}
 use Rattle.pieces.specs.Sets.{all}
-use Rattle.push_token.specs.Plain.{operatorByte, onlyOperators, hasItsLexeme, readsWhole, beginsOperator}
+use Rattle.definition.specs.Plain.{operatorByte, onlyOperators, hasItsLexeme, readsWhole, beginsOperator}
 use Rattle.plain.specs.Scan.{bracketOf, runOf}
 use Rattle.plain.proofs.Runs.{operators-whole}
 

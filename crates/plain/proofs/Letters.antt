@@ -9,8 +9,8 @@ use lib.Bits.{bitAnd, bitXor}
 use lib.Dec.{eqb}
 use lib.ListN.{length, getD, take, drop}
 use lib.Seq.{drop-cons}
-use Rattle.report.proofs.Logic.{and-left, and-right}
-use Rattle.report.proofs.Below.{agree-below}
+use Rattle.shared.proofs.Logic.{and-left, and-right}
+use Rattle.shared.proofs.Below.{agree-below}
 use Rattle.rows.specs.Row.{number}
 use Rattle.pieces.specs.Class.{class}
 use Rattle.pieces.specs.Sets.{all}

@@ -9,12 +9,12 @@ use lib.Dec.{eqb, leb}
 use lib.ListN.{length, getD, take, drop, length-take, drop-of-length-le}
 use lib.Seq.{slice, take-all, take-length}
 use borrow.Author.Tests.{ne-eqb, leb-true, leb-false}
-use Rattle.report.specs.Bytes.{digit}
-use Rattle.report.proofs.Logic.{split}
+use Rattle.shared.specs.Bytes.{digit}
+use Rattle.shared.proofs.Logic.{split}
 use Rattle.rows.specs.Kinds.{Eof, LeftBrace, Comma, Record, Dot}
 use Rattle.rows.specs.Row.{Row, number, rowAt}
 use Rattle.rows.specs.Token.{bytesOf}
-use Rattle.push_token.specs.Plain.{operatorByte, endsOperator, beginsDigit, tightBefore, tightBehind}
+use Rattle.definition.specs.Plain.{operatorByte, endsOperator, beginsDigit, tightBefore, tightBehind}
 use Rattle.plain.specs.Scan.{Facts, unseen, mute, behind, meets, meetsBehind}
 use Rattle.plain.specs.LookBack.{factsFrom, factsAt, Near}
 use Rattle.plain.proofs.Bytes.{digit-first, operator-last, part-slice}

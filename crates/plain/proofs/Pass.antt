@@ -8,7 +8,7 @@ use native.Mathlib.Omega.{arith}
 use lib.Dec.{eqb, ltb}
 use lib.ListN.{length, take, drop}
 use borrow.Author.Tests.{eq-eqb, ne-eqb, eqb-true, ltb-false, le-ltb, not-true, not-false}
-use Rattle.report.proofs.Logic.{impossible, impossible′, split, and-left, and-right, or-left, or-right}
+use Rattle.shared.proofs.Logic.{impossible, impossible′, split, and-left, and-right, or-left, or-right}
 use Rattle.rows.specs.Kinds.{TokenRow, Else, Other}
 use Rattle.rows.specs.Row.{Row, rowAt, rowsOf}
 use Rattle.rows.specs.Token.{bytesOf, tokensOf}
@@ -16,8 +16,8 @@ use Rattle.rows.specs.Bounds.{Inside}
 use Rattle.rows.specs.Checks.{atStart, after, badFrom}
 use Rattle.rows.proofs.Sound.{misnamed, token-bad}
 use Rattle.lookahead.proofs.Rests.{here, over}
-use Rattle.push_token.specs.Emit.{isSome}
-use Rattle.push_token.specs.Plain.{plain}
+use Rattle.definition.specs.Emit.{isSome}
+use Rattle.definition.specs.Plain.{plain}
 use Rattle.plain.specs.Scan.{fits, behind, plainRows}
 use Rattle.plain.specs.LookBack.{factsFrom, factsAt, markFrom, fitsRow, isNamed, Ahead, Unfit, FitsTo}
 use Rattle.plain.proofs.Bytes.{part-slice}

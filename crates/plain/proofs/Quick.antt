@@ -7,9 +7,9 @@ use native.Mathlib.Omega.{arith}
 use lib.Dec.{eqb}
 use lib.ListN.{length, getD, take, drop}
 use borrow.Author.Tests.{eqb-true, eq-eqb}
-use Rattle.report.specs.Bytes.{digit}
-use Rattle.report.proofs.Logic.{and-right}
-use Rattle.report.proofs.Below.{agree-below}
+use Rattle.shared.specs.Bytes.{digit}
+use Rattle.shared.proofs.Logic.{and-right}
+use Rattle.shared.proofs.Below.{agree-below}
 use Rattle.pieces.specs.Class.{class, isWord, isOperator}
 use Rattle.pieces.specs.Reading.{Kind, word, number, quoted, between, opens, begin}
 use Rattle.pieces.specs.Sets.{runLength, isQuote}
@@ -17,7 +17,7 @@ use Rattle.pieces.specs.Ends.{EndsAt, ordinary}
 use Rattle.pieces.proofs.Sets.{quote-of, word-of}
 use Rattle.pieces.proofs.Scan.{begins, at-end, reaches-start, run-stop, run-all}
 use Rattle.pieces.proofs.Quote.{stops, quote-closed}
-use Rattle.push_token.specs.Plain.{readsWhole}
+use Rattle.definition.specs.Plain.{readsWhole}
 use Rattle.plain.specs.Scan.{runOf, IsValue}
 use Rattle.plain.proofs.Bytes.{operator-first}
 use Rattle.plain.proofs.Runs.{run-all-of}

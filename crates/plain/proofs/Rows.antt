@@ -8,7 +8,7 @@ use native.Mathlib.Omega.{arith}
 use lib.Dec.{eqb}
 use lib.ListN.{length}
 use borrow.Author.Tests.{eqb-true, eqb-false}
-use Rattle.report.proofs.Logic.{split, impossible, impossible′, or-cases}
+use Rattle.shared.proofs.Logic.{split, impossible, impossible′, or-cases}
 use Rattle.rows.specs.Kinds.{Leading, TokenRow, Trailing, Eof, Newline, LeftBrace, RightBrace, Dot}
 use Rattle.rows.specs.Row.{Row, rowsOf}
 use Rattle.rows.specs.Token.{Trivia, Token, triviaOf, trailingOf, tokenOf, tokensFrom, tokensOf}
@@ -16,10 +16,10 @@ use Rattle.rows.specs.Checks.{Before, atStart, after, badFrom}
 use Rattle.rows.proofs.Sound.{first-sound, rest-good}
 use Rattle.lookahead.specs.Measure.{isEmpty}
 use Rattle.lookahead.specs.Scan.{trails}
-use Rattle.push_token.specs.Arms.{nextIs}
-use Rattle.push_token.specs.Plain.{isMute, hasItsLexeme, readsWhole, endsOperator, beginsOperator, beginsDigit, tightBefore, tightBehind, clause₂, clause₃, clause₄, clause₅, clause₆, clause₇, plain}
-use Rattle.push_token.proofs.PlainScan
-use Rattle.push_token.proofs.PlainScan.{see, plainFrom, plain-scan}
+use Rattle.definition.specs.Arms.{nextIs}
+use Rattle.definition.specs.Plain.{isMute, hasItsLexeme, readsWhole, endsOperator, beginsOperator, beginsDigit, tightBefore, tightBehind, clause₂, clause₃, clause₄, clause₅, clause₆, clause₇, plain}
+use Rattle.definition.proofs.PlainScan
+use Rattle.definition.proofs.PlainScan.{see, plainFrom, plain-scan}
 use Rattle.plain.specs.Scan.{Facts, unseen, mute, forbids, collides, fits, behind, plainRows}
 
 -- ---- what the code keeps of what has been seen

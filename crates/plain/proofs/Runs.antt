@@ -10,9 +10,9 @@ use lib.Dec.{leb}
 use lib.ListN.{length, getD, take, drop, drop-of-length-le}
 use lib.Seq.{drop-cons, drop-drop}
 use borrow.Author.Tests.{eq-eqb, leb-true, leb-false}
-use Rattle.report.specs.Bytes.{digit, within}
-use Rattle.report.proofs.Logic.{split, impossible′, and-left, and-right}
-use Rattle.report.proofs.Below.{agree-below}
+use Rattle.shared.specs.Bytes.{digit, within}
+use Rattle.shared.proofs.Logic.{split, impossible′, and-left, and-right}
+use Rattle.shared.proofs.Below.{agree-below}
 use Rattle.pieces.specs.declared.bytes.Class.{Class}
 use Rattle.pieces.specs.declared.bytes.Class.the-variants.{Gap, Single, Quote, Word, Operator, Unclassed}
 use Rattle.pieces.specs.Class.{class, isWord, isOperator}
@@ -20,7 +20,7 @@ use Rattle.pieces.specs.Reading.{done, piece, Kind, word, number, operator, ins
 use Rattle.pieces.proofs.Sets.{word-of, operator-of}
 use Rattle.pieces.proofs.Whole.{Solid}
 use Rattle.pieces.specs.Sets.{all}
-use Rattle.push_token.specs.Plain.{operatorByte, readsWhole, beginsOperator}
+use Rattle.definition.specs.Plain.{operatorByte, readsWhole, beginsOperator}
 use Rattle.plain.specs.Scan.{isWordByte, runOf}
 
 -- ---- the loops

@@ -6,11 +6,11 @@ use Prim.Native.Nat.{ℕ, _≤_, _<_}
 use native.Mathlib.Omega.{arith}
 use lib.Dec.{eqb, leb}
 use borrow.Author.Tests.{eqb-true, eqb-false, ne-eqb, le-leb}
-use Rattle.report.specs.Bytes.{sameBytes}
-use Rattle.report.proofs.Logic.{split, impossible}
-use Rattle.report.proofs.Below.{agree-below}
+use Rattle.shared.specs.Bytes.{sameBytes}
+use Rattle.shared.proofs.Logic.{split, impossible}
+use Rattle.shared.proofs.Below.{agree-below}
 use Rattle.rows.specs.Kinds.{Eof, Newline, LeftBrace, RightBrace, Comma, Dot, DotDot, ColonColon, Hash, Bang, BangHash, Minus, Else}
-use Rattle.push_token.specs.Plain.{readsWhole, beginsOperator, tightBefore, tightBehind}
+use Rattle.definition.specs.Plain.{readsWhole, beginsOperator, tightBefore, tightBehind}
 use Rattle.plain.specs.Scan.{Facts, mute, forbids, meets, fits, isWordByte, runOf, bracketOf}
 use Rattle.plain.proofs.Runs.{words-whole, words-begin}
 use Rattle.plain.proofs.Fixed.{itself, itself-bracket, bracket-begins, dot-begins, above-free}

@@ -6,13 +6,13 @@ use mathlib.Core.List.{List, [], _∷_}
 use mathlib.Core.Path.{_≡_}
 use Prim.Native.Nat.{ℕ}
 use lib.Dec.{eqb}
-use Rattle.report.specs.Bytes.{oneOf}
+use Rattle.shared.specs.Bytes.{oneOf}
 use Rattle.rows.specs.Kinds.{TokenRow, Eof, Newline, LeftBrace, RightBrace, LeftParen, RightParen, LeftBracket, RightBracket, Comma, Dot, Record}
 use Rattle.rows.specs.Row.{Row}
 use Rattle.rows.specs.Token.{bytesOf}
 use Rattle.pieces.specs.Class.{class, isWord}
 use Rattle.pieces.specs.Sets.{all}
-use Rattle.push_token.specs.Plain.{hasItsLexeme, readsWhole, beginsOperator, endsOperator, beginsDigit, tightBefore, tightBehind}
+use Rattle.definition.specs.Plain.{hasItsLexeme, readsWhole, beginsOperator, endsOperator, beginsDigit, tightBefore, tightBehind}
 
 -- ---- what the clauses ask of the tokens before a token
 

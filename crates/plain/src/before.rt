@@ -20,9 +20,9 @@ ghost use mathlib.Core.Path.{_≡_};
 ghost use Prim.Native.Nat.{ℕ, _+_, _≤_, _<_};
 ghost use lib.Dec.{eqb};
 ghost use lib.ListN.{length};
-ghost use Rattle.report.specs.Bytes.{digit};
+ghost use Rattle.shared.specs.Bytes.{digit};
 ghost use Rattle.rows.specs.Kinds.{Dot};
-ghost use Rattle.push_token.specs.Plain.{tightBefore, tightBehind};
+ghost use Rattle.definition.specs.Plain.{tightBefore, tightBehind};
 ghost use Rattle.plain.specs.Scan.{fits, forbids, meets, meetsBehind};
 ghost use Rattle.plain.specs.LookBack.{factsAt, Near};
 

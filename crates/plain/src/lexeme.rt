@@ -11,11 +11,11 @@ ghost use mathlib.Core.Path.{_≡_};
 ghost use Prim.Native.Nat.{_+_, _≤_, _<_};
 ghost use lib.Dec.{eqb};
 ghost use lib.ListN.{length, getD, take, drop};
-ghost use Rattle.report.specs.Bytes.{digit, sameBytes};
+ghost use Rattle.shared.specs.Bytes.{digit, sameBytes};
 ghost use Rattle.pieces.specs.Class.{class};
 ghost use Rattle.pieces.specs.Sets.{all, isQuote};
 ghost use Rattle.pieces.specs.Ends.{ordinary};
-ghost use Rattle.push_token.specs.Plain.{operatorByte, hasItsLexeme, readsWhole, beginsOperator};
+ghost use Rattle.definition.specs.Plain.{operatorByte, hasItsLexeme, readsWhole, beginsOperator};
 ghost use Rattle.plain.specs.Scan.{bracketOf, runOf, IsValue};
 
 // The byte of a kind from LeftBrace to Comma; or 0.

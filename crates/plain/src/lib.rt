@@ -15,7 +15,7 @@ ghost use lib.ListN.{length};
 ghost use Rattle.rows.specs.Row.{rowAt, rowsOf};
 ghost use Rattle.rows.specs.Token.{tokensOf};
 ghost use Rattle.rows.specs.Checks.{atStart, badFrom};
-ghost use Rattle.push_token.specs.Plain.{plain};
+ghost use Rattle.definition.specs.Plain.{plain};
 ghost use Rattle.plain.specs.LookBack.{fitsRow, isNamed, Ahead, Unfit, FitsTo};
 
 mod before;

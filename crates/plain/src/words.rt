@@ -8,7 +8,7 @@ ghost use Prim.Native.Nat.{_+_, _-_, _*_, _≤_, _<_, min};
 ghost use lib.Bits.{bitAnd};
 ghost use lib.Dec.{eqb};
 ghost use lib.ListN.{length, take, drop};
-ghost use Rattle.report.specs.Bytes.{within};
+ghost use Rattle.shared.specs.Bytes.{within};
 ghost use Rattle.rows.specs.Row.{number};
 ghost use Rattle.pieces.specs.Sets.{all};
 ghost use Rattle.pieces.specs.Eight.{eightOnes};

@@ -6,12 +6,12 @@ use Prim.Native.Nat.{ℕ, _≤_}
 use lib.ListN.{length}
 use denote.Enum.Declared.{tagOf}
 use types.Run.{OneOf, miss}
-use Rattle.report.specs.Report.{Report, accepted}
+use Rattle.shared.specs.Report.{Report, accepted}
 use Rattle.pieces.specs.Answer.{readAnswer, readSlots}
-use Rattle.push_token.specs.Layout.{Layout, layout}
-use Rattle.push_token.specs.Demand3.{lexemes, textOf, ReadsBack, FirstHalfOf}
-use Rattle.push_token.proofs.Laid.{layout-fits}
-use Rattle.push_token.proofs.Demand3.{first-half}
+use Rattle.definition.specs.Layout.{Layout, layout}
+use Rattle.definition.specs.Demand3.{lexemes, textOf, ReadsBack, FirstHalfOf}
+use Rattle.definition.proofs.Laid.{layout-fits}
+use Rattle.definition.proofs.Demand3.{first-half}
 use Rattle.format_tokens.specs.declared.Answer.{Answer}
 use Rattle.format_tokens.specs.declared.Answer.the-variants.{Text, BadOption, RaggedRows, BadRow, Deep, Full}
 use Rattle.format_tokens.specs.Answer.{reported}

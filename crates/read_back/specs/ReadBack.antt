@@ -3,10 +3,10 @@
 use mathlib.Core.Bool.{cond}
 use mathlib.Core.List.{List}
 use Prim.Native.Nat.{ℕ}
-use Rattle.report.specs.Report.{Report, success, accepted}
+use Rattle.shared.specs.Report.{Report, success, accepted}
 use Rattle.pieces.specs.Answer.{readAnswer, readSlots}
-use Rattle.push_token.specs.Layout.{Layout}
-use Rattle.push_token.specs.Demand3.{textOf}
+use Rattle.definition.specs.Layout.{Layout}
+use Rattle.definition.specs.Demand3.{textOf}
 use Rattle.format_tokens.specs.declared.Answer.{Answer}
 use Rattle.format_tokens.specs.Answer.{reported}
 

@@ -3,8 +3,8 @@
 use mathlib.Core.Path.{_≡_}
 use Prim.Native.Nat.{_≤_}
 use lib.ListN.{length}
-use Rattle.push_token.specs.Layout.{Layout}
-use Rattle.push_token.specs.Demand3.{lengthOf}
+use Rattle.definition.specs.Layout.{Layout}
+use Rattle.definition.specs.Demand3.{lengthOf}
 
 -- the text, where there is one, lies in the output
 abbrev pub Fits : Layout → Type 0

@@ -7,7 +7,7 @@ use Prim.Native.Nat.{ℕ, _+_, _-_, _*_, _≤_, _<_}
 use native.Mathlib.Omega.{arith}
 use lib.ListN.{length, drop}
 use borrow.Author.Tests.{ne-eqb}
-use Rattle.report.specs.Report.{success, badRow}
+use Rattle.shared.specs.Report.{success, badRow}
 use Rattle.rows.specs.declared.Checked.the-variants.{Good, BadRow}
 use Rattle.rows.specs.Kinds.{Leading}
 use Rattle.rows.specs.Row.{Row, rowAt, rowsOf}

@@ -8,8 +8,8 @@ use native.Mathlib.Omega.{arith}
 use lib.Dec.{eqb, ltb}
 use lib.ListN.{length}
 use borrow.Author.Tests.{eqb-true, ltb-false, not-false}
-use Rattle.report.specs.Report.{Report, success, option, raggedRows, badRow}
-use Rattle.report.proofs.Logic.{or-left, or-right, split}
+use Rattle.shared.specs.Report.{Report, success, option, raggedRows, badRow}
+use Rattle.shared.proofs.Logic.{or-left, or-right, split}
 use Rattle.rows.specs.Row.{rowsOf}
 use Rattle.rows.specs.Options.{badOption}
 use Rattle.rows.specs.Bounds.{InBounds}

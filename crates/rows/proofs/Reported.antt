@@ -2,8 +2,8 @@
 use mathlib.Core.Bool.{cond}
 use mathlib.Core.Path.{_≡_, refl}
 use lib.Dec.{eqb}
-use Rattle.report.specs.Report.{Report, option, raggedRows, badRow}
-use Rattle.report.proofs.Injective.{injective}
+use Rattle.shared.specs.Report.{Report, option, raggedRows, badRow}
+use Rattle.shared.proofs.Injective.{injective}
 use Rattle.rows.specs.declared.Checked.{Checked}
 use Rattle.rows.specs.declared.Checked.the-variants.{Good, BadOption, Ragged, BadRow}
 use Rattle.rows.specs.Answer.{reported}

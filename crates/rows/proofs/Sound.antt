@@ -9,7 +9,7 @@ use lib.Dec.{eqb, ltb}
 use lib.ListN.{length, getD}
 use lib.Seq.{length-slice}
 use borrow.Author.Tests.{ltb-false}
-use Rattle.report.proofs.Logic.{or-left, or-right}
+use Rattle.shared.proofs.Logic.{or-left, or-right}
 use Rattle.rows.specs.Kinds.{TokenRow, Trailing, Other}
 use Rattle.rows.specs.Row.{Row}
 use Rattle.rows.specs.Token.{bytesOf}

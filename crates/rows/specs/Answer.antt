@@ -4,7 +4,7 @@ use mathlib.Core.Bool.{cond}
 use mathlib.Core.List.{List}
 use mathlib.Core.Option.{Option, none, some}
 use Prim.Native.Nat.{ℕ}
-use Rattle.report.specs.Report.{Report, success, refuse, option, raggedRows, badRow}
+use Rattle.shared.specs.Report.{Report, success, refuse, option, raggedRows, badRow}
 use Rattle.rows.specs.declared.Checked.{Checked}
 use Rattle.rows.specs.declared.Checked.the-variants.{Good, BadOption, Ragged, BadRow}
 use Rattle.rows.specs.Row.{rowsOf}

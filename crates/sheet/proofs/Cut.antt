@@ -9,8 +9,8 @@ use lib.Dec.{eqb}
 use lib.ListN.{length, getD, drop, drop-of-length-le}
 use lib.Seq.{drop-cons}
 use borrow.Author.Tests.{ne-eqb}
-use Rattle.report.proofs.Logic.{split}
-use Rattle.report.specs.Bytes.{byte}
+use Rattle.shared.proofs.Logic.{split}
+use Rattle.shared.specs.Bytes.{byte}
 use Rattle.sheet.specs.Line.{putBefore, lines}
 use Rattle.sheet.specs.Steps.{firstLine, behindLine, lineAt, behindAt}
 

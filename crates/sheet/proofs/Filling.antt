@@ -8,8 +8,8 @@ use lib.Dec.{leb}
 use lib.ListN.{length, drop, length-append, length-drop, drop-of-length-le}
 use lib.Seq.{sets, sets-eq, take-at, drop-append-add, drop-drop}
 use borrow.Author.Tests.{leb-true}
-use Rattle.report.specs.Report.{refuse, zeroed, putFirst, badLine, sheetFull}
-use Rattle.report.proofs.Logic.{and-left, and-right}
+use Rattle.shared.specs.Report.{refuse, zeroed, putFirst, badLine, sheetFull}
+use Rattle.shared.proofs.Logic.{and-left, and-right}
 use Rattle.sheet.specs.declared.Answer.{Answer}
 use Rattle.sheet.specs.declared.Answer.the-variants.{Read, NoNames, BadLine, SheetFull}
 use Rattle.sheet.specs.declared.Step.{Step}

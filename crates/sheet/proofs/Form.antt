@@ -7,8 +7,8 @@ use native.Mathlib.Omega.{arith}
 use lib.Dec.{eqb, leb, ltb}
 use lib.ListN.{length, getD, drop, length-drop}
 use borrow.Author.Tests.{ne-eqb, le-leb, lt-leb, leb-true, ltb-true}
-use Rattle.report.specs.Bytes.{digit}
-use Rattle.report.proofs.Logic.{and-left, and-right}
+use Rattle.shared.specs.Bytes.{digit}
+use Rattle.shared.proofs.Logic.{and-left, and-right}
 use Rattle.sheet.specs.declared.line.Head.{Head}
 use Rattle.sheet.specs.declared.line.Head.the-variants.{Row, Bad}
 use Rattle.sheet.specs.Line.{Line, bad, textOf, rowOf, spaceAndText, isSecond, kindFrom, kindAndText, spaceAndKind, whatOf, lineOf}

@@ -2,8 +2,8 @@
 use mathlib.Core.Bool.{cond}
 use mathlib.Core.Path.{_≡_, refl}
 use lib.Dec.{eqb}
-use Rattle.report.specs.Report.{Report, noNames, badLine, sheetFull}
-use Rattle.report.proofs.Injective.{injective}
+use Rattle.shared.specs.Report.{Report, noNames, badLine, sheetFull}
+use Rattle.shared.proofs.Injective.{injective}
 use Rattle.sheet.specs.declared.Answer.{Answer}
 use Rattle.sheet.specs.declared.Answer.the-variants.{Read, NoNames, BadLine, SheetFull}
 use Rattle.sheet.specs.Answer.{reported}

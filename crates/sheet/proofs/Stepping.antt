@@ -9,7 +9,7 @@ use lib.Dec.{leb}
 use lib.ListN.{length}
 use lib.Seq.{sets}
 use borrow.Author.Tests.{leb-true, leb-false, le-leb, lt-leb}
-use Rattle.report.proofs.Logic.{split}
+use Rattle.shared.proofs.Logic.{split}
 use Rattle.sheet.specs.declared.line.Head.{Head}
 use Rattle.sheet.specs.declared.line.Head.the-variants as head
 use Rattle.sheet.specs.declared.line.Text.{Text}

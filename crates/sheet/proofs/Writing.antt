@@ -8,7 +8,7 @@ use lib.Dec.{leb}
 use lib.ListN.{length, set, length-append}
 use lib.Seq.{sets}
 use borrow.Author.Tests.{leb-true, leb-false}
-use Rattle.report.proofs.Logic.{split}
+use Rattle.shared.proofs.Logic.{split}
 use Rattle.sheet.specs.Row.{number, rowBytes}
 use Rattle.sheet.specs.Steps.{Writes}
 

@@ -8,9 +8,9 @@ use Prim.Native.Nat.{ℕ, _+_, _-_, _*_, _/_, _%_, _≤_, _<_}
 use native.Mathlib.Omega.{arith}
 use lib.Dec.{eqb, leb, ltb}
 use borrow.Author.Tests.{eqb-true, ne-eqb, le-leb, leb-true, lt-ltb, le-ltb, ltb-true, ltb-false}
-use Rattle.report.specs.Bytes.{byte, bytes, lineFeed, space, digit}
-use Rattle.report.proofs.Logic.{split}
-use Rattle.report.proofs.Below.{below}
+use Rattle.shared.specs.Bytes.{byte, bytes, lineFeed, space, digit}
+use Rattle.shared.proofs.Logic.{split}
+use Rattle.shared.proofs.Below.{below}
 use Rattle.sheet.specs.Line.{bad, row, withByte, textOf, rowOf, spaceAndText, isSecond, kindFrom, kindAndText, spaceAndKind, whatOf, lineOf}
 use Rattle.sheet.specs.Steps.{firstLine}
 use Rattle.sheet.proofs.Form.{digit-low, digit-high, second-digit, second-some, second-small, digit-solid, what-solid}

@@ -5,7 +5,7 @@ use mathlib.Core.List.{List, [], _∷_, _++_}
 use Prim.Native.Nat.{ℕ, _+_, _*_}
 use lib.Dec.{leb}
 use lib.ListN.{length, drop}
-use Rattle.report.specs.Report.{Report, success, refuse, zeroed, putFirst, noNames, badLine, sheetFull}
+use Rattle.shared.specs.Report.{Report, success, refuse, zeroed, putFirst, noNames, badLine, sheetFull}
 use Rattle.sheet.specs.declared.Answer.{Answer}
 use Rattle.sheet.specs.declared.Answer.the-variants.{Read, NoNames, BadLine, SheetFull}
 use Rattle.sheet.specs.Line.{names, begins, lines, Line, bad, row, lineOf}

@@ -5,7 +5,7 @@ use mathlib.Core.List.{List, [], _∷_}
 use mathlib.Core.Option.{Option, none, some, Option·map}
 use Prim.Native.Nat.{ℕ, _+_, _-_, _*_}
 use lib.Dec.{leb, ltb, eqb}
-use Rattle.report.specs.Bytes.{byte, bytes, digit}
+use Rattle.shared.specs.Bytes.{byte, bytes, digit}
 
 -- Names line: `what kind text` and a line feed.
 abbrev pub names : List ℕ

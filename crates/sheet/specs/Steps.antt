@@ -8,7 +8,7 @@ use Prim.Native.Nat.{ℕ, _+_, _*_, _≤_, _<_}
 use lib.Dec.{eqb}
 use lib.ListN.{length, drop}
 use lib.Seq.{sets}
-use Rattle.report.specs.Bytes.{byte}
+use Rattle.shared.specs.Bytes.{byte}
 use Rattle.sheet.specs.declared.Step.{Step}
 use Rattle.sheet.specs.declared.Step.the-variants as step
 use Rattle.sheet.specs.declared.line.Head.{Head}

@@ -1,9 +1,9 @@
 // The sheet reader (document 01, 'Around the call'): a sheet's lines read into rows and their texts.
-use report::clear_bytes;
+use shared::clear_bytes;
 ghost use mathlib.Core.Path.{_≡_};
 ghost use Prim.Native.Nat.{_+_, _*_, _≤_, _<_};
 ghost use lib.ListN.{length};
-ghost use Rattle.report.specs.Report.{zeroed};
+ghost use Rattle.shared.specs.Report.{zeroed};
 ghost use Rattle.sheet.specs.Line.{begins};
 ghost use Rattle.sheet.specs.Answer.{reported, sheetAnswer, sheetRows, sheetText};
 ghost use Rattle.sheet.specs.Steps.{StepAt};

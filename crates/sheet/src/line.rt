@@ -3,7 +3,7 @@ ghost use mathlib.Core.Path.{_≡_};
 ghost use mathlib.Core.List.{[], _∷_};
 ghost use Prim.Native.Nat.{_+_, _≤_, _<_};
 ghost use lib.ListN.{length};
-ghost use Rattle.report.specs.Bytes.{digit};
+ghost use Rattle.shared.specs.Bytes.{digit};
 ghost use Rattle.sheet.specs.Line.{isSecond, whatOf, kindAndText, lineOf};
 ghost use Rattle.sheet.specs.Steps.{lineAt, HeadAt, TextAt, EscapeAt, Writes};
 

@@ -6,7 +6,7 @@ use Prim.Native.Nat.{ℕ, zero, suc, _+_, _-_, _≤_, _<_}
 use native.Mathlib.Omega.{arith}
 use lib.Dec.{eqb}
 use lib.ListN.{length, take, getD}
-use Rattle.push_token.specs.Arms.{endsWithTwoFeeds}
+use Rattle.definition.specs.Arms.{endsWithTwoFeeds}
 
 two-at : (n : ℕ) (l : List ℕ) → n + 2 ≤ length l → endsWithTwoFeeds (take (suc (suc n)) l) ≡ eqb (getD l n 0) 10 && eqb (getD l (suc n) 0) 10
 unfolding endsWithTwoFeeds

@@ -7,12 +7,12 @@ use native.Mathlib.Omega.{arith}
 use lib.Dec.{eqb}
 use lib.ListN.{length, drop}
 use borrow.Author.Tests.{eq-eqb, ne-eqb}
-use Rattle.report.proofs.Logic.{split}
+use Rattle.shared.proofs.Logic.{split}
 use Rattle.rows.specs.Kinds.{Leading, TokenRow}
 use Rattle.rows.specs.Row.{Row, rowAt, rowsOf}
 use Rattle.rows.specs.Token.{Trivia, triviaOf, tokensFrom, tokensOf}
 use Rattle.lookahead.proofs.Rests.{here, over}
-use Rattle.push_token.specs.Arms.{nextIs}
+use Rattle.definition.specs.Arms.{nextIs}
 
 -- the kind of the next token row
 unfoldable pub nextRowIs : ℕ → List Row → Bool

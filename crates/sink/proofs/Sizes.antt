@@ -6,7 +6,7 @@ use Prim.Native.Nat.{ℕ, _+_, _-_}
 use native.Mathlib.Omega.{arith}
 use lib.ListN.{length, replicate, length-append, length-replicate}
 use lib.Seq.{slice, length-slice}
-use Rattle.report.specs.Bytes.{comma, lineFeed}
+use Rattle.shared.specs.Bytes.{comma, lineFeed}
 use Rattle.rows.specs.Row.{Row}
 use Rattle.rows.specs.Bounds.{Inside}
 use Rattle.rows.specs.Token.{bytesOf}

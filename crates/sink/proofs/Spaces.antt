@@ -7,10 +7,10 @@ use native.Mathlib.Omega.{arith}
 use native.Mathlib.Nat.{mul-le-mul}
 use lib.Dec.{eqb, lit≤}
 use borrow.Author.Tests.{eqb-true, ne-eqb}
-use Rattle.report.proofs.Logic.{either}
-use Rattle.report.proofs.Below.{allBelow, below}
+use Rattle.shared.proofs.Logic.{either}
+use Rattle.shared.proofs.Below.{allBelow, below}
 use Rattle.rows.specs.Kinds.{RightBrace, LeftParen, LeftBracket, Other}
-use Rattle.push_token.specs.Emit.{spaceAfter}
+use Rattle.definition.specs.Emit.{spaceAfter}
 use Rattle.sink.specs.Space.{looseKinds, looseBehind, bit, spaces}
 
 -- ---- by one test, computed at every pair of kinds

@@ -4,7 +4,7 @@ use mathlib.Core.Bool.{cond}
 use mathlib.Core.List.{List, [], _++_}
 use Prim.Native.Nat.{ℕ}
 use lib.Dec.{eqb}
-use Rattle.report.specs.Bytes.{lineFeed, space, slashes, docSlashes, slashStar, starSlash}
+use Rattle.shared.specs.Bytes.{lineFeed, space, slashes, docSlashes, slashStar, starSlash}
 use Rattle.rows.specs.Kinds.{DocComment, BlockComment}
 
 abbrev pub commentHead : ℕ → List ℕ

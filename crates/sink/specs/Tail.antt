@@ -2,7 +2,7 @@
 -- Assumes nothing.
 use mathlib.Core.List.{List, []}
 use Prim.Native.Nat.{ℕ}
-use Rattle.report.specs.Bytes.{bytes, lineFeed}
+use Rattle.shared.specs.Bytes.{bytes, lineFeed}
 use Rattle.sink.specs.declared.write.Tail.{Tail}
 use Rattle.sink.specs.declared.write.Tail.the-variants.{Nothing, Feed, Braces}
 

@@ -6,7 +6,7 @@ use rows::kinds;
 ghost use mathlib.Core.Bool.{cond};
 ghost use mathlib.Core.List.{[], _++_};
 ghost use Prim.Native.Nat.{_<_};
-ghost use Rattle.report.specs.Bytes.{lineFeed, space, starSlash};
+ghost use Rattle.shared.specs.Bytes.{lineFeed, space, starSlash};
 ghost use Rattle.rows.specs.Bounds.{Inside, rowOf};
 ghost use Rattle.rows.specs.Token.{bytesOf};
 ghost use Rattle.sink.specs.Sink.{Writes};

@@ -7,7 +7,7 @@ ghost use mathlib.Core.Path.{_≡_};
 ghost use Prim.Native.Nat.{ℕ, _≤_, _<_};
 ghost use lib.ListN.{length, take, set};
 ghost use Rattle.rows.specs.Token.{tokensOf};
-ghost use Rattle.push_token.specs.Arms.{endsWithTwoFeeds, nextIs};
+ghost use Rattle.definition.specs.Arms.{endsWithTwoFeeds, nextIs};
 
 // Whether the text so far ends with two line feeds.
 pub fn ends_with_two_feeds(out: &[u8], len: usize) -> bool

@@ -6,7 +6,7 @@ ghost use mathlib.Core.List.{[], _++_};
 ghost use Prim.Native.Nat.{_+_, _-_, _≤_, _<_};
 ghost use lib.ListN.{length, replicate};
 ghost use lib.Seq.{slice};
-ghost use Rattle.report.specs.Bytes.{comma, elseWord, lineFeed};
+ghost use Rattle.shared.specs.Bytes.{comma, elseWord, lineFeed};
 ghost use Rattle.sink.specs.Sink.{Writes, countComma, countFeed};
 ghost use Rattle.sink.specs.Tail.{tailBytes};
 

@@ -15,7 +15,7 @@ ghost use mathlib.Core.Path.{_≡_};
 ghost use Prim.Native.Nat.{_+_, _≤_, _<_};
 ghost use lib.ListN.{length, replicate};
 ghost use lib.Seq.{slice};
-ghost use Rattle.report.specs.Bytes.{comma, elseWord, leftBrace, leftParen, lineFeed};
+ghost use Rattle.shared.specs.Bytes.{comma, elseWord, leftBrace, leftParen, lineFeed};
 ghost use Rattle.rows.specs.Row.{rowAt};
 ghost use Rattle.rows.specs.Bounds.{Inside};
 ghost use Rattle.rows.specs.Token.{bytesOf};

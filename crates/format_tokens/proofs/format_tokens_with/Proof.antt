@@ -2,7 +2,7 @@
 use mathlib.Core.Path.{sym, ap, _∙_}
 use native.Mathlib.Omega.{arith}
 use borrow.Author.Needs.{needs}
-use Rattle.report.specs.Report.{refuse, option, raggedRows, badRow}
+use Rattle.shared.specs.Report.{refuse, option, raggedRows, badRow}
 use Rattle.rows.specs.Answer.{reported}
 use Rattle.format_tokens.proofs.Laid.{refused-answers, passed-layout, passed-walks, small-width}
 use Rattle.rows.proofs.Passed.{passed}

@@ -1,7 +1,7 @@
 -- `format_tokens::is_plain` meets its contract. Assumes nothing.
 use native.Mathlib.Omega.{arith}
 use borrow.Author.Needs.{needs}
-use Rattle.report.proofs.Logic.{impossible′}
+use Rattle.shared.proofs.Logic.{impossible′}
 use Rattle.format_tokens.proofs.is_plain.Statement.{statement}
 use Rattle.format_tokens.proofs.is_plain.Tie as tie
 

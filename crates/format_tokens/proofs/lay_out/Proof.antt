@@ -1,7 +1,7 @@
 -- `format_tokens::lay_out` meets its contract. Assumes nothing.
 use Rattle.format_tokens.proofs.Laid.{text-answers, stopped-out}
 use Rattle.format_tokens.proofs.Bare.{plain-bare}
-use Rattle.report.specs.Report.{deep, full}
+use Rattle.shared.specs.Report.{deep, full}
 use mathlib.Core.Path.{refl, sym, _∙_}
 use borrow.Author.Needs.{needs}
 use Rattle.format_tokens.proofs.lay_out.Statement.{statement}

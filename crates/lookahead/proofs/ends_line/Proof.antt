@@ -4,7 +4,7 @@ use mathlib.Core.Path.{refl}
 use native.Mathlib.Omega.{arith}
 use borrow.Author.Tests.{ne-eqb}
 use Rattle.rows.specs.Kinds.{Eof, Newline}
-use Rattle.report.proofs.Below.{agree-below}
+use Rattle.shared.proofs.Below.{agree-below}
 use Rattle.lookahead.specs.Scan.{endsLine}
 use Rattle.lookahead.proofs.ends_line.Statement.{statement}
 use Rattle.lookahead.proofs.ends_line.Tie as tie

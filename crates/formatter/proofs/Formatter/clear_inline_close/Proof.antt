@@ -1,6 +1,6 @@
 -- `formatter::Formatter::clear_inline_close` meets its contract. Assumes nothing.
 use mathlib.Core.Path.{refl}
-use Rattle.push_token.specs.Emit.{leadingTrivia}
+use Rattle.definition.specs.Emit.{leadingTrivia}
 use Rattle.formatter.proofs.Does.{seq, stays, updated}
 use Rattle.sink.proofs.Sink.{nothing}
 use Rattle.formatter.proofs.Formatter.clear_inline_close.Statement.{statement}

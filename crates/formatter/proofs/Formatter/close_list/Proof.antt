@@ -1,7 +1,7 @@
 -- `formatter::Formatter::close_list` meets its contract. Assumes nothing.
 use mathlib.Core.Path.{sym}
 use borrow.Author.Needs.{needs}
-use Rattle.push_token.specs.Emit.{onNewLine}
+use Rattle.definition.specs.Emit.{onNewLine}
 use Rattle.formatter.specs.Pen.{optionsOf}
 use Rattle.formatter.proofs.Does.{closing}
 use Rattle.formatter.proofs.Stack.{top-popped}

@@ -2,9 +2,9 @@
 use mathlib.Core.Bool.{_||_}
 use mathlib.Core.Path.{sym}
 use borrow.Author.Needs.{needs}
-use Rattle.report.specs.Bytes.{rightBrace}
+use Rattle.shared.specs.Bytes.{rightBrace}
 use Rattle.rows.specs.Kinds.{Comma, LeftBrace}
-use Rattle.push_token.specs.Emit.{prevIs, onNewLine}
+use Rattle.definition.specs.Emit.{prevIs, onNewLine}
 use Rattle.formatter.specs.Pen.{optionsOf}
 use Rattle.formatter.proofs.Does.{closing, picked}
 use Rattle.formatter.proofs.Formatter.close_record.Statement.{statement}

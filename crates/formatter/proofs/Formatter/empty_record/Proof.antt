@@ -1,12 +1,12 @@
 -- `formatter::Formatter::empty_record` meets its contract. Assumes nothing.
 use mathlib.Core.Path.{refl, sym}
 use borrow.Author.Needs.{needs}
-use Rattle.report.specs.Bytes.{bytes}
+use Rattle.shared.specs.Bytes.{bytes}
 use Rattle.rows.specs.Kinds.{LeftBrace}
-use Rattle.push_token.specs.Act.{run}
-use Rattle.push_token.specs.Arms.{emptyRecord}
-use Rattle.push_token.specs.Emit.{tokenGap}
-use Rattle.push_token.proofs.Said.{said}
+use Rattle.definition.specs.Act.{run}
+use Rattle.definition.specs.Arms.{emptyRecord}
+use Rattle.definition.specs.Emit.{tokenGap}
+use Rattle.definition.proofs.Said.{said}
 use Rattle.sink.proofs.Sink.{same-bytes}
 use Rattle.formatter.specs.Parts.{gapSize}
 use Rattle.formatter.specs.Pen.{optionsOf, fieldsOf}

@@ -9,7 +9,7 @@ use Rattle.formatter.proofs.Loop.{Loop, Led, unled, led-by, led-puts, l
 use Rattle.formatter.proofs.Going.{laid-stopped, laid-done}
 use Rattle.formatter.proofs.Place.{ahead, leads, next-token, trails}
 use Rattle.formatter.specs.Pen.{on, optionsOf}
-use Rattle.report.specs.Report.{deep, full}
+use Rattle.shared.specs.Report.{deep, full}
 use Rattle.formatter.proofs.Formatter.format.Statement.{statement}
 use Rattle.formatter.proofs.Formatter.format.Tie as tie
 

@@ -2,7 +2,7 @@
 use native.Mathlib.Omega.{arith}
 use borrow.Author.Needs.{needs}
 use borrow.Author.Tests.{not-false, eqb-true}
-use Rattle.report.proofs.Logic.{impossible′}
+use Rattle.shared.proofs.Logic.{impossible′}
 use Rattle.formatter.proofs.Formatter.is_nested.Statement.{statement}
 use Rattle.formatter.proofs.Formatter.is_nested.Tie as tie
 

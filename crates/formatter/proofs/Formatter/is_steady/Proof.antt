@@ -3,7 +3,7 @@ use mathlib.Core.Path.{sym, _∙_}
 use native.Mathlib.Omega.{arith}
 use borrow.Author.Needs.{needs}
 use borrow.Author.Tests.{eqb-true}
-use Rattle.report.proofs.Logic.{impossible, impossible′}
+use Rattle.shared.proofs.Logic.{impossible, impossible′}
 use Rattle.formatter.proofs.Does.{told}
 use Rattle.formatter.proofs.Formatter.is_steady.Statement.{statement}
 use Rattle.formatter.proofs.Formatter.is_steady.Tie as tie

@@ -1,6 +1,6 @@
 -- `formatter::Formatter::left_brace_arm` meets its contract. Assumes nothing.
 use borrow.Author.Needs.{needs}
-use Rattle.push_token.specs.Arms.{emptyRecord}
+use Rattle.definition.specs.Arms.{emptyRecord}
 use Rattle.formatter.specs.Pen.{optionsOf}
 use Rattle.formatter.proofs.Blocks.{brace}
 use Rattle.formatter.proofs.Does.{told, yes, no, seq}

@@ -1,7 +1,7 @@
 -- `formatter::Formatter::left_bracket_arm` meets its contract. Assumes nothing.
 use mathlib.Core.Path.{_∙_}
 use borrow.Author.Needs.{needs}
-use Rattle.push_token.specs.Arms.{leftBracketArm}
+use Rattle.definition.specs.Arms.{leftBracketArm}
 use Rattle.formatter.specs.Pen.{optionsOf}
 use Rattle.formatter.proofs.Does.{yes, no, told}
 use Rattle.formatter.proofs.Groups.{bracket-room}

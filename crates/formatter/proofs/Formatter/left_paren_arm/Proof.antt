@@ -1,7 +1,7 @@
 -- `formatter::Formatter::left_paren_arm` meets its contract. Assumes nothing.
 use mathlib.Core.Path.{refl, sym, _∙_}
 use borrow.Author.Needs.{needs}
-use Rattle.push_token.specs.Arms.{openGroup, leftParenArm}
+use Rattle.definition.specs.Arms.{openGroup, leftParenArm}
 use Rattle.sink.proofs.Sink.{nothing}
 use Rattle.formatter.specs.Pen.{optionsOf}
 use Rattle.formatter.proofs.Does.{seq, updated, yes, no, told}

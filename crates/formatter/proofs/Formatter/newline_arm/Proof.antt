@@ -2,9 +2,9 @@
 use mathlib.Core.Path.{refl, sym}
 use Prim.Native.Nat.{_+_}
 use borrow.Author.Needs.{needs}
-use Rattle.push_token.specs.Act.{run}
-use Rattle.push_token.specs.Arms.{newlineArm}
-use Rattle.push_token.proofs.Said.{said}
+use Rattle.definition.specs.Act.{run}
+use Rattle.definition.specs.Arms.{newlineArm}
+use Rattle.definition.proofs.Said.{said}
 use Rattle.sink.proofs.Sink.{nothing}
 use Rattle.formatter.specs.Parts.{feedsLine}
 use Rattle.formatter.specs.Pen.{on, stateOf}

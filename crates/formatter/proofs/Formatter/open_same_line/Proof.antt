@@ -1,8 +1,8 @@
 -- `formatter::Formatter::open_same_line` meets its contract. Assumes nothing.
 use mathlib.Core.Path.{refl, sym}
 use borrow.Author.Needs.{needs}
-use Rattle.push_token.specs.Act.{run}
-use Rattle.push_token.proofs.Said.{said}
+use Rattle.definition.specs.Act.{run}
+use Rattle.definition.proofs.Said.{said}
 use Rattle.formatter.proofs.Does.{does}
 use Rattle.formatter.proofs.Formatter.open_same_line.Statement.{statement}
 use Rattle.formatter.proofs.Formatter.open_same_line.Tie as tie

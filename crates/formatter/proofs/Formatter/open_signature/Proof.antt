@@ -3,7 +3,7 @@ use mathlib.Core.Path.{refl}
 use borrow.Author.Needs.{needs}
 use Rattle.lookahead.proofs.Sizes.{sig-tokens}
 use Rattle.lookahead.specs.Measure.{shouldBreakSig}
-use Rattle.push_token.specs.Arms.{openGroup}
+use Rattle.definition.specs.Arms.{openGroup}
 use Rattle.sink.proofs.Sink.{nothing}
 use Rattle.formatter.specs.Pen.{optionsOf}
 use Rattle.formatter.proofs.Does.{seq, updated, yes, no, told}

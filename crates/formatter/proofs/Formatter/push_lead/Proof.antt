@@ -5,8 +5,8 @@ use Rattle.formatter.proofs.Comments.{blank-row, lead-comment}
 use Rattle.formatter.specs.Pen.{optionsOf, formatterOf}
 use Rattle.sink.proofs.Sink.{andThen}
 use Rattle.rows.specs.Bounds.{rowOf}
-use Rattle.push_token.proofs.Said.{said}
-use Rattle.push_token.specs.Act.{run}
+use Rattle.definition.proofs.Said.{said}
+use Rattle.definition.specs.Act.{run}
 use mathlib.Core.Path.{refl}
 use borrow.Author.Needs.{needs}
 use Rattle.formatter.proofs.Formatter.push_lead.Statement.{statement}

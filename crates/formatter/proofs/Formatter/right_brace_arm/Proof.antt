@@ -1,6 +1,6 @@
 -- `formatter::Formatter::right_brace_arm` meets its contract. Assumes nothing.
 use borrow.Author.Needs.{needs}
-use Rattle.push_token.specs.Arms.{rightBraceArm}
+use Rattle.definition.specs.Arms.{rightBraceArm}
 use Rattle.formatter.proofs.Does.{told, yes, no}
 use Rattle.formatter.proofs.Formatter.right_brace_arm.Statement.{statement}
 use Rattle.formatter.proofs.Formatter.right_brace_arm.Tie as tie

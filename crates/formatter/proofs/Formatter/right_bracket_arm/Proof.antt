@@ -2,8 +2,8 @@
 use mathlib.Core.Bool.{not}
 use borrow.Author.Needs.{needs}
 use Rattle.rows.specs.Kinds.{Comma}
-use Rattle.push_token.specs.Arms.{rightBracketArm}
-use Rattle.push_token.specs.Emit.{prevIs}
+use Rattle.definition.specs.Arms.{rightBracketArm}
+use Rattle.definition.specs.Emit.{prevIs}
 use Rattle.formatter.proofs.Does.{yes, no, told, picked}
 use Rattle.formatter.proofs.Formatter.right_bracket_arm.Statement.{statement}
 use Rattle.formatter.proofs.Formatter.right_bracket_arm.Tie as tie

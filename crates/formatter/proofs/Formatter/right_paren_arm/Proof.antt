@@ -1,8 +1,8 @@
 -- `formatter::Formatter::right_paren_arm` meets its contract. Assumes nothing.
 use mathlib.Core.Path.{refl, sym}
 use borrow.Author.Needs.{needs}
-use Rattle.push_token.specs.Act.{run}
-use Rattle.push_token.specs.Arms.{closeGroup, rightParenArm}
+use Rattle.definition.specs.Act.{run}
+use Rattle.definition.specs.Arms.{closeGroup, rightParenArm}
 use Rattle.sink.proofs.Sink.{nothing}
 use Rattle.formatter.specs.Pen.{optionsOf}
 use Rattle.formatter.proofs.Does.{seq, updated, yes, no, told, same-run}

@@ -3,7 +3,7 @@ use borrow.Author.Tests.{ne-eqb}
 use borrow.Author.Needs.{needs}
 use lib.Dec.{eqb}
 use Rattle.rows.specs.Kinds.{Identifier, Newline}
-use Rattle.push_token.specs.Emit.{isSome}
+use Rattle.definition.specs.Emit.{isSome}
 use Rattle.formatter.specs.Pen.{signatureOf}
 use Rattle.formatter.proofs.Lexemes.{idle}
 use Rattle.formatter.proofs.Does.{told}

@@ -1,6 +1,6 @@
 -- `formatter::nested::is_open` meets its contract. Assumes nothing.
 use borrow.Author.Needs.{needs}
-use Rattle.report.proofs.Logic.{impossible′}
+use Rattle.shared.proofs.Logic.{impossible′}
 use Rattle.formatter.proofs.nested.is_open.Statement.{statement}
 use Rattle.formatter.proofs.nested.is_open.Tie as tie
 

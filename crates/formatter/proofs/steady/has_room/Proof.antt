@@ -3,7 +3,7 @@ use Prim.Native.Nat.{_+_, _-_}
 use native.Mathlib.Omega.{arith}
 use borrow.Author.Needs.{needs}
 use borrow.Author.Tests.{leb-true}
-use Rattle.report.proofs.Logic.{impossible′}
+use Rattle.shared.proofs.Logic.{impossible′}
 use Rattle.formatter.proofs.steady.has_room.Statement.{statement}
 use Rattle.formatter.proofs.steady.has_room.Tie as tie
 

@@ -5,7 +5,7 @@ use native.Mathlib.Omega.{arith}
 use borrow.Author.Needs.{needs}
 use borrow.Author.Tests.{eqb-false, not-true}
 use Rattle.rows.specs.Kinds.{Leading, TokenRow, Trailing}
-use Rattle.report.proofs.Logic.{impossible′}
+use Rattle.shared.proofs.Logic.{impossible′}
 use Rattle.formatter.proofs.Place.{bare-run}
 use Rattle.formatter.proofs.RunEnd.{other-run, none-run}
 use Rattle.formatter.proofs.steady.is_lone.Statement.{statement}

@@ -6,7 +6,7 @@ use borrow.Author.Needs.{needs}
 use Rattle.formatter.specs.Steady.{spaceBefore}
 use Rattle.sink.specs.Space.{bit}
 use Rattle.formatter.proofs.SteadyTurn.{space-few}
-use Rattle.report.proofs.Logic.{impossible′}
+use Rattle.shared.proofs.Logic.{impossible′}
 use Rattle.formatter.proofs.steady.takes.Statement.{statement}
 use Rattle.formatter.proofs.steady.takes.Tie as tie
 

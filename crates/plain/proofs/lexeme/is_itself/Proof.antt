@@ -5,7 +5,7 @@ use borrow.Author.Needs.{needs}
 use Rattle.rows.specs.Kinds.{Colon, Semicolon, Question, Dot, DotDot, ColonColon, Hash, Bang, Minus, Else}
 use Rattle.pieces.specs.Class.{class}
 use Rattle.pieces.specs.Reading.{read}
-use Rattle.push_token.specs.Plain.{hasItsLexeme, readsWhole}
+use Rattle.definition.specs.Plain.{hasItsLexeme, readsWhole}
 use Rattle.plain.proofs.Fixed.{itself-fixed, itself-operators, only-else}
 use Rattle.plain.proofs.lexeme.is_itself.Statement.{statement}
 use Rattle.plain.proofs.lexeme.is_itself.Tie as tie

@@ -2,7 +2,7 @@
 use mathlib.Core.Path.{sym, _∙_}
 use native.Mathlib.Omega.{arith}
 use borrow.Author.Needs.{needs}
-use Rattle.report.proofs.Logic.{impossible′}
+use Rattle.shared.proofs.Logic.{impossible′}
 use Rattle.plain.proofs.Quick.{long-value}
 use Rattle.plain.proofs.lexeme.is_long_quoted.Statement.{statement}
 use Rattle.plain.proofs.lexeme.is_long_quoted.Tie as tie

@@ -5,7 +5,7 @@ use lib.ListN.{length, drop}
 use borrow.Author.Needs.{needs}
 use borrow.Author.Tests.{not-true, not-false}
 use Rattle.pieces.specs.Sets.{all}
-use Rattle.push_token.specs.Plain.{operatorByte}
+use Rattle.definition.specs.Plain.{operatorByte}
 use Rattle.plain.specs.Scan.{runOf}
 use Rattle.plain.proofs.Runs.{run-empty, run-start, run-more, run-stop, run-out}
 use Rattle.plain.proofs.lexeme.is_operators.Statement.{statement}

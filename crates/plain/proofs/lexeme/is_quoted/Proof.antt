@@ -2,7 +2,7 @@
 use mathlib.Core.Path.{sym, _∙_}
 use borrow.Author.Needs.{needs}
 use borrow.Author.Tests.{not-false}
-use Rattle.report.proofs.Logic.{impossible′}
+use Rattle.shared.proofs.Logic.{impossible′}
 use Rattle.plain.proofs.Quick.{quote-value}
 use Rattle.plain.proofs.lexeme.is_quoted.Statement.{statement}
 use Rattle.plain.proofs.lexeme.is_quoted.Tie as tie

@@ -1,7 +1,7 @@
 -- `plain::lexeme::is_value` meets its contract. Assumes nothing.
 use mathlib.Core.Path.{sym, _∙_}
 use borrow.Author.Needs.{needs}
-use Rattle.report.proofs.Logic.{impossible′}
+use Rattle.shared.proofs.Logic.{impossible′}
 use Rattle.plain.proofs.Quick.{number-value}
 use Rattle.plain.proofs.lexeme.is_value.Statement.{statement}
 use Rattle.plain.proofs.lexeme.is_value.Tie as tie

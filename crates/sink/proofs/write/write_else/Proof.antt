@@ -3,7 +3,7 @@ use mathlib.Core.Path.{_∙_}
 use native.Mathlib.Omega.{arith}
 use borrow.Author.Needs.{needs}
 use lib.ListN.{length-set}
-use Rattle.report.specs.Bytes.{elseWord}
+use Rattle.shared.specs.Bytes.{elseWord}
 use Rattle.sink.proofs.Sizes.{gap-size}
 use Rattle.sink.proofs.Sink.{andThen, one, past}
 use Rattle.sink.proofs.write.write_else.Statement.{statement}
