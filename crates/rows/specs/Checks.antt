@@ -7,11 +7,18 @@ use Prim.Native.Nat.{ℕ, _+_, _-_, _/_, _%_}
 use lib.Dec.{eqb, ltb}
 use lib.ListN.{length}
 use Rattle.rows.specs.Kinds.{Leading, TokenRow, Trailing, BlankLine, Other}
-use Rattle.rows.specs.Row.{Row}
+use Rattle.rows.specs.Row.{Row, rowSize}
+
+-- as many rows as a call takes at most, and their bytes
+abbrev pub mostRows : ℕ
+mostRows = 65535
+
+abbrev pub mostRowBytes : ℕ
+mostRowBytes = 1048560
 
 -- Refusal 2: rows not of 16 bytes each, or over 65,535 rows.
 abbrev pub ragged : List ℕ → Bool
-ragged rows = not (eqb (length rows % 16) 0) || ltb 65535 (length rows / 16)
+ragged rows = not (eqb (length rows % rowSize) 0) || ltb mostRows (length rows / rowSize)
 
 -- the row before a row: none, or one of a what
 pub data Before : Type 0 where

@@ -18,7 +18,27 @@ pub record Options : Type 0 where
 abbrev pub optionsOf : ℕ → ℕ → ℕ → ℕ → Options
 optionsOf style indent signature list = record { braceStyle = cond (eqb style 0) SameLine Allman; indentWidth = indent; fnSigWidth = signature; listWidth = list }
 
+-- the bounds: style 0 or 1, indent width at most 16, both other widths at most 65,535
+abbrev pub mostIndentWidth : ℕ
+mostIndentWidth = 16
+
+abbrev pub mostWidth : ℕ
+mostWidth = 65535
+
+-- "Defaults 1, 4, 40, 40."
+abbrev pub defaultStyle : ℕ
+defaultStyle = 1
+
+abbrev pub defaultIndentWidth : ℕ
+defaultIndentWidth = 4
+
+abbrev pub defaultWidth : ℕ
+defaultWidth = 40
+
 -- Refusal 1: the position of the first option out of bounds.
 unfoldable pub badOption : ℕ → ℕ → ℕ → ℕ → Option ℕ
 badOption style indent signature list =
-    cond (ltb 1 style) (some 0) (cond (ltb 16 indent) (some 1) (cond (ltb 65535 signature) (some 2) (cond (ltb 65535 list) (some 3) none)))
+    cond (ltb 1 style) (some 0)
+    (cond (ltb mostIndentWidth indent) (some 1)
+    (cond (ltb mostWidth signature) (some 2)
+    (cond (ltb mostWidth list) (some 3) none)))

@@ -4,6 +4,10 @@ use mathlib.Core.List.{List, [], _∷_}
 use Prim.Native.Nat.{ℕ, zero, suc, _+_, _*_, _/_}
 use lib.ListN.{length, getD, drop}
 
+-- the bytes of a row
+abbrev pub rowSize : ℕ
+rowSize = 16
+
 pub record Row : Type 0 where
   pub what : ℕ
   pub kind : ℕ
@@ -20,7 +24,7 @@ rowAt bytes at = record { what = number bytes at; kind = number bytes (at + 4); 
 -- the first n rows
 unfoldable pub firstRows : ℕ → List ℕ → List Row
 firstRows zero bytes = []
-firstRows (suc n) bytes = rowAt bytes 0 ∷ firstRows n (drop 16 bytes)
+firstRows (suc n) bytes = rowAt bytes 0 ∷ firstRows n (drop rowSize bytes)
 
 unfoldable pub rowsOf : List ℕ → List Row
-rowsOf bytes = firstRows (length bytes / 16) bytes
+rowsOf bytes = firstRows (length bytes / rowSize) bytes
