@@ -18,7 +18,7 @@ use Rattle.pieces.specs.Reading.{Reading, done, refused, piece, peek, read, rea
 use Rattle.pieces.proofs.Whole.{Left, clear, shut, afterWord, afterNumber, afterOperator, leaves, leftBy, Undigit, Apart, ReadsWhole, Operators, whole-operators}
 use Rattle.pieces.proofs.Written.{apart-single}
 use Rattle.shared.proofs.Logic.{impossible, impossible′, and-left, and-right, or-cases, or-left, or-right, split}
-use Rattle.definition.specs.Emit.{spaceAfter}
+use Rattle.spaces.specs.Space.{spaceAfter}
 use Rattle.definition.specs.Plain.{operatorByte, onlyOperators, hasItsLexeme, isOnePiece, readsWhole, endsOperator, beginsOperator, tightBefore, tightBehind, operatorsMeet, mayMeet, beginsDigit, noDotBehind}
 use Rattle.definition.proofs.After.{Each, among}
 

@@ -19,7 +19,8 @@ use Rattle.definition.specs.Formatter.{Formatter, setInlineDepth, setRec
 use Rattle.definition.specs.Act.{State, state, run, _⨾_}
 use Rattle.shared.specs.Bytes.{lineFeed, space}
 use Rattle.definition.specs.Emit.{prevIs, indentOrSpace, onNewLine, dedented, openBlockMultiline}
-use Rattle.definition.specs.Arms.{rightBraceArm, nextIs, openBlock, leftBraceArm}
+use Rattle.definition.specs.Arms.{rightBraceArm, openBlock, leftBraceArm}
+use Rattle.lookahead.specs.Measure.{nextIs}
 use Rattle.definition.specs.Plain.{isMute, hasItsLexeme}
 use Rattle.definition.proofs.PlainScan.{Seen}
 use Rattle.definition.proofs.After.{After, chosen, inTurn, first, last}

@@ -19,7 +19,8 @@ use Rattle.shared.proofs.Logic.{either}
 use Rattle.definition.specs.Formatter.{Formatter}
 use Rattle.definition.specs.Act.{State}
 use Rattle.shared.specs.Bytes.{lineFeed, space}
-use Rattle.definition.specs.Emit.{indentStr, indentOrSpace, onNewLine, spaceAfter, tokenGap}
+use Rattle.definition.specs.Emit.{indentStr, indentOrSpace, onNewLine, tokenGap}
+use Rattle.spaces.specs.Space.{spaceAfter}
 use Rattle.definition.specs.Plain.{mayMeet, noDotBehind}
 use Rattle.definition.proofs.PlainScan.{Seen}
 use Rattle.definition.proofs.Beside.{Sound, reads-whole, apart}

@@ -18,7 +18,8 @@ use Rattle.definition.specs.Formatter.{Formatter}
 use Rattle.definition.specs.Act.{State, state, Act, run, update, _⨾_, nothing, if}
 use Rattle.shared.specs.Bytes.{lineFeed}
 use Rattle.definition.specs.Emit.{isSome, trackFnState, leadingTrivia, trailingTrivia}
-use Rattle.definition.specs.Arms.{nextIs, newlineArm}
+use Rattle.definition.specs.Arms.{newlineArm}
+use Rattle.lookahead.specs.Measure.{nextIs}
 use Rattle.definition.specs.PushToken.{takeInlineClose, arm, pushToken, turn}
 use Rattle.definition.specs.Plain.{isMute, readsWhole, mayMeet, noDotBehind, clause₁, clause₂, clause₃, clause₄, clause₅, clause₆, clause₇}
 use Rattle.definition.proofs.PlainScan.{Seen, see, fits}

@@ -11,7 +11,7 @@ use Rattle.shared.specs.Bytes.{byte, bytes, lineFeed, space, leftBrace, rightBr
 use Rattle.rows.specs.Kinds.{Newline, LeftBrace, RightBrace, LeftParen, RightParen, RightBracket, Comma, Else, Record, Identifier}
 use Rattle.rows.specs.Options.{Options}
 use Rattle.rows.specs.Token.{Token}
-use Rattle.lookahead.specs.Measure.{nextHasComment, isEmpty, blockIsSingleLine, shouldBreakSig, shouldBreakList}
+use Rattle.lookahead.specs.Measure.{nextIs, nextHasComment, isEmpty, blockIsSingleLine, shouldBreakSig, shouldBreakList}
 use Rattle.definition.specs.Formatter.{Formatter, setAtLineStart, setPrev, setInlineDepth, setFnState, setSigBreakDepth, setRecordPending, setInRecord, setRecordDepth, setJustClosedInline, setSuppressNewlineAt, setGroupDepth, setBreakStack, setReturned, setSkipNext}
 use Rattle.definition.specs.Act.{Act, update, gap, lexeme, insert, _⨾_, choose, nothing, if}
 use Rattle.definition.specs.Emit.{isAt, prevIs, indentStr, indentOrSpace, onNewLine, endedBy, lineBegun, indented, dedented, openBlockMultiline, pushLexeme, emitTokenText}
@@ -89,10 +89,6 @@ unfoldable pub rightBraceArm : Options → Act
 rightBraceArm o = if inOneLineBlock (closeInline o) (if atRecordFields (closeRecord o) (closeBlock o))
 
 -- ---- LeftBrace, 387
-
-abbrev pub nextIs : ℕ → List Token → Bool
-nextIs k [] = false
-nextIs k (t ∷ ts) = eqb (t .kind) k
 
 -- `record E {}`: the lexeme and `{}`, and the `}` behind it is taken along
 unfoldable pub emptyRecord : Options → Token → Act

@@ -10,7 +10,7 @@ use Rattle.shared.specs.Bytes.{byte, lineFeed, space, leftBrace, slashes, docSl
 use Rattle.rows.specs.Kinds.{Newline, Minus, Fn, Identifier}
 use Rattle.rows.specs.Options.{BraceStyle, SameLine, Allman, Options}
 use Rattle.rows.specs.Token.{Trivia, lineComment, docComment, blockComment, blankLine, Token}
-use Rattle.lookahead.specs.Space.{needsSpace, isValueToken}
+use Rattle.spaces.specs.Space.{isValueToken, spaceAfter}
 use Rattle.definition.specs.Formatter.{Formatter, setIndent, setAtLineStart, setPrev, setPrevMinusIsUnary, setFnState, setSuppressNewlineAt}
 use Rattle.definition.specs.Act.{Act, update, gap, lexeme, comment, _⨾_, nothing, if}
 
@@ -101,11 +101,6 @@ unfoldable pub openBlockMultiline : Options → ℕ → Act
 openBlockMultiline o i = if (λ f. isAllman (o .braceStyle)) (openAllman o i) openSameLine
 
 -- ---- `push_lexeme`, 654, and `emit_token_text`, 664
-
--- whether a space stands before a token of the kind k; none behind a unary `-`
-abbrev pub spaceAfter : Option ℕ → Bool → ℕ → Bool
-spaceAfter none unary k = false
-spaceAfter (some p) unary k = cond (eqb p Minus && unary) false (needsSpace p k)
 
 abbrev pub tokenGap : Options → ℕ → Formatter → List ℕ
 tokenGap o k f = cond (f .atLineStart) (indentStr o f) (cond (spaceAfter (f .prev) (f .prevMinusIsUnary) k) space [])

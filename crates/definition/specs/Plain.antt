@@ -13,7 +13,7 @@ use Rattle.rows.specs.Token.{Token}
 use Rattle.lookahead.specs.Measure.{bare}
 use Rattle.pieces.specs.Class.{class, isOperator}
 use Rattle.pieces.specs.Reading.{Reading, done, refused, piece, reading}
-use Rattle.definition.specs.Arms.{nextIs}
+use Rattle.lookahead.specs.Measure.{nextIs}
 
 -- Newline and Eof: all other tokens are written
 abbrev pub isMute : Token → Bool

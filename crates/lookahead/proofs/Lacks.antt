@@ -1,4 +1,4 @@
--- Rows without a token of a kind: no list breaks without a comma, no block closes without a `}`; `behind_last` finds where they begin. Assumes nothing.
+-- Rows without a token of a kind: no list breaks without a comma, no block closes without a `}`; `after_last` finds where they begin. Assumes nothing.
 use mathlib.Core.Bool.{Bool, true, false, not, _&&_, _||_, and-false}
 use mathlib.Core.List.{List, [], _∷_}
 use mathlib.Core.Path.{_≡_, refl, sym, ap, _∙_}
@@ -13,7 +13,7 @@ use Rattle.rows.specs.Row.{Row, rowAt, rowsOf}
 use Rattle.rows.specs.Token.{Trivia, tokenOf, tokensFrom, tokensOf}
 use Rattle.rows.proofs.RowList.{part-cons, part-none, rows-drop}
 use Rattle.lookahead.specs.Measure.{Measure, start, sized, sizes, counted, measureFrom, opensParen, groupStops, topLevel, shouldBreakList, blockIsSingleLine}
-use Rattle.lookahead.specs.Scan.{upToLast, behindLast, lacks, trails, endsLine}
+use Rattle.lookahead.specs.Scan.{upToLast, afterLast, lacks, trails, endsLine}
 use Rattle.lookahead.proofs.Tokens.{singleLineRows, single-rows}
 
 -- ---- the first row and the rest
@@ -87,11 +87,11 @@ up-to-drop k (suc n) (r ∷ rs) h =
     (λ z. let e = eqb-true (upToLast k rs) 0 z in omega arith)
     (λ z. let l : upToLast k rs + 1 ≤ suc n = rw z at h in omega arith))
 
--- from `behind_last` on the rows lack the kind
-pub none-behind : (k : ℕ) (rows : List ℕ) {r : ℕ} → r ≡ behindLast k rows → (j : ℕ) → r ≤ 16 * j → lacks k (rowsOf (drop (16 * j) rows)) ≡ true
-none-behind k rows e j h = rw (rows-drop j rows) (none-lacks k (drop j (rowsOf rows)) (up-to-drop k j (rowsOf rows) (omega arith)))
+-- from `after_last` on the rows lack the kind
+pub none-after : (k : ℕ) (rows : List ℕ) {r : ℕ} → r ≡ afterLast k rows → (j : ℕ) → r ≤ 16 * j → lacks k (rowsOf (drop (16 * j) rows)) ≡ true
+none-after k rows e j h = rw (rows-drop j rows) (none-lacks k (drop j (rowsOf rows)) (up-to-drop k j (rowsOf rows) (omega arith)))
 
--- ---- the loop of `behind_last`
+-- ---- the loop of `after_last`
 
 -- whole rows lie before `at`, and none of the kind k from there on
 pub record Clear (rows : List ℕ) (k at : ℕ) : Type 0 where
@@ -120,7 +120,7 @@ module _ {rows : List ℕ} {k at : ℕ} (σ : Clear rows k at) {r : Row} (h : 16
   clear-more n = record { within = omega (arith, σ .within); whole = omega (arith, σ .whole); clear = rw (here-at, σ .clear, ne-eqb (r .kind) k n) }
 
   -- the last row of the kind
-  pub clear-found : r .kind ≡ k → at ≡ behindLast k rows
+  pub clear-found : r .kind ≡ k → at ≡ afterLast k rows
   unfolding upToLast
   clear-found q =
       let j = (at - 16) / 16 in
@@ -129,7 +129,7 @@ module _ {rows : List ℕ} {k at : ℕ} (σ : Clear rows k at) {r : Row} (h : 16
       let all = up-to-part k j (rowsOf rows) (omega arith) in
       omega arith
 
-pub clear-all : {rows : List ℕ} {k at : ℕ} → Clear rows k at → at < 16 → 0 ≡ behindLast k rows
+pub clear-all : {rows : List ℕ} {k at : ℕ} → Clear rows k at → at < 16 → 0 ≡ afterLast k rows
 clear-all {rows} {k} {at} σ h =
     let z : at ≡ 0 = omega (arith, σ .whole) in
     let none : upToLast k (rowsOf rows) ≡ 0 = ap (λ n. upToLast k (rowsOf (drop n rows))) (sym z) ∙ σ .clear in

@@ -1,4 +1,3 @@
-pub mod Masks
 pub mod Steps
 pub mod Tokens
 pub mod Sizes
@@ -10,4 +9,4 @@ pub mod Looking
 pub mod Lacks
 pub mod Narrow
 pub mod Said
-pub mod Reported
+pub mod Next

@@ -10,9 +10,10 @@ use borrow.Author.Tests.{lt-ltb, le-ltb, ltb-true, ltb-false}
 use Rattle.shared.proofs.Logic.{split}
 use Rattle.rows.specs.Kinds.{TokenRow}
 use Rattle.rows.specs.Row.{Row, rowsOf}
+use Rattle.rows.specs.Checks.{mostRowBytes}
 use Rattle.lookahead.specs.declared.measure.Span.{Span}
 use Rattle.lookahead.specs.declared.measure.Span.the-variants.{Signature}
-use Rattle.lookahead.specs.Answer.{mostBytes, measured, sigAnswer, groupAnswer}
+use Rattle.lookahead.specs.Answer.{measured, sigAnswer, groupAnswer}
 use Rattle.lookahead.specs.Measure.{Measure, start, rowSizes, opensParen, params, measureFrom, sigMeasure, groupMeasure, sigBreaks, listBreaks}
 use Rattle.lookahead.specs.Scan.{stopsAt, counts, measureRows, measureOf, breaks, breaksAt, groupOf}
 use Rattle.lookahead.proofs.Steps.{positive}
@@ -64,18 +65,18 @@ module _ (rows : List ℕ) where
 
   -- ---- the measures
 
-  module _ (many : mostBytes < length rows) where
+  module _ (many : mostRowBytes < length rows) where
     pub sig-none : record { params = 0; width = 0 } ≡ sigAnswer rows
     unfolding measureFrom
-    sig-none = rw (lt-ltb mostBytes (length rows) many)
+    sig-none = rw (lt-ltb mostRowBytes (length rows) many)
 
     pub group-none : record { commas = 0; width = 0 } ≡ groupAnswer rows
     unfolding measureFrom
-    group-none = rw (lt-ltb mostBytes (length rows) many)
+    group-none = rw (lt-ltb mostRowBytes (length rows) many)
 
-  module _ (few : length rows ≤ mostBytes) (m : Measure.Measure) where
+  module _ (few : length rows ≤ mostRowBytes) (m : Measure.Measure) where
     few-measured : measured rows ≡ rowSizes (rowsOf rows)
-    few-measured = rw (le-ltb mostBytes (length rows) few)
+    few-measured = rw (le-ltb mostRowBytes (length rows) few)
 
     module _ (e : measureOf m ≡ measureRows Signature start (rowsOf rows)) where
       pub no-params : m .width ≡ 0 → record { params = 0; width = 0 } ≡ sigAnswer rows

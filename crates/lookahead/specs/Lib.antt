@@ -1,5 +1,3 @@
-pub mod Space
 pub mod Measure
 pub mod Answer
-pub mod Sets
 pub mod Scan

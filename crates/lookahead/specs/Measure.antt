@@ -9,7 +9,7 @@ use Rattle.rows.specs.Kinds.{TokenRow, Eof, Newline, LeftBrace, RightBrace, Lef
 use Rattle.rows.specs.Row.{Row}
 use Rattle.rows.specs.Token.{Trivia, lineComment, docComment, blockComment, blankLine, Token}
 
--- ---- `next_has_comment`, over the tokens behind a token (format.rs 131)
+-- ---- `next_has_comment`, over the tokens after a token (format.rs 131)
 
 unfoldable pub anyComment : List Trivia → Bool
 anyComment [] = false
@@ -21,6 +21,12 @@ anyComment (blankLine ∷ ts) = anyComment ts
 abbrev pub nextHasComment : List Token → Bool
 nextHasComment [] = false
 nextHasComment (t ∷ ts) = anyComment (t .leading)
+
+-- ---- the kind of the next token
+
+abbrev pub nextIs : ℕ → List Token → Bool
+nextIs k [] = false
+nextIs k (t ∷ ts) = eqb (t .kind) k
 
 -- ---- `block_is_single_line` (format.rs 155)
 
@@ -62,7 +68,8 @@ sizes ts = map sized ts
 -- the same by the numbers of the token rows; other rows are passed over
 unfoldable pub rowSizes : List Row → List Sized
 rowSizes [] = []
-rowSizes (r ∷ rs) = cond (eqb (r .what) TokenRow) (record { kind = r .kind; size = r .end - r .start } ∷ rowSizes rs) (rowSizes rs)
+rowSizes (r ∷ rs) =
+    cond (eqb (r .what) TokenRow) (record { kind = r .kind; size = r .end - r .start } ∷ rowSizes rs) (rowSizes rs)
 
 -- the running numbers of both loops
 pub record Measure : Type 0 where
@@ -75,7 +82,7 @@ pub record Measure : Type 0 where
 abbrev pub start : Measure
 start = record { parenDepth = 0; bracketDepth = 0; commas = 0; width = 0; sawToken = false }
 
--- the depth behind a token of the kind k
+-- the depth after a token of the kind k
 abbrev pub depthAfter : ℕ → ℕ → ℕ → ℕ → ℕ
 depthAfter opener closer k depth = cond (eqb k opener) (depth + 1) (cond (eqb k closer) (depth - 1) depth)
 
@@ -89,10 +96,13 @@ counted top m t = record {
   sawToken = true;
 }
 
--- Both loops. They break before a token where `stops` says so, by the depths behind it and its kind, and before Eof; `top` says by the depths before a Comma whether it counts.
+-- Both loops. They break before a token where `stops` says so, by the depths after it and its kind, and before Eof; `top`
+-- says by the depths before a Comma whether it counts.
 unfoldable pub measureFrom : (Measure → ℕ → Bool) → (Measure → Bool) → Measure → List Sized → Measure
 measureFrom stops top m [] = m
-measureFrom stops top m (t ∷ ts) = let n = counted (top m) m t in cond (stops n (t .kind) || eqb (t .kind) Eof) m (measureFrom stops top n ts)
+measureFrom stops top m (t ∷ ts) =
+    let n = counted (top m) m t in
+    cond (stops n (t .kind) || eqb (t .kind) Eof) m (measureFrom stops top n ts)
 
 -- it breaks at the `)` that matches
 abbrev pub sigStops : Measure → ℕ → Bool
@@ -106,7 +116,9 @@ params m = cond (m .sawToken) (m .commas + 1) 0
 
 -- it breaks at the closer that matches
 abbrev pub groupStops : Bool → Measure → ℕ → Bool
-groupStops isParen m k = ((eqb k RightParen && isParen) || (eqb k RightBracket && not isParen)) && (eqb (m .parenDepth) 0 && eqb (m .bracketDepth) 0)
+groupStops isParen m k =
+    ((eqb k RightParen && isParen) || (eqb k RightBracket && not isParen))
+    && (eqb (m .parenDepth) 0 && eqb (m .bracketDepth) 0)
 
 -- exactly one level inside the opening kind
 abbrev pub topLevel : Bool → Measure → Bool

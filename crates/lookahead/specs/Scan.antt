@@ -6,22 +6,22 @@ use mathlib.Core.Path.{_≡_}
 use Prim.Native.Nat.{ℕ, _+_, _-_, _*_, _^_, _<_}
 use lib.Dec.{eqb, ltb}
 use Rattle.rows.specs.Kinds.{Leading, TokenRow, Trailing, BlankLine, Eof, Newline, RightParen, RightBracket, Comma, Other}
-use Rattle.rows.specs.Row.{Row, rowsOf}
+use Rattle.rows.specs.Row.{Row, rowSize, rowsOf}
 use Rattle.lookahead.specs.declared.measure.Span.{Span}
 use Rattle.lookahead.specs.declared.measure.Span.the-variants.{Signature, Paren, Bracket}
 use Rattle.lookahead.specs.declared.measure.Measure
 use Rattle.lookahead.specs.Measure.{Measure, depthAfter, counted}
 
--- ---- `behind_last`
+-- ---- `after_last`
 
 -- how many rows there are up to the last one of the kind k, which is counted; 0 if there is none
 unfoldable pub upToLast : ℕ → List Row → ℕ
 upToLast k [] = 0
 upToLast k (r ∷ rs) = cond (eqb (upToLast k rs) 0) (cond (eqb (r .kind) k) 1 0) (upToLast k rs + 1)
 
--- the index behind that row
-abbrev pub behindLast : ℕ → List ℕ → ℕ
-behindLast k rows = 16 * upToLast k (rowsOf rows)
+-- the index after that row
+abbrev pub afterLast : ℕ → List ℕ → ℕ
+afterLast k rows = rowSize * upToLast k (rowsOf rows)
 
 -- no row is a token of the kind k
 unfoldable pub lacks : ℕ → List Row → Bool
@@ -48,9 +48,9 @@ leastRows depth = depth - 1 + 1
 
 -- ---- `block_is_single_line`
 
--- a row that is no token's is trivia of a token: it leads, or trails behind a token's row
+-- a row that is no token's is trivia of a token: it leads, or trails and follows a token's row
 abbrev pub isTrivia : ℕ → Bool → Bool
-isTrivia what behind = eqb what Leading || (eqb what Trailing && behind)
+isTrivia what follows = eqb what Leading || (eqb what Trailing && follows)
 
 -- a trailing row stands first
 abbrev pub trails : List Row → Bool
@@ -102,12 +102,19 @@ unfoldable pub measureRows : Span → Measure → List Row → Measure
 measureRows span m [] = m
 measureRows span m (r ∷ rs) =
     cond (eqb (r .what) TokenRow)
-    (cond (stopsAt span (m .parenDepth) (m .bracketDepth) (r .kind)) m (measureRows span (counts span m (r .kind) (r .end - r .start)) rs))
+    (cond (stopsAt span (m .parenDepth) (m .bracketDepth) (r .kind)) m
+    (measureRows span (counts span m (r .kind) (r .end - r .start)) rs))
     (measureRows span m rs)
 
 -- the numbers of the code: a token was seen where they have a width
 abbrev pub measureOf : Measure.Measure → Measure
-measureOf m = record { parenDepth = m .parens; bracketDepth = m .brackets; commas = m .commas; width = m .width; sawToken = ltb 0 (m .width) }
+measureOf m = record {
+  parenDepth = m .parens;
+  bracketDepth = m .brackets;
+  commas = m .commas;
+  width = m .width;
+  sawToken = ltb 0 (m .width);
+}
 
 -- ---- a comma at the top of a group
 
@@ -133,7 +140,8 @@ commaAhead opener closer otherOpener otherCloser own other [] = false
 commaAhead opener closer otherOpener otherCloser own other (r ∷ rs) =
     cond (endsGroup closer (tokenKind r) own other) false
     (cond (eqb (tokenKind r) Comma && isTop own other) true
-    (commaAhead opener closer otherOpener otherCloser (depthAfter opener closer (tokenKind r) own) (depthAfter otherOpener otherCloser (tokenKind r) other) rs))
+    (commaAhead opener closer otherOpener otherCloser
+    (depthAfter opener closer (tokenKind r) own) (depthAfter otherOpener otherCloser (tokenKind r) other) rs))
 
 -- ---- the two decisions
 

@@ -1,10 +1,11 @@
-// The lookaheads of format.rs over rows, and the decision on a space.
+// The lookaheads of format.rs over rows.
 use crate::measure::Measure;
 use crate::measure::Span;
 use crate::measure::depth_after;
 use crate::measure::is_last;
 use crate::measure::is_top_comma;
 use crate::measure::size_of;
+use rows::MOST_ROWS;
 use rows::ROW_BYTES;
 use rows::Row;
 use rows::kinds;
@@ -14,82 +15,24 @@ ghost use mathlib.Core.Path.{_≡_};
 ghost use Prim.Native.Nat.{ℕ, _^_, _≤_, _<_};
 ghost use lib.ListN.{length, drop};
 ghost use Rattle.rows.specs.Row.{rowsOf};
+ghost use Rattle.rows.specs.Checks.{mostRowBytes};
 ghost use Rattle.rows.specs.Token.{tokensOf};
 ghost use Rattle.rows.specs.Bounds.{rowOf};
-ghost use Rattle.lookahead.specs.Space.{needsSpace, isValueKind};
-ghost use Rattle.lookahead.specs.Answer.{reported, spaceReport, mostBytes, sigAnswer, groupAnswer};
-ghost use Rattle.lookahead.specs.Measure.{start, rowSizes, opensParen, sigMeasure, groupMeasure, sigBreaks, listBreaks, blockIsSingleLine, nextHasComment};
-ghost use Rattle.lookahead.specs.Scan.{behindLast, widthRows, isComment, isTrivia, trails, endsLine, groupOf, measureRows, measureOf, leastRows, tokenKind, GroupKinds, commaAhead, breaksAt};
+ghost use Rattle.lookahead.specs.Answer.{sigAnswer, groupAnswer};
+ghost use Rattle.lookahead.specs.Measure.{start, rowSizes, opensParen, sigMeasure, groupMeasure};
+ghost use Rattle.lookahead.specs.Measure.{sigBreaks, listBreaks, blockIsSingleLine, nextHasComment, nextIs};
+ghost use Rattle.lookahead.specs.Scan.{afterLast, widthRows, isComment, isTrivia, trails, endsLine, groupOf};
+ghost use Rattle.lookahead.specs.Scan.{measureRows, measureOf, leastRows, tokenKind, GroupKinds, commaAhead};
+ghost use Rattle.lookahead.specs.Scan.{breaksAt};
 
 mod measure;
-mod sets;
 
-// The bytes of the 65,535 rows that a layout takes at most.
-const MOST_BYTES: usize = 1048560;
+// The bytes of as many rows as a layout takes at most.
+const MOST_ROW_BYTES: usize = MOST_ROWS * ROW_BYTES;
 
-// Whether a space is needed between two kinds, or refusal 3 with the place of the first unknown kind.
-pub enum Space {
-    Needed(bool),
-    BadRow(usize),
-}
-
-// The exported call.
-pub fn needs_space(first: u32, second: u32) -> Space
-    ensures { λ r. ⌜ reported r ≡ spaceReport first second ⌝ }
-{
-    if kinds::OTHER < first {
-        return Space::BadRow(0);
-    }
-    if kinds::OTHER < second {
-        return Space::BadRow(1);
-    }
-    Space::Needed(space_between(first, second))
-}
-
-// Whether a space belongs between two adjacent tokens.
-pub fn space_between(prev: u32, curr: u32) -> bool
-    ensures { λ r. ⌜ r ≡ needsSpace prev curr ⌝ }
-{
-    if sets::member(sets::NO_SPACE_AFTER, prev) {
-        return false;
-    }
-    if sets::member(sets::NO_SPACE_BEFORE, curr) {
-        return false;
-    }
-    if curr == kinds::RIGHT_BRACE {
-        return prev != kinds::LEFT_BRACE;
-    }
-    if curr == kinds::LEFT_PAREN {
-        return !sets::member(sets::CALLED, prev);
-    }
-    if curr == kinds::LEFT_BRACKET {
-        return !sets::member(sets::INDEXED, prev);
-    }
-    true
-}
-
-// Whether a token of this kind can end an expression, so that a `-` behind it is binary.
-pub fn is_value_kind(kind: u32) -> bool
-    ensures { λ r. ⌜ r ≡ isValueKind kind ⌝ }
-{
-    match kind {
-        kinds::IDENTIFIER
-        | kinds::NUMBER_LITERAL
-        | kinds::BYTE_LITERAL
-        | kinds::STRING_LITERAL
-        | kinds::CHARACTER_LITERAL
-        | kinds::FLOAT_LITERAL
-        | kinds::BOOL_LITERAL
-        | kinds::RIGHT_PAREN
-        | kinds::RIGHT_BRACKET
-        | kinds::NULL => true,
-        _ => false,
-    }
-}
-
-// The lookaheads take the part of the rows that starts at the opener, its own leading rows included, and goes to
-// the end. The first four go by the rows' own numbers. Where the rows lie in a text, the tokens that they name
-// there have these sizes (proofs/Sizes.antt: sizes-in-bounds).
+// The lookaheads take the part of the rows that starts at the opener, its own leading rows included, and goes to the end.
+// The first four go by the rows' own numbers. Where the rows lie in a text, the tokens that they name there have these
+// sizes (proofs/Sizes.antt: sizes-in-bounds).
 
 // Whether a signature breaks: more than 3 params, or wider than `fn_sig_width`.
 pub fn should_break_sig(rows: &[u8], fn_sig_width: u32) -> bool
@@ -105,16 +48,17 @@ pub fn should_break_list(rows: &[u8], list_width: u32) -> bool
     decide(rows, group(rows), list_width as usize)
 }
 
+// A signature's number of params, and its width.
 pub struct SigMeasure {
     pub params: usize,
     pub width: usize,
 }
 
-// The params of a signature and its width; more rows than a layout takes measure 0.
+// Measures the signature that the rows begin with. More rows than a layout takes measure 0.
 pub fn sig_measure(rows: &[u8]) -> SigMeasure
     ensures { λ r. ⌜ r ≡ sigAnswer (now (rows .entry)) ⌝ }
 {
-    if MOST_BYTES < rows.len() {
+    if MOST_ROW_BYTES < rows.len() {
         return SigMeasure {
             params: 0,
             width: 0,
@@ -133,16 +77,17 @@ pub fn sig_measure(rows: &[u8]) -> SigMeasure
     }
 }
 
+// A group's number of top-level commas, and its width.
 pub struct GroupMeasure {
     pub commas: usize,
     pub width: usize,
 }
 
-// The top-level commas of a group and its width; more rows than a layout takes measure 0.
+// Measures the group that the rows begin with. More rows than a layout takes measure 0.
 pub fn group_measure(rows: &[u8]) -> GroupMeasure
     ensures { λ r. ⌜ r ≡ groupAnswer (now (rows .entry)) ⌝ }
 {
-    if MOST_BYTES < rows.len() {
+    if MOST_ROW_BYTES < rows.len() {
         return GroupMeasure {
             commas: 0,
             width: 0,
@@ -160,19 +105,19 @@ pub fn block_is_single_line(rows: &[u8]) -> bool
     ensures { λ r. ⌜ ((text : List ℕ) → r ≡ blockIsSingleLine (tokensOf (now (rows .entry)) text)) ⌝ }
 {
     let mut depth = 0;
-    let mut behind = false; // a token's row
+    let mut follows = false; // a token's row
     let mut at = 0;
     while least_rows(depth) <= (rows.len() - at) / ROW_BYTES {
         let row = row_at(rows, at);
         at += ROW_BYTES;
         if row.what != kinds::TOKEN {
-            if is_trivia(row.what, behind) {
+            if is_trivia(row.what, follows) {
                 return false;
             }
-            behind = false;
+            follows = false;
         } else if row.kind == kinds::LEFT_BRACE {
             depth += 1;
-            behind = true;
+            follows = true;
         } else if row.kind <= kinds::RIGHT_BRACE {
             if ends_line(row.kind) {
                 return false;
@@ -181,16 +126,16 @@ pub fn block_is_single_line(rows: &[u8]) -> bool
                 return !trails(rows, at);
             }
             depth -= 1;
-            behind = true;
+            follows = true;
         } else {
-            behind = true;
+            follows = true;
         }
     }
     false
 }
 
-// Whether the next token has a comment among its leading rows. The rows start right behind a token's row, so
-// that token's trailing rows come first.
+// Whether the next token has a comment among its leading rows. The rows start right after a token's row, so that
+// token's trailing rows come first.
 pub fn next_has_comment(rows: &[u8]) -> bool
     ensures { λ r. ⌜ ((text : List ℕ) → r ≡ nextHasComment (tokensOf (now (rows .entry)) text)) ⌝ }
 {
@@ -209,10 +154,26 @@ pub fn next_has_comment(rows: &[u8]) -> bool
     false
 }
 
-// Behind the last row of the kind, or 0. No token of the kind stands from there on (proofs/Lacks.antt:
-// none-behind).
-pub fn behind_last(rows: &[u8], kind: u32) -> usize
-    ensures { λ r. ⌜ r ≡ behindLast kind (now (rows .entry)) ⌝ }
+// Whether the next token is of the kind. The rows start right after a token's row, so that token's trailing rows and the
+// next one's leading rows come first.
+pub fn next_is(rows: &[u8], kind: u32) -> bool
+    ensures { λ r. ⌜ ((text : List ℕ) → r ≡ nextIs kind (tokensOf (now (rows .entry)) text)) ⌝ }
+{
+    let mut at = 0;
+    while ROW_BYTES <= rows.len() - at {
+        let row = row_at(rows, at);
+        if row.what == kinds::TOKEN {
+            return row.kind == kind;
+        }
+        at += ROW_BYTES;
+    }
+    false
+}
+
+// Answers the index after the last row of the kind, or 0. No token of the kind stands from there on
+// (proofs/Lacks.antt: none-after).
+pub fn after_last(rows: &[u8], kind: u32) -> usize
+    ensures { λ r. ⌜ r ≡ afterLast kind (now (rows .entry)) ⌝ }
 {
     let mut at = rows.len() - rows.len() % ROW_BYTES;
     while ROW_BYTES <= at {
@@ -225,9 +186,9 @@ pub fn behind_last(rows: &[u8], kind: u32) -> usize
     0
 }
 
-// The width of all tokens together, as a list's width counts them: no list is wider.
+// Answers the width of all tokens together, as a list's width counts them. No list is wider.
 pub fn total_width(rows: &[u8]) -> usize
-    requires { ⌜ length (now rows) ≤ mostBytes ⌝ }
+    requires { ⌜ length (now rows) ≤ mostRowBytes ⌝ }
     ensures { λ r. ⌜ r ≡ widthRows (rowsOf (now (rows .entry))) ⌝ }
 {
     let mut width = 0;
@@ -242,7 +203,7 @@ pub fn total_width(rows: &[u8]) -> usize
     width
 }
 
-// Whether a measure is above what does not break: what is wide breaks, a list only with a comma at its top.
+// Whether a signature or a list breaks. What is wider than the limit does, a list only with a comma at its top.
 fn decide(rows: &[u8], span: Span, limit: usize) -> bool
     requires { ⌜ limit < 2 ^ 32 ⌝ }
     ensures { λ r. ⌜ r ≡ breaksAt span limit (measureRows span start (rowsOf (now (rows .entry)))) ⌝ }
@@ -280,13 +241,14 @@ fn decide(rows: &[u8], span: Span, limit: usize) -> bool
     }
 }
 
-// A measure and the index from which it goes on.
+// A measure, and the index from which it goes on.
 struct Reached {
     m: Measure,
     at: usize,
 }
 
-// The measure until it is wider than the limit; one that is not is whole, and goes on from the end of the rows.
+// Measures until the width is above the limit. A measure that stays below it is whole, and goes on from the end of the
+// rows.
 fn until_wide(rows: &[u8], span: Span, limit: usize) -> Reached
     requires { ⌜ limit < 2 ^ 32 ⌝ }
     ensures left { λ r. ⌜
@@ -366,7 +328,7 @@ fn comma_ahead(
     false
 }
 
-// The kind of a token; a row that is no token's counts as a token that matters to no depth.
+// Answers the kind of a token. A row that is no token's counts as a token that matters to no depth.
 fn token_kind(row: Row) -> u32
     ensures { λ r. ⌜ r ≡ tokenKind (rowOf row) ⌝ }
 {
@@ -376,8 +338,8 @@ fn token_kind(row: Row) -> u32
     row.kind
 }
 
-// The rows that a scan needs at least: one for each level that is open, since a token closes one at most, and one
-// where none is. With fewer left, its answer is no.
+// Answers how many rows a scan needs at least: one for each level that is open, since a token closes one at most, and
+// one where none is. With fewer left, the scan's answer is no.
 fn least_rows(depth: usize) -> usize
     ensures { λ r. ⌜ r ≡ leastRows depth ⌝ }
 {
@@ -387,9 +349,9 @@ fn least_rows(depth: usize) -> usize
     depth
 }
 
-// The whole measure.
+// Measures to the end of what the rows begin with.
 fn measure_rows(rows: &[u8], span: Span) -> Measure
-    requires { ⌜ length (now rows) ≤ mostBytes ⌝ }
+    requires { ⌜ length (now rows) ≤ mostRowBytes ⌝ }
     ensures exact { λ r. ⌜ measureOf r ≡ measureRows span start (rowsOf (now (rows .entry))) ⌝ }
     ensures few { λ r. ⌜ r .commas ≤ length (now (rows .entry)) ⌝ }
 {
@@ -408,7 +370,7 @@ fn measure_rows(rows: &[u8], span: Span) -> Measure
     m
 }
 
-// The group that the first token opens.
+// Answers which group the first token opens.
 fn group(rows: &[u8]) -> Span
     ensures { λ r. ⌜ r ≡ groupOf (opensParen (rowSizes (rowsOf (now (rows .entry))))) ⌝ }
 {
@@ -418,6 +380,7 @@ fn group(rows: &[u8]) -> Span
     Span::Bracket
 }
 
+// Whether the first token is a `(`.
 fn opens_paren(rows: &[u8]) -> bool
     ensures { λ r. ⌜ r ≡ opensParen (rowSizes (rowsOf (now (rows .entry)))) ⌝ }
 {
@@ -432,9 +395,9 @@ fn opens_paren(rows: &[u8]) -> bool
     false
 }
 
-// Whether a row that is no token's is trivia of a token: a leading row, or a trailing row `behind` a token's row.
-fn is_trivia(what: u32, behind: bool) -> bool
-    ensures { λ r. ⌜ r ≡ isTrivia what behind ⌝ }
+// Whether a row that is no token's is trivia of a token: a leading row, or a trailing row that follows a token's row.
+fn is_trivia(what: u32, follows: bool) -> bool
+    ensures { λ r. ⌜ r ≡ isTrivia what follows ⌝ }
 {
     if what == kinds::LEADING {
         return true;
@@ -442,7 +405,7 @@ fn is_trivia(what: u32, behind: bool) -> bool
     if what != kinds::TRAILING {
         return false;
     }
-    behind
+    follows
 }
 
 // Whether a trailing row stands at `at`.
@@ -457,6 +420,7 @@ fn trails(rows: &[u8], at: usize) -> bool
     row.what == kinds::TRAILING
 }
 
+// Whether a token of the kind ends a line.
 fn ends_line(kind: u32) -> bool
     ensures { λ r. ⌜ r ≡ endsLine kind ⌝ }
 {
@@ -466,6 +430,7 @@ fn ends_line(kind: u32) -> bool
     }
 }
 
+// Whether a row is a leading comment.
 fn is_comment(row: Row) -> bool
     ensures { λ r. ⌜ r ≡ isComment (rowOf row) ⌝ }
 {

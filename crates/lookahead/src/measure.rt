@@ -7,15 +7,20 @@ ghost use Prim.Native.Nat.{_-_, _^_, _<_};
 ghost use lib.Dec.{eqb};
 ghost use Rattle.rows.specs.Kinds.{Comma};
 ghost use Rattle.lookahead.specs.Measure.{depthAfter};
-ghost use Rattle.lookahead.specs.Scan.{more, isLast, isTop, stopsAt, topIn, measureOf, counts, breaks, breaksSignature, breaksList, endsGroup, Room};
+ghost use Rattle.lookahead.specs.Scan.{more, isLast, isTop, stopsAt, topIn, measureOf, counts, endsGroup, Room};
+ghost use Rattle.lookahead.specs.Scan.{breaks, breaksSignature, breaksList};
 
-// What is measured: a signature's parameters, or a group by its opening kind.
+// What is measured.
 pub enum Span {
+    // The parameters of a signature.
     Signature,
+    // A group that `(` opens.
     Paren,
+    // A group that `[` opens.
     Bracket,
 }
 
+// The running numbers of a measure: how many parens and brackets are open, the commas at the top, and the width.
 pub struct Measure {
     pub parens: usize,
     pub brackets: usize,
@@ -50,8 +55,8 @@ impl Measure {
         }
     }
 
-    // A token of this kind and of `size` bytes is counted. Kinds from Comma on change no depth, and those before it
-    // count no comma.
+    // Counts a token of this kind and of `size` bytes. Kinds from Comma on change no depth, and those before it count no
+    // comma.
     pub fn counts(self, span: Span, kind: u32, size: usize) -> Measure
         requires { ⌜ Room self size ⌝ }
         ensures { λ r. ⌜ measureOf r ≡ counts span (measureOf self) kind size ⌝ }
@@ -89,6 +94,7 @@ impl Measure {
         }
     }
 
+    // Whether a signature breaks: more than two commas, or wider than the limit.
     fn breaks_signature(self, limit: usize) -> bool
         ensures { λ r. ⌜ r ≡ breaksSignature limit (self .commas) (self .width) ⌝ }
     {
@@ -98,6 +104,7 @@ impl Measure {
         limit < self.width // a signature
     }
 
+    // Whether a list breaks: a comma, and wider than the limit.
     fn breaks_list(self, limit: usize) -> bool
         ensures { λ r. ⌜ r ≡ breaksList limit (self .commas) (self .width) ⌝ }
     {
@@ -107,6 +114,7 @@ impl Measure {
         false
     }
 
+    // Answers the number of commas after a token of this kind.
     fn commas_after(self, span: Span, kind: u32) -> usize
         requires { ⌜ self .commas < 2 ^ 63 ⌝ }
         ensures { λ r. ⌜
@@ -121,7 +129,7 @@ impl Measure {
         self.commas
     }
 
-    // Directly inside what is measured.
+    // Whether the measure stands directly inside what is measured.
     fn top_in(self, span: Span) -> bool
         ensures { λ r. ⌜ r ≡ topIn span (self .parens) (self .brackets) ⌝ }
     {
@@ -176,7 +184,7 @@ fn is_top(own: usize, other: usize) -> bool
     false
 }
 
-// A depth behind a token.
+// Answers a depth after a token of this kind.
 pub fn depth_after(opener: u32, closer: u32, kind: u32, depth: usize) -> usize
     requires { ⌜ depth < 2 ^ 63 ⌝ }
     ensures { λ r. ⌜ r ≡ depthAfter opener closer kind depth ⌝ }
@@ -193,7 +201,7 @@ pub fn depth_after(opener: u32, closer: u32, kind: u32, depth: usize) -> usize
     depth - 1
 }
 
-// How many bytes a row names.
+// Answers how many bytes a row names.
 pub fn size_of(row: Row) -> usize
     ensures { λ r. ⌜ (r ≡ row .end - row .start) × (r < 2 ^ 32) ⌝ }
 {

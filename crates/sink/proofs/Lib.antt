@@ -1,7 +1,3 @@
 pub mod Sink
 pub mod Sizes
 pub mod Over
-pub mod Marks
-pub mod Feeds
-pub mod Next
-pub mod Spaces

@@ -1,4 +1,2 @@
 pub mod Sink
 pub mod Tail
-pub mod Space
-pub mod Comment

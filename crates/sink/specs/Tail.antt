@@ -1,4 +1,4 @@
--- What stands behind a lexeme.
+-- What stands after a lexeme.
 -- Assumes nothing.
 use mathlib.Core.List.{List, []}
 use Prim.Native.Nat.{ℕ}

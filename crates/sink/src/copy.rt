@@ -1,4 +1,4 @@
-// A part of the text copied into the lent output, where it is known to fit.
+// Copies a part of a text into the lent output, where it is known to fit.
 ghost use mathlib.Core.Logic.{_⊎_};
 ghost use mathlib.Core.Path.{_≡_};
 ghost use Prim.Native.Nat.{_+_, _≤_};
@@ -30,7 +30,7 @@ pub fn copy(out: &mut [u8], to: usize, text: &[u8], from: usize, size: usize)
     copy_eights(out, to, text, from, size);
 }
 
-// The same byte by byte, for the bytes of comments.
+// Copies byte by byte, for the bytes of comments.
 pub fn copy_bytes(out: &mut [u8], to: usize, text: &[u8], from: usize, size: usize)
     requires { ⌜ from + size ≤ length (now text) ⌝ }
     requires { ⌜ to + size ≤ length (now out) ⌝ }
@@ -44,7 +44,7 @@ pub fn copy_bytes(out: &mut [u8], to: usize, text: &[u8], from: usize, size: usi
     }
 }
 
-// Two bytes, and the last two, which may go over them.
+// Copies two bytes, and the last two, which may go over them.
 fn copy_twos(out: &mut [u8], to: usize, text: &[u8], from: usize, size: usize)
     requires { ⌜ (2 ≤ size) × (size ≤ 4) ⌝ }
     requires { ⌜ from + size ≤ length (now text) ⌝ }
@@ -57,7 +57,7 @@ fn copy_twos(out: &mut [u8], to: usize, text: &[u8], from: usize, size: usize)
     copy_two(out, to + last, text, from + last);
 }
 
-// Four bytes, and the last four, which may go over them.
+// Copies four bytes, and the last four, which may go over them.
 fn copy_fours(out: &mut [u8], to: usize, text: &[u8], from: usize, size: usize)
     requires { ⌜ (4 ≤ size) × (size ≤ 8) ⌝ }
     requires { ⌜ from + size ≤ length (now text) ⌝ }
@@ -70,7 +70,7 @@ fn copy_fours(out: &mut [u8], to: usize, text: &[u8], from: usize, size: usize)
     copy_four(out, to + last, text, from + last);
 }
 
-// Eight bytes at a time. The last eight may go over bytes that are copied already.
+// Copies eight bytes at a time. The last eight may go over bytes that are copied already.
 fn copy_eights(out: &mut [u8], to: usize, text: &[u8], from: usize, size: usize)
     requires { ⌜ 8 ≤ size ⌝ }
     requires { ⌜ from + size ≤ length (now text) ⌝ }
@@ -87,6 +87,7 @@ fn copy_eights(out: &mut [u8], to: usize, text: &[u8], from: usize, size: usize)
     }
 }
 
+// Answers the smaller of two numbers.
 fn least(a: usize, b: usize) -> usize
     ensures { λ r. ⌜ (r ≤ a) × ((r ≤ b) × ((r ≡ a) ⊎ (r ≡ b))) ⌝ }
 {
@@ -96,7 +97,7 @@ fn least(a: usize, b: usize) -> usize
     b
 }
 
-// All bytes are loaded before one is stored: the compiler makes one load and one store of it.
+// Copies two bytes. All are loaded before one is stored: the compiler makes one load and one store of it.
 fn copy_two(out: &mut [u8], to: usize, text: &[u8], from: usize)
     requires { ⌜ from + 2 ≤ length (now text) ⌝ }
     requires { ⌜ to + 2 ≤ length (now out) ⌝ }

@@ -1,8 +1,5 @@
-// What the layout's state has no part in: writers on the lent output, and what is found from numbers and slices alone.
-pub mod comments;
+// The sink: writers on a lent output, which know nothing of tokens or of the layout's state. `write` tests the room, `put`
+// is told that there is room, `copy` copies a part of a text.
 mod copy;
-pub mod lent;
-pub mod numbers;
 pub mod put;
-pub mod space;
 pub mod write;

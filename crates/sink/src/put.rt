@@ -1,16 +1,16 @@
-// Bytes put into the lent output where they are known to fit.
+// Puts bytes into the lent output where they are known to fit.
 use crate::copy::copy;
 use crate::write::Tail;
 ghost use mathlib.Core.Bool.{cond};
 ghost use mathlib.Core.List.{[], _++_};
 ghost use Prim.Native.Nat.{_+_, _-_, _≤_, _<_};
-ghost use lib.ListN.{length, replicate};
+ghost use lib.ListN.{length};
 ghost use lib.Seq.{slice};
 ghost use Rattle.shared.specs.Bytes.{comma, elseWord, lineFeed};
-ghost use Rattle.sink.specs.Sink.{Writes, countComma, countFeed};
+ghost use Rattle.sink.specs.Sink.{Writes, spaces, countComma, countFeed};
 ghost use Rattle.sink.specs.Tail.{tailBytes};
 
-// A line feed, unless a line starts.
+// Puts a line feed, unless a line starts.
 pub fn put_feed(out: &mut [u8], at: usize, at_line_start: bool)
     requires { ⌜ at + countFeed «at_line_start» ≤ length (now out) ⌝ }
     ensures { λ r. ⌜ Writes (now (out .entry)) at (cond «at_line_start» [] lineFeed) (now (out .exit))
@@ -22,7 +22,7 @@ pub fn put_feed(out: &mut [u8], at: usize, at_line_start: bool)
     out[at] = b'\n';
 }
 
-// A comma, if one is wanted.
+// Puts a comma, if one is wanted.
 pub fn put_comma(out: &mut [u8], at: usize, wanted: bool)
     requires { ⌜ at + countComma wanted ≤ length (now out) ⌝ }
     ensures { λ r. ⌜ Writes (now (out .entry)) at (cond wanted comma []) (now (out .exit))
@@ -33,7 +33,7 @@ pub fn put_comma(out: &mut [u8], at: usize, wanted: bool)
     }
 }
 
-// The word `else`.
+// Puts the word `else`.
 pub fn put_else(out: &mut [u8], at: usize)
     requires { ⌜ at + 4 ≤ length (now out) ⌝ }
     ensures { λ r. ⌜ Writes (now (out .entry)) at elseWord (now (out .exit)) (at + 4) ⌝ }
@@ -44,10 +44,10 @@ pub fn put_else(out: &mut [u8], at: usize)
     out[at + 3] = b'e';
 }
 
-// Spaces: mostly none, one, or an indent.
+// Puts `size` spaces: mostly none, one, or an indent.
 pub fn put_gap(out: &mut [u8], at: usize, size: usize)
     requires { ⌜ at + size ≤ length (now out) ⌝ }
-    ensures { λ r. ⌜ Writes (now (out .entry)) at (replicate size 32) (now (out .exit)) (at + size) ⌝ }
+    ensures { λ r. ⌜ Writes (now (out .entry)) at (spaces size) (now (out .exit)) (at + size) ⌝ }
 {
     if size == 0 {
         return;
@@ -61,7 +61,7 @@ pub fn put_gap(out: &mut [u8], at: usize, size: usize)
 
 fn put_indent(out: &mut [u8], at: usize, size: usize)
     requires { ⌜ at + size ≤ length (now out) ⌝ }
-    ensures { λ r. ⌜ Writes (now (out .entry)) at (replicate size 32) (now (out .exit)) (at + size) ⌝ }
+    ensures { λ r. ⌜ Writes (now (out .entry)) at (spaces size) (now (out .exit)) (at + size) ⌝ }
 {
     let end = at + size;
     for i in at..end {
@@ -69,7 +69,7 @@ fn put_indent(out: &mut [u8], at: usize, size: usize)
     }
 }
 
-// The bytes of `text` from `from` on. One byte needs no loop.
+// Puts `size` bytes of `text` from `from` on. One byte needs no loop.
 pub fn put_part(out: &mut [u8], to: usize, text: &[u8], from: usize, size: usize)
     requires { ⌜ from + size ≤ length (now text) ⌝ }
     requires { ⌜ to + size ≤ length (now out) ⌝ }
@@ -85,7 +85,7 @@ pub fn put_part(out: &mut [u8], to: usize, text: &[u8], from: usize, size: usize
     }
 }
 
-// What stands behind a lexeme.
+// Puts what stands after a lexeme.
 pub fn put_tail(out: &mut [u8], at: usize, tail: Tail)
     requires { ⌜ at + length (tailBytes tail) ≤ length (now out) ⌝ }
     ensures { λ r. ⌜ Writes (now (out .entry)) at (tailBytes tail) (now (out .exit))
@@ -104,7 +104,8 @@ pub fn put_tail(out: &mut [u8], at: usize, tail: Tail)
     }
 }
 
-// A space or none, and the bytes of `text` from `start` to `end`, of which there is one at least.
+// Puts a space or none, and the bytes of `text` from `start` to `end`, of which there is one at least. Answers the length
+// after them.
 pub fn put_token(
     out: &mut [u8],
     len: usize,
@@ -117,7 +118,7 @@ pub fn put_token(
     requires { ⌜ space ≤ 1 ⌝ }
     requires { ⌜ len + (space + (end - start)) ≤ length (now out) ⌝ }
     ensures { λ r. ⌜ Writes (now (out .entry)) len
-        (replicate space 32 ++ slice start end (now (text .entry))) (now (out .exit)) r ⌝ }
+        (spaces space ++ slice start end (now (text .entry))) (now (out .exit)) r ⌝ }
 {
     // Where no space is wanted, the lexeme goes over it.
     out[len] = b' ';

@@ -1,5 +1,5 @@
-// Writers into the lent output, on plain numbers: each takes the length so far and answers the length behind
-// it. Each has one room test for all that it writes. Where that does not fit, nothing is written, and the
+// Writers into the lent output, on plain numbers. Each takes the length of the text so far, and answers the length after
+// it has written. Each has one room test for all that it writes. Where that does not fit, nothing is written, and the
 // answer is one past the output's end.
 use crate::copy::copy_bytes;
 use crate::put::put_comma;
@@ -8,48 +8,45 @@ use crate::put::put_feed;
 use crate::put::put_gap;
 use crate::put::put_part;
 use crate::put::put_tail;
-use rows::row_at;
 ghost use mathlib.Core.Bool.{cond};
 ghost use mathlib.Core.List.{[], _∷_, _++_};
 ghost use mathlib.Core.Path.{_≡_};
 ghost use Prim.Native.Nat.{_+_, _≤_, _<_};
-ghost use lib.ListN.{length, replicate};
+ghost use lib.ListN.{length};
 ghost use lib.Seq.{slice};
 ghost use Rattle.shared.specs.Bytes.{comma, elseWord, leftBrace, leftParen, lineFeed};
-ghost use Rattle.rows.specs.Row.{rowAt};
-ghost use Rattle.rows.specs.Bounds.{Inside};
-ghost use Rattle.rows.specs.Token.{bytesOf};
-ghost use Rattle.sink.specs.Sink.{Writes, Room, countComma, countFeed};
+ghost use Rattle.sink.specs.Sink.{Writes, Room, spaces, countComma, countFeed};
 ghost use Rattle.sink.specs.Tail.{tailBytes};
 
-// What stands behind a lexeme: nothing, a line feed, or `{}`.
+// What stands after a lexeme.
 pub enum Tail {
+    // No byte.
     Nothing,
+    // A line feed.
     Feed,
+    // `{}`.
     Braces,
 }
 
-// A gap, the lexeme of the row at `own`, and a tail. It is called at two places, and is not small, so that it
-// is compiled by itself: the formatter's methods that call it are then small enough to be compiled into their
+// Writes a gap, the bytes of `text` from `start` to `end`, and a tail. It is called at two places, and is not small, so
+// that it is compiled by itself: the formatter's methods that call it are then small enough to be compiled into their
 // callers.
 pub fn write_token(
     out: &mut [u8],
     len: usize,
     gap: usize,
-    rows: &[u8],
     text: &[u8],
-    own: usize,
+    start: u32,
+    end: u32,
     tail: Tail,
 ) -> usize
     requires { ⌜ Room (now out) len gap ⌝ }
-    requires { ⌜ (own + 16 ≤ length (now rows)) × Inside (now text) (rowAt (now rows) own) ⌝ }
+    requires { ⌜ (start ≤ end) × (end ≤ length (now text)) ⌝ }
     ensures { λ r. ⌜ Writes (now (out .entry)) len
-        (replicate gap 32 ++ (bytesOf (now (text .entry)) (rowAt (now (rows .entry)) own) ++ tailBytes tail))
-        (now (out .exit)) r ⌝ }
+        (spaces gap ++ (slice start end (now (text .entry)) ++ tailBytes tail)) (now (out .exit)) r ⌝ }
 {
-    let row = row_at(rows, own);
-    let start = row.start as usize;
-    let size = row.end as usize - start;
+    let from = start as usize;
+    let size = end as usize - from;
     let at = len + gap;
     let ended = at + size;
     let next = ended + tail_size(tail);
@@ -57,11 +54,12 @@ pub fn write_token(
         return out.len() + 1;
     }
     put_gap(out, len, gap);
-    put_part(out, at, text, start, size);
+    put_part(out, at, text, from, size);
     put_tail(out, ended, tail);
     next
 }
 
+// Answers how many bytes the tail has.
 fn tail_size(tail: Tail) -> usize
     ensures { λ r. ⌜ (r ≡ length (tailBytes tail)) × (r ≤ 2) ⌝ }
 {
@@ -72,10 +70,10 @@ fn tail_size(tail: Tail) -> usize
     }
 }
 
-// A gap and a brace.
+// Writes a gap and a brace.
 pub fn write_brace(out: &mut [u8], len: usize, gap: usize, brace: u8) -> usize
     requires { ⌜ Room (now out) len gap ⌝ }
-    ensures { λ r. ⌜ Writes (now (out .entry)) len (replicate gap 32 ++ (brace ∷ [])) (now (out .exit)) r ⌝ }
+    ensures { λ r. ⌜ Writes (now (out .entry)) len (spaces gap ++ (brace ∷ [])) (now (out .exit)) r ⌝ }
 {
     let at = len + gap;
     if out.len() <= at {
@@ -86,34 +84,34 @@ pub fn write_brace(out: &mut [u8], len: usize, gap: usize, brace: u8) -> usize
     at + 1
 }
 
-// A comma, if one is wanted; a line feed, unless a line starts; spaces, and a closer.
+// Writes a comma, if one is wanted; a line feed, unless a line starts; spaces, and a closer.
 pub fn write_closer(
     out: &mut [u8],
     len: usize,
     wanted: bool,
     at_line_start: bool,
-    spaces: usize,
+    indent: usize,
     closer: u8,
 ) -> usize
-    requires { ⌜ Room (now out) len spaces ⌝ }
+    requires { ⌜ Room (now out) len indent ⌝ }
     ensures { λ r. ⌜ Writes (now (out .entry)) len
-        (cond wanted comma [] ++ ((cond «at_line_start» [] lineFeed ++ replicate spaces 32) ++ (closer ∷ [])))
+        (cond wanted comma [] ++ ((cond «at_line_start» [] lineFeed ++ spaces indent) ++ (closer ∷ [])))
         (now (out .exit)) r ⌝ }
 {
     let listed = len + count_comma(wanted);
     let fed = listed + count_feed(at_line_start);
-    let at = fed + spaces;
+    let at = fed + indent;
     if out.len() <= at {
         return out.len() + 1;
     }
     put_comma(out, len, wanted);
     put_feed(out, listed, at_line_start);
-    put_gap(out, fed, spaces);
+    put_gap(out, fed, indent);
     out[at] = closer;
     at + 1
 }
 
-// How many commas that is.
+// Answers how many commas that is.
 pub fn count_comma(wanted: bool) -> usize
     ensures { λ r. ⌜ (r ≡ countComma wanted) × (r < 2) ⌝ }
 {
@@ -123,7 +121,7 @@ pub fn count_comma(wanted: bool) -> usize
     0
 }
 
-// How many line feeds stand before an indent.
+// Answers how many line feeds stand before an indent.
 fn count_feed(at_line_start: bool) -> usize
     ensures { λ r. ⌜ (r ≡ countFeed «at_line_start») × (r < 2) ⌝ }
 {
@@ -133,46 +131,46 @@ fn count_feed(at_line_start: bool) -> usize
     1
 }
 
-// A line feed, unless a line starts; spaces, `{` and a line feed.
-pub fn write_opener_line(out: &mut [u8], len: usize, at_line_start: bool, spaces: usize) -> usize
-    requires { ⌜ Room (now out) len spaces ⌝ }
+// Writes a line feed, unless a line starts; spaces, `{` and a line feed.
+pub fn write_opener_line(out: &mut [u8], len: usize, at_line_start: bool, indent: usize) -> usize
+    requires { ⌜ Room (now out) len indent ⌝ }
     ensures { λ r. ⌜ Writes (now (out .entry)) len
-        ((cond «at_line_start» [] lineFeed ++ replicate spaces 32) ++ (leftBrace ++ lineFeed))
+        ((cond «at_line_start» [] lineFeed ++ spaces indent) ++ (leftBrace ++ lineFeed))
         (now (out .exit)) r ⌝ }
 {
     let fed = len + count_feed(at_line_start);
-    let at = fed + spaces;
+    let at = fed + indent;
     let opened = at + 1;
     let next = opened + 1;
     if out.len() < next {
         return out.len() + 1;
     }
     put_feed(out, len, at_line_start);
-    put_gap(out, fed, spaces);
+    put_gap(out, fed, indent);
     out[at] = b'{';
     out[opened] = b'\n';
     next
 }
 
-// `(`, a line feed and spaces.
-pub fn write_signature_line(out: &mut [u8], len: usize, spaces: usize) -> usize
-    requires { ⌜ Room (now out) len spaces ⌝ }
-    ensures { λ r. ⌜ Writes (now (out .entry)) len (leftParen ++ (lineFeed ++ replicate spaces 32))
+// Writes `(`, a line feed and spaces.
+pub fn write_signature_line(out: &mut [u8], len: usize, indent: usize) -> usize
+    requires { ⌜ Room (now out) len indent ⌝ }
+    ensures { λ r. ⌜ Writes (now (out .entry)) len (leftParen ++ (lineFeed ++ spaces indent))
         (now (out .exit)) r ⌝ }
 {
     let opened = len + 1;
     let fed = opened + 1;
-    let next = fed + spaces;
+    let next = fed + indent;
     if out.len() < next {
         return out.len() + 1;
     }
     out[len] = b'(';
     out[opened] = b'\n';
-    put_gap(out, fed, spaces);
+    put_gap(out, fed, indent);
     next
 }
 
-// A comma and a line feed.
+// Writes a comma and a line feed.
 pub fn write_comma_line(out: &mut [u8], len: usize) -> usize
     requires { ⌜ len ≤ length (now out) ⌝ }
     ensures { λ r. ⌜ Writes (now (out .entry)) len (comma ++ lineFeed) (now (out .exit)) r ⌝ }
@@ -187,26 +185,27 @@ pub fn write_comma_line(out: &mut [u8], len: usize) -> usize
     next
 }
 
-// A line feed, spaces and `else`.
-pub fn write_else(out: &mut [u8], len: usize, spaces: usize) -> usize
-    requires { ⌜ Room (now out) len spaces ⌝ }
-    ensures { λ r. ⌜ Writes (now (out .entry)) len ((lineFeed ++ replicate spaces 32) ++ elseWord)
+// Writes a line feed, spaces and `else`.
+pub fn write_else(out: &mut [u8], len: usize, indent: usize) -> usize
+    requires { ⌜ Room (now out) len indent ⌝ }
+    ensures { λ r. ⌜ Writes (now (out .entry)) len ((lineFeed ++ spaces indent) ++ elseWord)
         (now (out .exit)) r ⌝ }
 {
     let fed = len + 1;
-    let at = fed + spaces;
+    let at = fed + indent;
     let next = at + 4;
     if out.len() < next {
         return out.len() + 1;
     }
     out[len] = b'\n';
-    put_gap(out, fed, spaces);
+    put_gap(out, fed, indent);
     put_else(out, at);
     next
 }
 
 // ---- parts of comments
 
+// Writes one byte.
 pub fn write_byte(out: &mut [u8], len: usize, b: u8) -> usize
     ensures { λ r. ⌜ Writes (now (out .entry)) len (b ∷ []) (now (out .exit)) r ⌝ }
 {
@@ -218,8 +217,9 @@ pub fn write_byte(out: &mut [u8], len: usize, b: u8) -> usize
     out.len() + 1
 }
 
+// Writes `n` spaces.
 pub fn write_spaces(out: &mut [u8], len: usize, n: usize) -> usize
-    ensures { λ r. ⌜ Writes (now (out .entry)) len (replicate n 32) (now (out .exit)) r ⌝ }
+    ensures { λ r. ⌜ Writes (now (out .entry)) len (spaces n) (now (out .exit)) r ⌝ }
 {
     let size = out.len();
     if len <= size {
@@ -233,7 +233,7 @@ pub fn write_spaces(out: &mut [u8], len: usize, n: usize) -> usize
     size + 1
 }
 
-// The bytes of `text` from `start` to `end`.
+// Writes the bytes of `text` from `start` to `end`.
 pub fn write_part(out: &mut [u8], len: usize, text: &[u8], start: usize, end: usize) -> usize
     requires { ⌜ (start ≤ end) × (end ≤ length (now text)) ⌝ }
     ensures { λ r. ⌜ Writes (now (out .entry)) len (slice start end (now (text .entry)))

@@ -11,10 +11,10 @@ use Rattle.lookahead.proofs.block_is_single_line.Statement.{statement}
 use Rattle.lookahead.proofs.block_is_single_line.Tie as tie
 
 abbrev Inv-loop : tie.InvT-loop
-Inv-loop rows depth₀ behind₀ at₀ depth behind at = Ahead rows (singleLineRows 0 (rowsOf rows)) (restOfBlock behind depth) at × (depth ≤ at)
+Inv-loop rows depth₀ follows₀ at₀ depth follows at = Ahead rows (singleLineRows 0 (rowsOf rows)) (restOfBlock follows depth) at × (depth ≤ at)
 
 abbrev μ-loop : tie.MeasureT-loop
-μ-loop rows depth₀ behind₀ at₀ depth behind at = length rows - at
+μ-loop rows depth₀ follows₀ at₀ depth follows at = length rows - at
 
 loop-holds : tie.Need-loop-holds Inv-loop μ-loop
 loop-holds c = (block-start _, search needs)
@@ -35,13 +35,13 @@ is-trivia-requires : tie.Need-is-trivia-requires Inv-loop μ-loop
 is-trivia-requires c κs = search needs
 
 returns : tie.Need-returns Inv-loop μ-loop
-returns c = λ text. block-said (c .before .before .before .before .before .before .before .before .before .args .rows .now) text (block-trivia (c .before .before .before .before .before .before .before .loop .behind) (c .before .before .before .before .before .before .before .loop .depth) (c .before .before .before .before .before .before .before .loop .inv .0) (search needs) (c .before .before .before .before .row-at .ensures) (c .before .before .if2 .taken) (c .before .is-trivia .ensures) (c .if3 .taken))
+returns c = λ text. block-said (c .before .before .before .before .before .before .before .before .before .args .rows .now) text (block-trivia (c .before .before .before .before .before .before .before .loop .follows) (c .before .before .before .before .before .before .before .loop .depth) (c .before .before .before .before .before .before .before .loop .inv .0) (search needs) (c .before .before .before .before .row-at .ensures) (c .before .before .if2 .taken) (c .before .is-trivia .ensures) (c .if3 .taken))
 
 loop-less : tie.Need-loop-less Inv-loop μ-loop
 loop-less c = search needs
 
 loop-again : tie.Need-loop-again Inv-loop μ-loop
-loop-again c = (block-passed (c .before .before .before .before .before .before .before .loop .behind) (c .before .before .before .before .before .before .before .loop .depth) (c .before .before .before .before .before .before .before .loop .inv .0) (search needs) (c .before .before .before .before .row-at .ensures) (c .before .before .if2 .taken) (c .before .is-trivia .ensures) (c .if3 .left), search needs)
+loop-again c = (block-passed (c .before .before .before .before .before .before .before .loop .follows) (c .before .before .before .before .before .before .before .loop .depth) (c .before .before .before .before .before .before .before .loop .inv .0) (search needs) (c .before .before .before .before .row-at .ensures) (c .before .before .if2 .taken) (c .before .is-trivia .ensures) (c .if3 .left), search needs)
 
 add-depth : tie.Need-add-depth Inv-loop μ-loop
 add-depth c = search needs
@@ -50,19 +50,19 @@ loop-less-2 : tie.Need-loop-less-2 Inv-loop μ-loop
 loop-less-2 c = search needs
 
 loop-again-2 : tie.Need-loop-again-2 Inv-loop μ-loop
-loop-again-2 c = (block-opened (c .before .before .before .before .before .before .before .loop .behind) (c .before .before .before .before .before .before .before .loop .depth) (c .before .before .before .before .before .before .before .loop .inv .0) (search needs) (c .before .before .before .before .row-at .ensures) (c .before .before .if2 .left) (c .if4 .taken), search needs)
+loop-again-2 c = (block-opened (c .before .before .before .before .before .before .before .loop .follows) (c .before .before .before .before .before .before .before .loop .depth) (c .before .before .before .before .before .before .before .loop .inv .0) (search needs) (c .before .before .before .before .row-at .ensures) (c .before .before .if2 .left) (c .if4 .taken), search needs)
 
 ends-line-requires : tie.Need-ends-line-requires Inv-loop μ-loop
 ends-line-requires c κs = search needs
 
 returns-2 : tie.Need-returns-2 Inv-loop μ-loop
-returns-2 c = λ text. block-said (c .before .before .before .before .before .before .before .before .before .before .before .before .before .args .rows .now) text (block-ended (c .before .before .before .before .before .before .before .before .before .before .before .loop .behind) (c .before .before .before .before .before .before .before .before .before .before .before .loop .depth) (c .before .before .before .before .before .before .before .before .before .before .before .loop .inv .0) (search needs) (c .before .before .before .before .before .before .before .before .row-at .ensures) (c .before .before .before .before .before .before .if2 .left) (c .before .ends-line .ensures) (c .if6 .taken))
+returns-2 c = λ text. block-said (c .before .before .before .before .before .before .before .before .before .before .before .before .before .args .rows .now) text (block-ended (c .before .before .before .before .before .before .before .before .before .before .before .loop .follows) (c .before .before .before .before .before .before .before .before .before .before .before .loop .depth) (c .before .before .before .before .before .before .before .before .before .before .before .loop .inv .0) (search needs) (c .before .before .before .before .before .before .before .before .row-at .ensures) (c .before .before .before .before .before .before .if2 .left) (c .before .ends-line .ensures) (c .if6 .taken))
 
 trails-requires : tie.Need-trails-requires Inv-loop μ-loop
 trails-requires c κs = search needs
 
 returns-3 : tie.Need-returns-3 Inv-loop μ-loop
-returns-3 c = λ text. block-said (c .before .before .before .before .before .before .before .before .before .before .before .before .before .before .before .args .rows .now) text (block-closed (c .before .before .before .before .before .before .before .before .before .before .before .before .before .loop .behind) (c .before .before .before .before .before .before .before .before .before .before .before .before .before .loop .depth) (c .before .before .before .before .before .before .before .before .before .before .before .before .before .loop .inv .0) (search needs) (c .before .before .before .before .before .before .before .before .before .before .row-at .ensures) (c .before .before .before .before .before .before .before .before .if2 .left) (c .before .before .before .ends-line .ensures) (c .before .before .if6 .left) (c .before .before .before .before .before .before .if4 .left) (c .before .before .before .before .if5 .taken) (c .before .if7 .taken) (c .trails .ensures))
+returns-3 c = λ text. block-said (c .before .before .before .before .before .before .before .before .before .before .before .before .before .before .before .args .rows .now) text (block-closed (c .before .before .before .before .before .before .before .before .before .before .before .before .before .loop .follows) (c .before .before .before .before .before .before .before .before .before .before .before .before .before .loop .depth) (c .before .before .before .before .before .before .before .before .before .before .before .before .before .loop .inv .0) (search needs) (c .before .before .before .before .before .before .before .before .before .before .row-at .ensures) (c .before .before .before .before .before .before .before .before .if2 .left) (c .before .before .before .ends-line .ensures) (c .before .before .if6 .left) (c .before .before .before .before .before .before .if4 .left) (c .before .before .before .before .if5 .taken) (c .before .if7 .taken) (c .trails .ensures))
 
 sub-depth : tie.Need-sub-depth Inv-loop μ-loop
 sub-depth c = search needs
@@ -71,16 +71,16 @@ loop-less-3 : tie.Need-loop-less-3 Inv-loop μ-loop
 loop-less-3 c = search needs
 
 loop-again-3 : tie.Need-loop-again-3 Inv-loop μ-loop
-loop-again-3 c = (block-less (c .before .before .before .before .before .before .before .before .before .before .before .before .loop .behind) (c .before .before .before .before .before .before .before .before .before .before .before .before .loop .depth) (c .before .before .before .before .before .before .before .before .before .before .before .before .loop .inv .0) (search needs) (c .before .before .before .before .before .before .before .before .before .row-at .ensures) (c .before .before .before .before .before .before .before .if2 .left) (c .before .before .ends-line .ensures) (c .before .if6 .left) (c .before .before .before .before .before .if4 .left) (c .before .before .before .if5 .taken) (c .if7 .left), search needs)
+loop-again-3 c = (block-less (c .before .before .before .before .before .before .before .before .before .before .before .before .loop .follows) (c .before .before .before .before .before .before .before .before .before .before .before .before .loop .depth) (c .before .before .before .before .before .before .before .before .before .before .before .before .loop .inv .0) (search needs) (c .before .before .before .before .before .before .before .before .before .row-at .ensures) (c .before .before .before .before .before .before .before .if2 .left) (c .before .before .ends-line .ensures) (c .before .if6 .left) (c .before .before .before .before .before .if4 .left) (c .before .before .before .if5 .taken) (c .if7 .left), search needs)
 
 loop-less-4 : tie.Need-loop-less-4 Inv-loop μ-loop
 loop-less-4 c = search needs
 
 loop-again-4 : tie.Need-loop-again-4 Inv-loop μ-loop
-loop-again-4 c = (block-other (c .before .before .before .before .before .before .before .before .before .loop .behind) (c .before .before .before .before .before .before .before .before .before .loop .depth) (c .before .before .before .before .before .before .before .before .before .loop .inv .0) (search needs) (c .before .before .before .before .before .before .row-at .ensures) (c .before .before .before .before .if2 .left) (c .if5 .left), search needs)
+loop-again-4 c = (block-other (c .before .before .before .before .before .before .before .before .before .loop .follows) (c .before .before .before .before .before .before .before .before .before .loop .depth) (c .before .before .before .before .before .before .before .before .before .loop .inv .0) (search needs) (c .before .before .before .before .before .before .row-at .ensures) (c .before .before .before .before .if2 .left) (c .if5 .left), search needs)
 
 returns-4 : tie.Need-returns-4 Inv-loop μ-loop
-returns-4 c = λ text. block-said (c .before .before .before .before .args .rows .now) text (block-over (c .before .before .loop .behind) (c .before .before .loop .depth) (c .before .before .loop .inv .0) refl (omega (arith, c .if1 .left, c .before .least-rows .ensures)))
+returns-4 c = λ text. block-said (c .before .before .before .before .args .rows .now) text (block-over (c .before .before .loop .follows) (c .before .before .loop .depth) (c .before .before .loop .inv .0) refl (omega (arith, c .if1 .left, c .before .least-rows .ensures)))
 
 pub block-is-single-line-spec : {M : Type 1} → statement M
 block-is-single-line-spec =

@@ -22,7 +22,7 @@ add-result : tie.Need-add-result
 add-result c = search needs
 
 returns : tie.Need-returns
-returns c = past (omega (arith, gap-size (c .before .before .args .spaces) elseWord))
+returns c = past (omega (arith, gap-size (c .before .before .args .indent) elseWord))
 
 slice-write-out : tie.Need-slice-write-out
 slice-write-out c = search needs

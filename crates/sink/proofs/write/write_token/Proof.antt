@@ -2,22 +2,13 @@
 use native.Mathlib.Omega.{arith}
 use borrow.Author.Needs.{needs}
 use lib.ListN.{length-append}
-use Rattle.sink.proofs.Sizes.{gap-size, read-inside, lexeme-bytes, lexeme-size}
+use Rattle.sink.proofs.Sizes.{gap-size, part-bytes, part-size}
 use Rattle.sink.proofs.Sink.{andThen, same-bytes, past}
 use Rattle.sink.proofs.write.write_token.Statement.{statement}
 use Rattle.sink.proofs.write.write_token.Tie as tie
 
-row-at-requires : tie.Need-row-at-requires
-row-at-requires c κs = search needs
-
-cast-start : tie.Need-cast-start
-cast-start c = search needs
-
-cast-size : tie.Need-cast-size
-cast-size c = search needs
-
 sub-size : tie.Need-sub-size
-sub-size c = omega (arith, read-inside (c .before .before .row-at .ensures) (c .before .before .before .before .before .before .pre .1 .1) .ordered)
+sub-size c = search needs
 
 add-at : tie.Need-add-at
 add-at c = search needs
@@ -35,13 +26,15 @@ add-result : tie.Need-add-result
 add-result c = search needs
 
 returns : tie.Need-returns
-returns c = past (simp (gap-size, length-append, lexeme-size (c .before .before .before .before .row-at .ensures) (c .before .before .before .before .before .before .before .before .pre .1 .1)) (omega arith))
+returns c =
+    let ς = c .before .before .before .before in
+    past (simp (gap-size, length-append, part-size (ς .args .text .now) (ς .args .start) (ς .args .end) (ς .pre .1 .0) (ς .pre .1 .1)) (omega arith))
 
 put-gap-requires : tie.Need-put-gap-requires
 put-gap-requires c κs = search needs
 
 put-part-requires : tie.Need-put-part-requires
-put-part-requires c κs = let inside = read-inside (c .before .before .before .before .before .before .before .before .before .row-at .ensures) (c .before .before .before .before .before .before .before .before .before .before .before .before .before .pre .1 .1) in (omega arith, search needs)
+put-part-requires c κs = (omega arith, search needs)
 
 put-tail-requires : tie.Need-put-tail-requires
 put-tail-requires c κs = search needs
@@ -50,15 +43,20 @@ same-length : tie.Need-same-length
 same-length c = search needs
 
 returns-2 : tie.Need-returns-2
-returns-2 c = andThen (c .before .before .before .before .before .before .before .before .before .before .put-gap .ensures) (andThen (same-bytes (lexeme-bytes (c .before .before .before .before .before .before .before .before .before .before .before .before .before .before .before .before .row-at .ensures) (c .before .before .before .before .before .before .before .before .before .before .before .before .before .before .before .before .before .before .before .before .pre .1 .1)) (c .before .before .before .before .before .before .put-part .ensures)) (rw (← c .before .before .before .before .before .before .before .before .before .before .before .before .before .tail-size .ensures .0) at (c .before .before .put-tail .ensures)))
+returns-2 c =
+    let tailed = c .before .before in
+    let copied = tailed .before .before .before .before in
+    let gapped = copied .before .before .before .before in
+    let sized = gapped .before .before .before in
+    let ς = sized .before .before .before in
+    andThen (gapped .put-gap .ensures)
+    (andThen (same-bytes (part-bytes (ς .args .text .now) (ς .args .start) (ς .args .end) (ς .pre .1 .0) (ς .pre .1 .1)) (copied .put-part .ensures))
+    (rw (← sized .tail-size .ensures .0) at (tailed .put-tail .ensures)))
 
 pub write-token-spec : {M : Type 1} → statement M
 write-token-spec =
     tie.close
     (tie.spec
-    row-at-requires
-    cast-start
-    cast-size
     sub-size
     add-at
     add-ended

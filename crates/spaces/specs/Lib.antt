@@ -1,0 +1,4 @@
+pub mod Space
+pub mod Sets
+pub mod Between
+pub mod Answer
