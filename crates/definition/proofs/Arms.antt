@@ -1,8 +1,8 @@
 -- The arms but those of Newline and the braces: each writes its token and keeps what the walk keeps. Assumes nothing.
-use mathlib.Core.Bool.{Bool, true, false, cond, not, _&&_, _||_}
+use mathlib.Core.Bool.{Bool, true, false, _&&_, _||_}
 use mathlib.Core.List.{List, [], _∷_, _++_}
 use mathlib.Core.Option.{Option, none, some, Option·map}
-use mathlib.Core.Path.{_≡_, refl, sym, ap, _∙_}
+use mathlib.Core.Path.{_≡_, refl}
 use Prim.Native.Nat.{ℕ, _+_, _-_}
 use lib.Dec.{T, eqb}
 use Rattle.rows.specs.Kinds.{LeftParen, RightParen, RightBracket, Comma, Else, Record, Identifier}

@@ -1,26 +1,26 @@
 -- Two neighbours of a plain list with no gap between them stand apart. Assumes nothing.
 use mathlib.Core.Bool.{Bool, true, false, cond, not, _&&_, _||_}
 use mathlib.Core.List.{List, [], _∷_}
-use mathlib.Core.Option.{Option, none, some}
-use mathlib.Core.Path.{_≡_, refl, sym, ap, _∙_}
+use mathlib.Core.Option.{some}
+use mathlib.Core.Path.{_≡_, refl, sym, _∙_}
 use Prim.Native.Nat.{ℕ}
 use lib.Dec.{eqb}
 use lib.ListN.{length}
 use borrow.Author.Tests.{eqb-true}
 use Rattle.shared.specs.Bytes.{oneOf, digit, sameBytes}
 use Rattle.shared.proofs.Bytes.{same-eq}
-use Rattle.rows.specs.Kinds.{LeftBrace, RightBrace, LeftParen, RightParen, LeftBracket, RightBracket, Comma, Colon, Semicolon, Question, Dot, DotDot, ColonColon, Hash, Bang, BangHash, Minus}
+use Rattle.rows.specs.Kinds.{RightBrace, LeftParen, RightParen, LeftBracket, RightBracket, Comma, Colon, Semicolon, Question, Dot, DotDot, ColonColon, Hash, Bang, BangHash, Minus}
 use Rattle.rows.specs.Token.{Token}
 use Rattle.pieces.specs.declared.bytes.Class.{Class}
 use Rattle.pieces.specs.declared.bytes.Class.the-variants.{Gap, Single, Quote, Word, Operator, Unclassed}
 use Rattle.pieces.specs.Class.{class, isWord, isOperator}
 use Rattle.pieces.specs.Reading.{Reading, done, refused, piece, peek, read, reading}
-use Rattle.pieces.proofs.Whole.{Left, clear, shut, afterWord, afterNumber, afterOperator, leaves, leftBy, Undigit, Apart, ReadsWhole, Operators, whole-operators}
+use Rattle.pieces.proofs.Whole.{afterWord, afterNumber, afterOperator, leaves, leftBy, Undigit, Apart, ReadsWhole, Operators, whole-operators}
 use Rattle.pieces.proofs.Written.{apart-single}
-use Rattle.shared.proofs.Logic.{impossible, impossible′, and-left, and-right, or-cases, or-left, or-right, split}
+use Rattle.shared.proofs.Logic.{impossible, impossible′, and-left, and-right, or-left, or-right, split}
 use Rattle.spaces.specs.Space.{spaceAfter}
 use Rattle.definition.specs.Plain.{operatorByte, onlyOperators, hasItsLexeme, isOnePiece, readsWhole, endsOperator, beginsOperator, tightBefore, tightBehind, operatorsMeet, mayMeet, beginsDigit, noDotBehind}
-use Rattle.definition.proofs.After.{Each, among}
+use Rattle.definition.proofs.After.{among}
 
 -- ---- what the tests of a lexeme say
 

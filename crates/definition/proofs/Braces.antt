@@ -1,11 +1,11 @@
 -- The arms of the braces, and the scan of a one-line block. Assumes nothing.
-use mathlib.Core.Bool.{Bool, true, false, cond, not, _&&_, _||_}
+use mathlib.Core.Bool.{Bool, true, false, cond, not}
 use mathlib.Core.List.{List, [], _∷_, _++_}
-use mathlib.Core.Option.{Option, none, some}
-use mathlib.Core.Path.{_≡_, refl, sym, ap, _∙_}
+use mathlib.Core.Option.{Option, some}
+use mathlib.Core.Path.{_≡_, refl, sym, _∙_}
 use Prim.Native.Nat.{ℕ, _+_, _-_, _≤_, _<_}
 use native.Mathlib.Omega.{arith}
-use lib.Dec.{eqb, ltb}
+use lib.Dec.{eqb}
 use borrow.Author.Tests.{ltb-true, ltb-false, eqb-true}
 use Rattle.rows.specs.Kinds.{Eof, Newline, LeftBrace, RightBrace}
 use Rattle.rows.specs.Options.{Options}
@@ -16,7 +16,7 @@ use Rattle.pieces.proofs.Whole.{clear}
 use Rattle.pieces.proofs.Written.{written-gap}
 use Rattle.shared.proofs.Logic.{impossible, impossible′, split}
 use Rattle.definition.specs.Formatter.{Formatter, setInlineDepth, setRecordPending, setInRecord, setRecordDepth, setJustClosedInline}
-use Rattle.definition.specs.Act.{State, state, run, _⨾_}
+use Rattle.definition.specs.Act.{State, state, run}
 use Rattle.shared.specs.Bytes.{lineFeed, space}
 use Rattle.definition.specs.Emit.{prevIs, indentOrSpace, onNewLine, dedented, openBlockMultiline}
 use Rattle.definition.specs.Arms.{rightBraceArm, openBlock, leftBraceArm}
@@ -25,7 +25,7 @@ use Rattle.definition.specs.Plain.{isMute, hasItsLexeme}
 use Rattle.definition.proofs.PlainScan.{Seen}
 use Rattle.definition.proofs.After.{After, chosen, inTurn, first, last}
 use Rattle.definition.proofs.Beside.{Sound, lexeme-is}
-use Rattle.definition.proofs.Inv.{free, WroteBy, Wrote, Keeps, Kept, put-byte, close-gaps, line-gaps, space-gaps, feed, blank}
+use Rattle.definition.proofs.Inv.{free, WroteBy, Wrote, Kept, put-byte, close-gaps, line-gaps, space-gaps, feed, blank}
 use Rattle.definition.proofs.Arms.{closing, inserting}
 
 -- ---- the scan
@@ -34,10 +34,6 @@ use Rattle.definition.proofs.Arms.{closing, inserting}
 unbare : (b x : Bool) → cond (not b) false x ≡ true → x ≡ true
 unbare true x e = e
 unbare false x e = impossible′ e
-
-no-way : (b : Bool) → cond b false false ≡ true → false ≡ true
-no-way true e = e
-no-way false e = e
 
 module _ (d : ℕ) (t : Token) (ts : List Token) (h : singleLineFrom d (t ∷ ts) ≡ true) where
   abbrev Kinds : ℕ → Bool

@@ -1,15 +1,15 @@
 -- What the walk of a plain list keeps, and what a write does to it. Assumes nothing.
 use mathlib.Core.Bool.{Bool, true, false, cond}
 use mathlib.Core.List.{List, [], _∷_, _++_}
-use mathlib.Core.Option.{Option, none, some}
-use mathlib.Core.Path.{_≡_, refl, sym, ap, _∙_}
+use mathlib.Core.Option.{Option, some}
+use mathlib.Core.Path.{_≡_, refl}
 use Prim.Native.Nat.{ℕ, zero, suc, _+_, _*_, _≤_, _<_}
 use lib.Dec.{T}
 use lib.ListN.{replicate}
 use Rattle.rows.specs.Options.{Options}
 use Rattle.rows.specs.Token.{Token}
 use Rattle.lookahead.specs.Measure.{singleLineFrom}
-use Rattle.pieces.specs.declared.bytes.Class.the-variants.{Gap, Single}
+use Rattle.pieces.specs.declared.bytes.Class.the-variants.{Single}
 use Rattle.pieces.specs.Class.{class}
 use Rattle.pieces.specs.Commas.{closer}
 use Rattle.pieces.proofs.Whole.{Left, clear, leftBy, Apart, ReadsWhole}

@@ -2,7 +2,7 @@
 use mathlib.Core.Bool.{Bool, true, false, _&&_}
 use mathlib.Core.List.{List, [], _∷_}
 use mathlib.Core.Option.{Option, none}
-use mathlib.Core.Path.{_≡_, refl, sym, ap, _∙_}
+use mathlib.Core.Path.{_≡_, refl, ap, _∙_}
 use Rattle.rows.specs.Token.{Token}
 use Rattle.definition.specs.Plain.{clause₁, clause₂, clause₃, clause₄, clause₅, clause₆, clause₇, every, everyPair, noBraceAfterComma, noEmptyRecord, neighbour, commaLast, recordOpen, plain}
 

@@ -2,15 +2,15 @@
 use mathlib.Core.Bool.{Bool, true, false, cond, not, _&&_, _||_}
 use mathlib.Core.List.{List, [], _∷_, _++_, append-nil}
 use mathlib.Core.Option.{Option, none, some}
-use mathlib.Core.Path.{_≡_, refl, sym, ap, _∙_}
-use Prim.Native.Nat.{ℕ, _+_, _-_, _≤_, _<_}
+use mathlib.Core.Path.{_≡_, refl, sym, _∙_}
+use Prim.Native.Nat.{ℕ, _-_, _<_}
 use native.Mathlib.Omega.{arith}
-use lib.Dec.{eqb, ltb}
+use lib.Dec.{eqb}
 use borrow.Author.Tests.{eqb-true, not-true}
 use Rattle.rows.specs.Kinds.{Eof, Newline, LeftBrace, RightBrace, LeftParen, RightParen, RightBracket, Comma, Else, Record}
 use Rattle.rows.specs.Options.{Options}
 use Rattle.rows.specs.Token.{Trivia, Token}
-use Rattle.lookahead.specs.Measure.{isEmpty, bare, singleLineFrom}
+use Rattle.lookahead.specs.Measure.{isEmpty}
 use Rattle.pieces.proofs.Whole.{clear}
 use Rattle.pieces.proofs.Written.{written-gap}
 use Rattle.shared.proofs.Logic.{impossible, impossible′, and-left, and-right, or-cases, split}

@@ -1,9 +1,9 @@
 -- A plain list that is laid out to its end leaves a text that holds its lexemes. Assumes nothing.
-use mathlib.Core.Bool.{Bool, true, false, cond, _&&_}
+use mathlib.Core.Bool.{true, false}
 use mathlib.Core.List.{List, [], _∷_, _++_, append-nil, append-assoc}
 use mathlib.Core.Option.{Option, none, some}
-use mathlib.Core.Path.{_≡_, refl, sym, ap, _∙_}
-use Prim.Native.Nat.{ℕ, _+_, _<_}
+use mathlib.Core.Path.{_≡_, refl, sym, _∙_}
+use Prim.Native.Nat.{ℕ, _+_}
 use native.Mathlib.Omega.{arith}
 use lib.Dec.{ltb}
 use lib.ListN.{length}
@@ -12,13 +12,13 @@ use Rattle.rows.specs.Token.{Token}
 use Rattle.pieces.proofs.Whole.{Left, clear}
 use Rattle.pieces.proofs.Written.{Written, written-none}
 use Rattle.shared.specs.Report.{deep, full}
-use Rattle.shared.proofs.Logic.{impossible, impossible′, and-left, and-right, split}
+use Rattle.shared.proofs.Logic.{impossible, and-left, and-right, split}
 use Rattle.definition.specs.Formatter.{new}
-use Rattle.definition.specs.Act.{State, state, run}
+use Rattle.definition.specs.Act.{State, run}
 use Rattle.definition.specs.Emit.{isSome}
 use Rattle.definition.specs.PushToken.{turn, begun}
 use Rattle.definition.specs.Plain.{isMute, plain}
-use Rattle.definition.specs.Layout.{Ended, finished, stopped, checked, layFrom, lay}
+use Rattle.definition.specs.Layout.{finished, stopped, checked, layFrom, lay}
 use Rattle.definition.specs.Demand3.{lexemesOf}
 use Rattle.definition.proofs.PlainScan.{Seen, unseen, see, fits, plainFrom, plain-scan}
 use Rattle.definition.proofs.Inv.{free, Wrote, Kept, Inv}

@@ -72,7 +72,10 @@ inlineCloseGap o f = cond (f .atLineStart) (indentStr o f) (cond (prevIs LeftBra
 
 abbrev pub closeInline : Options → Act
 closeInline o =
-    update (λ f. setJustClosedInline true (setInlineDepth (f .inlineDepth - 1) f)) ⨾ gap (inlineCloseGap o) ⨾ lexeme rightBrace ⨾ update (endedBy RightBrace)
+    update (λ f. setJustClosedInline true (setInlineDepth (f .inlineDepth - 1) f))
+    ⨾ gap (inlineCloseGap o)
+    ⨾ lexeme rightBrace
+    ⨾ update (endedBy RightBrace)
 
 -- a record: a closing comma, unless the last kind is Comma or LeftBrace
 abbrev pub closeRecord : Options → Act
@@ -83,16 +86,22 @@ closeRecord o =
 
 abbrev pub closeBlock : Options → Act
 closeBlock o =
-    update (λ f. dedented (setRecordDepth (cond (f .inRecord) (f .recordDepth - 1) (f .recordDepth)) f)) ⨾ gap (onNewLine o) ⨾ lexeme rightBrace ⨾ update (endedBy RightBrace)
+    update (λ f. dedented (setRecordDepth (cond (f .inRecord) (f .recordDepth - 1) (f .recordDepth)) f))
+    ⨾ gap (onNewLine o)
+    ⨾ lexeme rightBrace
+    ⨾ update (endedBy RightBrace)
 
 unfoldable pub rightBraceArm : Options → Act
 rightBraceArm o = if inOneLineBlock (closeInline o) (if atRecordFields (closeRecord o) (closeBlock o))
 
 -- ---- LeftBrace, 387
 
--- `record E {}`: the lexeme and `{}`, and the `}` behind it is taken along
+-- `record E {}`: the lexeme and `{}`, and the `}` after it is taken along
 unfoldable pub emptyRecord : Options → Token → Act
-emptyRecord o t = pushLexeme o t ⨾ lexeme (bytes "{}") ⨾ update (λ f. setSkipNext true (setReturned true (setRecordPending false (setPrev (some RightBrace) f))))
+emptyRecord o t =
+    pushLexeme o t
+    ⨾ lexeme (bytes "{}")
+    ⨾ update (λ f. setSkipNext true (setReturned true (setRecordPending false (setPrev (some RightBrace) f))))
 
 -- a block over several lines, in a record or not
 abbrev pub openBlock : Options → ℕ → Act
@@ -101,7 +110,8 @@ openBlock o i = openBlockMultiline o i ⨾ update (setPrev (some LeftBrace))
 -- a one-line block in a one-line block: at a line's start the `{` is left out
 abbrev pub openInnerInline : Options → Act
 openInnerInline o =
-    if (λ f. f .atLineStart) (gap (indentStr o)) (gap (λ f. space) ⨾ lexeme leftBrace) ⨾ update (λ f. endedBy LeftBrace (setInlineDepth (f .inlineDepth + 1) f))
+    if (λ f. f .atLineStart) (gap (indentStr o)) (gap (λ f. space) ⨾ lexeme leftBrace)
+    ⨾ update (λ f. endedBy LeftBrace (setInlineDepth (f .inlineDepth + 1) f))
 
 abbrev pub openInline : Options → Act
 openInline o = gap (indentOrSpace o) ⨾ lexeme leftBrace ⨾ update (λ f. endedBy LeftBrace (setInlineDepth 1 f))
@@ -140,7 +150,9 @@ breakSignature o i =
     ⨾ update (λ f. groupOpened (endedBy LeftParen (setSuppressNewlineAt (some (i + 1)) (setSigBreakDepth (some 1) f))))
 
 abbrev pub openSignature : Options → ℕ → Token → List Token → Act
-openSignature o i t ts = update (setFnState 0) ⨾ if (λ f. shouldBreakSig (o .fnSigWidth) (t ∷ ts)) (breakSignature o i) (openGroup o t)
+openSignature o i t ts =
+    update (setFnState 0)
+    ⨾ if (λ f. shouldBreakSig (o .fnSigWidth) (t ∷ ts)) (breakSignature o i) (openGroup o t)
 
 unfoldable pub leftParenArm : Options → ℕ → Token → List Token → Act
 leftParenArm o i t ts =
@@ -158,14 +170,18 @@ closeGroup o t = pushLexeme o t ⨾ update groupClosed
 
 -- the signature's `)`: the indent goes after it
 abbrev pub closeSignatureParen : Options → Act
-closeSignatureParen o = gap (onNewLine o) ⨾ lexeme rightParen ⨾ update (λ f. setReturned true (endedBy RightParen (groupClosed (dedented f))))
+closeSignatureParen o =
+    gap (onNewLine o) ⨾ lexeme rightParen
+    ⨾ update (λ f. setReturned true (endedBy RightParen (groupClosed (dedented f))))
 
 abbrev pub closeSignature : Options → Act
 closeSignature o = update (setSigBreakDepth none) ⨾ closeSignatureParen o
 
 -- a broken list's `)`: no comma
 abbrev pub closeCall : Options → Act
-closeCall o = update (λ f. dedented (popped f)) ⨾ gap (onNewLine o) ⨾ lexeme rightParen ⨾ update (λ f. setReturned true (endedBy RightParen (groupClosed f)))
+closeCall o =
+    update (λ f. dedented (popped f)) ⨾ gap (onNewLine o) ⨾ lexeme rightParen
+    ⨾ update (λ f. setReturned true (endedBy RightParen (groupClosed f)))
 
 unfoldable pub rightParenArm : Options → Token → Act
 rightParenArm o t =

@@ -23,7 +23,9 @@ pub data Ended : Type 0 where
 
 -- Behind token i: 5 where its bytes don't fit, else 4 where its list is too deep. (Bytes written before that refusal came first.)
 abbrev pub checked : ℕ → ℕ → State → Ended
-checked size i s = cond (ltb size (length (s .out))) (stopped full i) (cond (isSome (s .formatter .tooDeep)) (stopped deep i) (finished s))
+checked size i s =
+    cond (ltb size (length (s .out))) (stopped full i)
+    (cond (isSome (s .formatter .tooDeep)) (stopped deep i) (finished s))
 
 abbrev pub andThen : Ended → (State → Ended) → Ended
 andThen (finished s) next = next s

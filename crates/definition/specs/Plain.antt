@@ -24,7 +24,7 @@ unfoldable pub every : (Token → Bool) → List Token → Bool
 every clause [] = true
 every clause (t ∷ ts) = clause t && every clause ts
 
--- the neighbour before what comes behind t
+-- the neighbour before what comes after t
 abbrev pub neighbour : Option Token → Token → Option Token
 neighbour last t = cond (isMute t) last (some t)
 

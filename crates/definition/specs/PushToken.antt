@@ -32,15 +32,18 @@ arm o i t ts =
 
 -- before the arm: `let inline_close = !saw_trivia && std::mem::take(..)`; where trivia was seen the mark stays
 abbrev pub takeInlineClose : Bool → Formatter → Formatter
-takeInlineClose bare f = setReturned false (setInlineClose (bare && f .justClosedInline) (setJustClosedInline (not bare && f .justClosedInline) f))
+takeInlineClose bare f =
+    setReturned false
+    (setInlineClose (bare && f .justClosedInline) (setJustClosedInline (not bare && f .justClosedInline) f))
 
 -- Refusal 4: the broken-group stack is full, and the token would open one more broken list.
 abbrev pub overflows : Options → Token → List Token → Formatter → Bool
 overflows o t ts f =
     leb 64 (length (f .breakStack))
-    && ((eqb (t .kind) LeftParen && (not (atSignature f) && breaksList o t ts f)) || (eqb (t .kind) LeftBracket && breaksList o t ts f))
+    && ((eqb (t .kind) LeftParen && (not (atSignature f) && breaksList o t ts f))
+    || (eqb (t .kind) LeftBracket && breaksList o t ts f))
 
--- `push_token` at index i, where the tokens ts come behind t. Refusal 4 is looked at after the leading trivia.
+-- `push_token` at index i, where the tokens ts come after t. Refusal 4 is looked at after the leading trivia.
 abbrev pub pushToken : Options → ℕ → Token → List Token → Act
 pushToken o i t ts =
     leadingTrivia o (t .leading) ⨾ update (takeInlineClose (isEmpty (t .leading)))

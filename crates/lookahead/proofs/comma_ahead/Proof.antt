@@ -12,16 +12,40 @@ use Rattle.lookahead.proofs.comma_ahead.Statement.{statement}
 use Rattle.lookahead.proofs.comma_ahead.Tie as tie
 
 abbrev Inv-loop : tie.InvT-loop
-Inv-loop rows from own other opener closer other-opener other-closer own₀ other₀ at₀ left₀ own' other' at left = Ahead rows (commaAhead opener closer other-opener other-closer own other (rowsOf (drop from rows))) (commaAhead opener closer other-opener other-closer own' other') at × (own' ≤ at) × (other' ≤ at) × (left ≡ (length rows - at) / 16)
+Inv-loop rows from own other opener closer other-opener other-closer own₀ other₀ at₀ left₀ own' other' at left =
+    Ahead rows (commaAhead opener closer other-opener other-closer own other (rowsOf (drop from rows))) (commaAhead opener closer other-opener other-closer own' other') at
+    × (own' ≤ at)
+    × (other' ≤ at)
+    × (left ≡ (length rows - at) / 16)
 
 abbrev μ-loop : tie.MeasureT-loop
 μ-loop rows from own other opener closer other-opener other-closer own₀ other₀ at₀ left₀ own' other' at left = length rows - at
+
+-- ---- the way back, from each place that the answers start at to the one before it
+
+-- the function's entry, from the loop's head
+abbrev entry : tie.At-loop Inv-loop μ-loop → tie.Start Inv-loop μ-loop
+entry c = c .before .before
+
+-- the loop's head, from where the token's kind is known
+abbrev head : tie.After-token-kind Inv-loop μ-loop → tie.At-loop Inv-loop μ-loop
+head c = c .before .before .before .before
+
+-- where the kind is known, from where it is neither the opener nor the closer
+abbrev known : tie.Else3 Inv-loop μ-loop → tie.After-token-kind Inv-loop μ-loop
+known c = c .before .before
+
+-- where it is neither, from where it is no Eof
+abbrev neither : tie.Else6 Inv-loop μ-loop → tie.Else3 Inv-loop μ-loop
+neither c = c .before .before
 
 sub-left : tie.Need-sub-left Inv-loop μ-loop
 sub-left c = search needs
 
 loop-holds : tie.Need-loop-holds Inv-loop μ-loop
-loop-holds c = (top-start (c .before .pre .1) _ _ _ _ (c .before .pre .0 .2), c .before .pre .0 .0, c .before .pre .0 .1, refl)
+loop-holds c =
+    let start = c .before in
+    (top-start (start .pre .1) _ _ _ _ (start .pre .0 .2), start .pre .0 .0, start .pre .0 .1, refl)
 
 add-least-rows : tie.Need-add-least-rows Inv-loop μ-loop
 add-least-rows c = search needs
@@ -48,13 +72,25 @@ loop-less : tie.Need-loop-less Inv-loop μ-loop
 loop-less c = search needs
 
 loop-again : tie.Need-loop-again Inv-loop μ-loop
-loop-again c = (top-opened (c .before .before .before .before .before .before .before .pre .1) (c .before .before .before .before .before .loop .own) (c .before .before .before .before .before .loop .other) (c .before .before .before .before .before .loop .inv .0) (search needs) (c .before .before .row-at .ensures) (c .before .token-kind .ensures) (c .if2 .taken), search needs, search needs, search needs)
+loop-again c =
+    let k = c .before in
+    let l = head k .loop in (
+      top-opened (entry (head k) .pre .1) (l .own) (l .other) (l .inv .0) (search needs) (k .before .row-at .ensures) (k .token-kind .ensures) (c .if2 .taken),
+      search needs,
+      search needs,
+      search needs,
+    )
 
 is-last-requires : tie.Need-is-last-requires Inv-loop μ-loop
 is-last-requires c κs = search needs
 
 returns : tie.Need-returns Inv-loop μ-loop
-returns c = top-closed (c .before .before .before .before .before .before .before .before .before .before .pre .1) (c .before .before .before .before .before .before .before .before .loop .own) (c .before .before .before .before .before .before .before .before .loop .other) (c .before .before .before .before .before .before .before .before .loop .inv .0) (search needs) (c .before .before .before .before .before .row-at .ensures) (c .before .before .before .before .token-kind .ensures) (c .before .before .if3 .taken) (c .before .is-last .ensures) (c .if4 .taken)
+returns c =
+    let closer = c .before .before in
+    let k = closer .before .before in
+    let l = head k .loop in
+    top-closed (entry (head k) .pre .1) (l .own) (l .other) (l .inv .0) (search needs) (k .before .row-at .ensures) (k .token-kind .ensures)
+    (closer .if3 .taken) (c .before .is-last .ensures) (c .if4 .taken)
 
 depth-after-requires : tie.Need-depth-after-requires Inv-loop μ-loop
 depth-after-requires c κs = search needs
@@ -63,16 +99,38 @@ loop-less-2 : tie.Need-loop-less-2 Inv-loop μ-loop
 loop-less-2 c = search needs
 
 loop-again-2 : tie.Need-loop-again-2 Inv-loop μ-loop
-loop-again-2 c = (top-less (c .before .before .before .before .before .before .before .before .before .before .before .pre .1) (c .before .before .before .before .before .before .before .before .before .loop .own) (c .before .before .before .before .before .before .before .before .before .loop .other) (c .before .before .before .before .before .before .before .before .before .loop .inv .0) (search needs) (c .before .before .before .before .before .before .row-at .ensures) (c .before .before .before .before .before .token-kind .ensures) (c .before .before .before .if3 .taken) (c .before .before .is-last .ensures) (c .before .if4 .left) (c .depth-after .ensures), omega (arith, c .before .before .before .before .before .before .before .before .before .loop .inv .1, c .depth-after .ensures, depth-after-most (c .before .before .before .before .before .before .before .before .before .before .before .args .opener) (c .before .before .before .before .before .before .before .before .before .before .before .args .closer) (c .before .before .before .before .before .token-kind .result) (c .before .before .before .before .before .before .before .before .before .loop .own)), search needs, search needs)
+loop-again-2 c =
+    let later = c .before in
+    let closer = later .before .before in
+    let k = closer .before .before in
+    let l = head k .loop in
+    let a = entry (head k) .args in (
+      top-less (entry (head k) .pre .1) (l .own) (l .other) (l .inv .0) (search needs) (k .before .row-at .ensures) (k .token-kind .ensures)
+          (closer .if3 .taken) (later .before .is-last .ensures) (later .if4 .left) (c .depth-after .ensures),
+      omega (arith, l .inv .1, c .depth-after .ensures, depth-after-most (a .opener) (a .closer) (k .token-kind .result) (l .own)),
+      search needs,
+      search needs,
+    )
 
 returns-2 : tie.Need-returns-2 Inv-loop μ-loop
-returns-2 c = top-eof (c .before .before .before .before .before .before .before .before .before .before .pre .1) (c .before .before .before .before .before .before .before .before .loop .own) (c .before .before .before .before .before .before .before .before .loop .other) (c .before .before .before .before .before .before .before .before .loop .inv .0) (search needs) (c .before .before .before .before .before .row-at .ensures) (c .before .before .before .before .token-kind .ensures) (c .before .before .before .if2 .left) (c .before .before .if3 .left) (c .if6 .taken)
+returns-2 c =
+    let n = c .before .before in
+    let k = known n in
+    let l = head k .loop in
+    top-eof (entry (head k) .pre .1) (l .own) (l .other) (l .inv .0) (search needs) (k .before .row-at .ensures) (k .token-kind .ensures)
+    (n .before .if2 .left) (n .if3 .left) (c .if6 .taken)
 
 is-top-comma-requires : tie.Need-is-top-comma-requires Inv-loop μ-loop
 is-top-comma-requires c κs = search needs
 
 returns-3 : tie.Need-returns-3 Inv-loop μ-loop
-returns-3 c = top-found (c .before .before .before .before .before .before .before .before .before .before .before .before .pre .1) (c .before .before .before .before .before .before .before .before .before .before .loop .own) (c .before .before .before .before .before .before .before .before .before .before .loop .other) (c .before .before .before .before .before .before .before .before .before .before .loop .inv .0) (search needs) (c .before .before .before .before .before .before .before .row-at .ensures) (c .before .before .before .before .before .before .token-kind .ensures) (c .before .before .before .before .before .if2 .left) (c .before .before .before .before .if3 .left) (c .before .before .if6 .left) (c .before .is-top-comma .ensures) (c .if7 .taken)
+returns-3 c =
+    let e = c .before .before in
+    let n = neither e in
+    let k = known n in
+    let l = head k .loop in
+    top-found (entry (head k) .pre .1) (l .own) (l .other) (l .inv .0) (search needs) (k .before .row-at .ensures) (k .token-kind .ensures)
+    (n .before .if2 .left) (n .if3 .left) (e .if6 .left) (c .before .is-top-comma .ensures) (c .if7 .taken)
 
 depth-after-requires-2 : tie.Need-depth-after-requires-2 Inv-loop μ-loop
 depth-after-requires-2 c κs = search needs
@@ -81,16 +139,40 @@ loop-less-3 : tie.Need-loop-less-3 Inv-loop μ-loop
 loop-less-3 c = search needs
 
 loop-again-3 : tie.Need-loop-again-3 Inv-loop μ-loop
-loop-again-3 c = (top-more (c .before .before .before .before .before .before .before .before .before .before .before .before .before .pre .1) (c .before .before .before .before .before .before .before .before .before .before .before .loop .own) (c .before .before .before .before .before .before .before .before .before .before .before .loop .other) (c .before .before .before .before .before .before .before .before .before .before .before .loop .inv .0) (search needs) (c .before .before .before .before .before .before .before .before .row-at .ensures) (c .before .before .before .before .before .before .before .token-kind .ensures) (c .before .before .before .before .before .before .if2 .left) (c .before .before .before .before .before .if3 .left) (c .before .before .before .if6 .left) (c .before .before .is-top-comma .ensures) (c .before .if7 .left) (c .depth-after2 .ensures), search needs, omega (arith, c .before .before .before .before .before .before .before .before .before .before .before .loop .inv .2, c .depth-after2 .ensures, depth-after-most (c .before .before .before .before .before .before .before .before .before .before .before .before .before .args .other-opener) (c .before .before .before .before .before .before .before .before .before .before .before .before .before .args .other-closer) (c .before .before .before .before .before .before .before .token-kind .result) (c .before .before .before .before .before .before .before .before .before .before .before .loop .other)), search needs)
+loop-again-3 c =
+    let later = c .before in
+    let e = later .before .before in
+    let n = neither e in
+    let k = known n in
+    let l = head k .loop in
+    let a = entry (head k) .args in (
+      top-more (entry (head k) .pre .1) (l .own) (l .other) (l .inv .0) (search needs) (k .before .row-at .ensures) (k .token-kind .ensures)
+          (n .before .if2 .left) (n .if3 .left) (e .if6 .left) (later .before .is-top-comma .ensures) (later .if7 .left) (c .depth-after2 .ensures),
+      search needs,
+      omega (arith, l .inv .2, c .depth-after2 .ensures, depth-after-most (a .other-opener) (a .other-closer) (k .token-kind .result) (l .other)),
+      search needs,
+    )
 
 loop-less-4 : tie.Need-loop-less-4 Inv-loop μ-loop
 loop-less-4 c = search needs
 
 loop-again-4 : tie.Need-loop-again-4 Inv-loop μ-loop
-loop-again-4 c = (top-above (c .before .before .before .before .before .before .before .before .before .pre .1) (c .before .before .before .before .before .before .before .loop .own) (c .before .before .before .before .before .before .before .loop .other) (c .before .before .before .before .before .before .before .loop .inv .0) (search needs) (c .before .before .before .before .row-at .ensures) (c .before .before .before .token-kind .ensures) (c .before .before .if2 .left) (c .before .if3 .left) (c .if5 .left), search needs, search needs, search needs)
+loop-again-4 c =
+    let n = c .before in
+    let k = known n in
+    let l = head k .loop in (
+      top-above (entry (head k) .pre .1) (l .own) (l .other) (l .inv .0) (search needs) (k .before .row-at .ensures) (k .token-kind .ensures)
+          (n .before .if2 .left) (n .if3 .left) (c .if5 .left),
+      search needs,
+      search needs,
+      search needs,
+    )
 
 returns-4 : tie.Need-returns-4 Inv-loop μ-loop
-returns-4 c = top-over (c .before .before .before .before .pre .1) (c .before .before .loop .own) (c .before .before .loop .other) (c .before .before .loop .inv .0) (c .before .before .loop .inv .3) (omega (arith, c .if1 .left, c .before .least-rows .ensures))
+returns-4 c =
+    let h = c .before .before in
+    let l = h .loop in
+    top-over (entry h .pre .1) (l .own) (l .other) (l .inv .0) (l .inv .3) (omega (arith, c .if1 .left, c .before .least-rows .ensures))
 
 pub comma-ahead-spec : {M : Type 1} → statement M
 comma-ahead-spec =
