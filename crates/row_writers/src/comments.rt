@@ -11,7 +11,7 @@ ghost use Rattle.rows.specs.Bounds.{Inside, rowOf};
 ghost use Rattle.rows.specs.Kinds.{BlankLine};
 ghost use Rattle.rows.specs.Token.{bytesOf};
 ghost use Rattle.sink.specs.Sink.{Writes};
-ghost use Rattle.comments.specs.Comment.{commentHead, leadTail, trailHead, trailTail};
+ghost use Rattle.row_writers.specs.Comment.{commentHead, leadTail, trailHead, trailTail};
 
 // Writes a leading comment, of which `row` names the bytes in `text`: its marks, a space, its bytes and a line feed. Answers
 // the length after it.

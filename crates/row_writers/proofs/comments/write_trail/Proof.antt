@@ -1,9 +1,9 @@
--- `comments::write_trail` meets its contract. Assumes nothing.
+-- `row_writers::comments::write_trail` meets its contract. Assumes nothing.
 use borrow.Author.Needs.{needs}
-use Rattle.comments.proofs.Marks.{trail-head-block, trail-tail-block, trail-head-line, trail-tail-line}
+use Rattle.row_writers.proofs.Marks.{trail-head-block, trail-tail-block, trail-head-line, trail-tail-line}
 use Rattle.sink.proofs.Sink.{andThen, same-bytes}
-use Rattle.comments.proofs.write_trail.Statement.{statement}
-use Rattle.comments.proofs.write_trail.Tie as tie
+use Rattle.row_writers.proofs.comments.write_trail.Statement.{statement}
+use Rattle.row_writers.proofs.comments.write_trail.Tie as tie
 
 write-head-requires : tie.Need-write-head-requires
 write-head-requires c κs = search needs

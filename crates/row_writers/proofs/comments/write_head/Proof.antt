@@ -1,9 +1,9 @@
--- `comments::write_head` meets its contract. Assumes nothing.
+-- `row_writers::comments::write_head` meets its contract. Assumes nothing.
 use borrow.Author.Needs.{needs}
 use borrow.Author.Tests.{eq-eqb, ne-eqb}
 use Rattle.sink.proofs.Sink.{andThen}
-use Rattle.comments.proofs.write_head.Statement.{statement}
-use Rattle.comments.proofs.write_head.Tie as tie
+use Rattle.row_writers.proofs.comments.write_head.Statement.{statement}
+use Rattle.row_writers.proofs.comments.write_head.Tie as tie
 
 write-byte-requires : tie.Need-write-byte-requires
 write-byte-requires c κs = search needs

@@ -4,7 +4,7 @@ use mathlib.Core.Path.{_≡_, sym}
 use Prim.Native.Nat.{ℕ}
 use borrow.Author.Tests.{eq-eqb, ne-eqb}
 use Rattle.rows.specs.Kinds.{BlockComment}
-use Rattle.comments.specs.Comment.{commentHead, leadTail, trailHead, trailTail}
+use Rattle.row_writers.specs.Comment.{commentHead, leadTail, trailHead, trailTail}
 
 module _ (k : ℕ) (h : k ≡ BlockComment) where
   pub lead-tail-block : 32 ∷ 42 ∷ 47 ∷ 10 ∷ [] ≡ leadTail k

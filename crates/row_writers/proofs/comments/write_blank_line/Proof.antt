@@ -1,8 +1,8 @@
--- `comments::write_blank_line` meets its contract. Assumes nothing.
+-- `row_writers::comments::write_blank_line` meets its contract. Assumes nothing.
 use borrow.Author.Needs.{needs}
 use Rattle.sink.proofs.Sink.{nothing}
-use Rattle.comments.proofs.write_blank_line.Statement.{statement}
-use Rattle.comments.proofs.write_blank_line.Tie as tie
+use Rattle.row_writers.proofs.comments.write_blank_line.Statement.{statement}
+use Rattle.row_writers.proofs.comments.write_blank_line.Tie as tie
 
 returns : tie.Need-returns
 returns c = rw (c .if1 .taken) nothing

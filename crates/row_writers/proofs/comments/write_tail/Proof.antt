@@ -1,8 +1,8 @@
--- `comments::write_tail` meets its contract. Assumes nothing.
+-- `row_writers::comments::write_tail` meets its contract. Assumes nothing.
 use borrow.Author.Needs.{needs}
 use Rattle.sink.proofs.Sink.{andThen}
-use Rattle.comments.proofs.write_tail.Statement.{statement}
-use Rattle.comments.proofs.write_tail.Tie as tie
+use Rattle.row_writers.proofs.comments.write_tail.Statement.{statement}
+use Rattle.row_writers.proofs.comments.write_tail.Tie as tie
 
 write-byte-requires : tie.Need-write-byte-requires
 write-byte-requires c κs = search needs
