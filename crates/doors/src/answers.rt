@@ -10,6 +10,7 @@ ghost use Rattle.sheet.specs.Answer.{reported as sheetReported};
 ghost use Rattle.pieces.specs.Answer.{reported as piecesReported};
 ghost use Rattle.lookahead.specs.Answer.{reported as spaceReported};
 
+// Returns the report of a layout: its length, its inserted commas and plain, or a refusal.
 pub fn of_layout(answer: format_tokens::Answer) -> Report
     ensures { λ r. ⌜ reportOf r ≡ layoutReported answer ⌝ }
 {
@@ -25,17 +26,19 @@ pub fn of_layout(answer: format_tokens::Answer) -> Report
     }
 }
 
+// Returns the report of a sheet: its rows, its texts' bytes and 0, or a refusal.
 pub fn of_sheet(answer: sheet::Answer) -> Report
     ensures { λ r. ⌜ reportOf r ≡ sheetReported answer ⌝ }
 {
     match answer {
-        sheet::Answer::Read(rows, bytes) => success(rows as u64, bytes as u64, 0),
+        sheet::Answer::Read { rows, text_bytes } => success(rows as u64, text_bytes as u64, 0),
         sheet::Answer::NoNames => refuse(refusals::NO_NAMES, 0),
-        sheet::Answer::BadLine(line) => refuse(refusals::BAD_LINE, line),
-        sheet::Answer::SheetFull(line) => refuse(refusals::SHEET_FULL, line),
+        sheet::Answer::BadLine { line } => refuse(refusals::BAD_LINE, line),
+        sheet::Answer::SheetFull { line } => refuse(refusals::SHEET_FULL, line),
     }
 }
 
+// Returns the report of a text that was read back: its pieces, 0 and 0, or a refusal.
 pub fn of_pieces(answer: pieces::Answer) -> Report
     ensures { λ r. ⌜ reportOf r ≡ piecesReported answer ⌝ }
 {
@@ -46,6 +49,7 @@ pub fn of_pieces(answer: pieces::Answer) -> Report
     }
 }
 
+// Returns the report of a space: 1 or 0, 0 and 0, or a refusal.
 pub fn of_space(answer: lookahead::Space) -> Report
     ensures { λ r. ⌜ reportOf r ≡ spaceReported answer ⌝ }
 {

@@ -2,6 +2,7 @@
 // tests/make_replay_sheet.py makes the sheets and, by its own reading of document 01, what is expected.
 use libc::STDIN_FILENO;
 use libc::STDOUT_FILENO;
+use shared::refusals;
 ghost use Prim.Native.Nat.{_<_};
 
 fn main() {
@@ -11,7 +12,8 @@ fn main() {
     replay(&mut sheet, &mut rows, &mut text);
 }
 
-// A proved loop has to end, and nothing says that the input does: so it takes so many cases at most.
+// Replays case after case. A proved loop has to end, and nothing says that the input does: so it takes so many cases at
+// most.
 fn replay(sheet: &mut [u8], rows: &mut [u8], text: &mut [u8]) {
     let mut left: usize = 65536;
     while 0 < left {
@@ -22,8 +24,8 @@ fn replay(sheet: &mut [u8], rows: &mut [u8], text: &mut [u8]) {
     }
 }
 
-// A case is how many bytes the rows have, the text and the sheet, five digits each, then the sheet, each
-// of the two lines with a line feed. Answers whether a whole case was there.
+// A case is a line with three numbers of five digits, how many bytes the rows, the text and the sheet have, and then
+// the sheet with a line feed. Reads one case, and returns whether a whole case was there.
 fn replay_case(sheet: &mut [u8], rows: &mut [u8], text: &mut [u8]) -> bool {
     let mut space = [0u8; 18];
     let head: &mut [u8] = &mut space;
@@ -53,7 +55,7 @@ fn replay_case(sheet: &mut [u8], rows: &mut [u8], text: &mut [u8]) -> bool {
     true
 }
 
-// Takes the input's next `size` bytes into `a`, and answers whether there were so many, and room for them.
+// Reads the input's next `size` bytes into `a`, and returns whether there were so many, and room for them.
 fn take(a: &mut [u8], size: usize) -> bool {
     if a.len() < size {
         return false;
@@ -61,7 +63,7 @@ fn take(a: &mut [u8], size: usize) -> bool {
     io::read_full(STDIN_FILENO, &mut a[..size]) == size
 }
 
-// The number of five digits at `at`.
+// Returns the number of five digits at index `at`, and 0 where no five bytes stand there.
 fn number_at(s: &[u8], at: usize) -> usize
     ensures { λ r. ⌜ r < 100000 ⌝ }
 {
@@ -75,16 +77,18 @@ fn number_at(s: &[u8], at: usize) -> usize
     100 * high + 10 * digit(s[at + 3]) + digit(s[at + 4])
 }
 
+// Returns the value of a digit.
 fn digit(b: u8) -> usize
     ensures { λ r. ⌜ r < 10 ⌝ }
 {
-    if b < 48 {
+    if b < b'0' {
         return 0;
     }
-    ((b - 48) % 10) as usize
+    ((b - b'0') % 10) as usize
 }
 
-// The slices are filled before the call, so that what is unchanged can be told from what is zeroed.
+// Reads a sheet and writes the answer and the slices. The slices are filled before the call, so that what is unchanged
+// can be told from what is zeroed.
 fn replay_sheet(sheet: &[u8], rows: &mut [u8], text: &mut [u8]) {
     fill(rows);
     fill(text);
@@ -95,24 +99,28 @@ fn replay_sheet(sheet: &[u8], rows: &mut [u8], text: &mut [u8]) {
     io::write_all(STDOUT_FILENO, b"\n");
 }
 
+// Sets every byte of `a` to a dot.
 fn fill(a: &mut [u8]) {
     for i in 0..a.len() {
         a[i] = b'.';
     }
 }
 
+// Writes the answer's report.
 fn print_answer(answer: sheet::Answer) {
     match answer {
-        sheet::Answer::Read(rows, text_bytes) => print_report(0, rows as u64, text_bytes as u64),
-        sheet::Answer::NoNames => print_report(6, 0, 0),
-        sheet::Answer::BadLine(line) => print_report(7, line as u64, 0),
-        sheet::Answer::SheetFull(line) => print_report(8, line as u64, 0),
+        sheet::Answer::Read { rows, text_bytes } => {
+            print_report(0, rows as u64, text_bytes as u64)
+        }
+        sheet::Answer::NoNames => print_report(refusals::NO_NAMES, 0, 0),
+        sheet::Answer::BadLine { line } => print_report(refusals::BAD_LINE, line as u64, 0),
+        sheet::Answer::SheetFull { line } => print_report(refusals::SHEET_FULL, line as u64, 0),
     }
 }
 
-// The refusal and the report's first two numbers; the third is 0 for a sheet.
-fn print_report(refusal: u64, first: u64, second: u64) {
-    io::print_decimal(STDOUT_FILENO, refusal);
+// Writes the refusal and the report's first two numbers. The third is 0 for a sheet.
+fn print_report(refusal: u32, first: u64, second: u64) {
+    io::print_decimal(STDOUT_FILENO, refusal as u64);
     io::write_all(STDOUT_FILENO, b" ");
     io::print_decimal(STDOUT_FILENO, first);
     io::write_all(STDOUT_FILENO, b" ");

@@ -28,6 +28,7 @@ sameBytes [] (b ∷ v) = false
 sameBytes (a ∷ u) [] = false
 sameBytes (a ∷ u) (b ∷ v) = eqb a b && sameBytes u v
 
+-- b is from low to high
 abbrev pub within : ℕ → ℕ → ℕ → Bool
 within low high b = leb low b && leb b high
 

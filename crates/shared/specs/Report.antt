@@ -49,12 +49,15 @@ pub record Report : Type 0 where
   pub second : ℕ
   pub third : ℕ
 
+-- a call that succeeds with three numbers
 abbrev pub success : ℕ → ℕ → ℕ → Report
 success a b c = record { refusal = 0; first = a; second = b; third = c }
 
+-- a refusal by its number and its place
 abbrev pub refuse : ℕ → ℕ → Report
 refuse number place = record { refusal = number; first = place; second = 0; third = 0 }
 
+-- the call was not refused
 abbrev pub accepted : Report → Bool
 accepted r = eqb (r .refusal) 0
 

@@ -10,6 +10,7 @@ use lib.Seq.{sets, sets-eq, take-at, drop-append-add, drop-drop}
 use borrow.Author.Tests.{leb-true}
 use Rattle.shared.specs.Report.{refuse, zeroed, putFirst, badLine, sheetFull}
 use Rattle.shared.proofs.Logic.{and-left, and-right}
+use Rattle.rows.specs.Row.{rowSize}
 use Rattle.sheet.specs.declared.Answer.{Answer}
 use Rattle.sheet.specs.declared.Answer.the-variants.{Read, NoNames, BadLine, SheetFull}
 use Rattle.sheet.specs.declared.Step.{Step}
@@ -17,8 +18,9 @@ use Rattle.sheet.specs.declared.Step.the-variants.{Row, Bad, Full}
 use Rattle.sheet.specs.Line.{names, begins, lines, bad, lineOf}
 use Rattle.sheet.specs.Row.{rowBytes}
 use Rattle.sheet.specs.Answer.{reported, Reading, done, refused, fits, readLine, readLines, reading, answerOf, sheetAnswer, rowsOf, textsOf, sheetRows, sheetText}
-use Rattle.sheet.specs.Steps.{lineAt, behindAt, Stored, Unfit, StepAt}
+use Rattle.sheet.specs.Steps.{lineAt, afterAt, Stored, Unfit, StepAt}
 use Rattle.sheet.proofs.Cut.{lines-at}
+use Rattle.sheet.proofs.Writing.{row-size}
 
 -- ---- one slice
 
@@ -54,13 +56,13 @@ pub record State (sheet rows₀ text₀ rows text : List ℕ) (at n len : ℕ) :
   pub named : begins names sheet ≡ true
   pub rs : List ℕ
   pub ts : List ℕ
-  pub rows-filled : Filled rows₀ rows rs (16 * n)
+  pub rows-filled : Filled rows₀ rows rs (rowSize * n)
   pub text-filled : Filled text₀ text ts len
   pub left : reading sheet (length rows₀) (length text₀) ≡ readLines (length rows₀) (length text₀) n rs ts (lines (drop at sheet))
 
-pub start : (sheet rows text : List ℕ) → begins names sheet ≡ true → State sheet rows text rows text 15 0 0
+pub begin : (sheet rows text : List ℕ) → begins names sheet ≡ true → State sheet rows text rows text 15 0 0
 unfolding reading
-start sheet rows text e = record { named = e; rs = []; ts = []; rows-filled = filled-none; text-filled = filled-none; left = refl }
+begin sheet rows text e = record { named = e; rs = []; ts = []; rows-filled = filled-none; text-filled = filled-none; left = refl }
 
 -- the answer a and the slices xs and ys at the end
 pub record Answered (sheet rows₀ text₀ : List ℕ) (a : Answer) (xs ys : List ℕ) : Type 0 where
@@ -85,8 +87,8 @@ module _ {sheet rows₀ text₀ rows text : List ℕ} {at n len : ℕ} (σ : Sta
       answered sheet rows₀ text₀ (Read n len) _ (σ .named) e (rw (σ .text-filled .size)) (filled-first (σ .rows-filled)) (filled-first (σ .text-filled))
 
   module _ (h : at < length sheet) where
-    -- the line at hand, and those behind it
-    one-line : reading sheet (length rows₀) (length text₀) ≡ readLine (length rows₀) (length text₀) n (σ .rs) (σ .ts) (lineOf (lineAt sheet at)) (λ rs ts. readLines (length rows₀) (length text₀) (n + 1) rs ts (lines (behindAt sheet at)))
+    -- the line at hand, and those after it
+    one-line : reading sheet (length rows₀) (length text₀) ≡ readLine (length rows₀) (length text₀) n (σ .rs) (σ .ts) (lineOf (lineAt sheet at)) (λ rs ts. readLines (length rows₀) (length text₀) (n + 1) rs ts (lines (afterAt sheet at)))
     unfolding readLines
     one-line = σ .left ∙ rw (lines-at sheet at h)
 
@@ -115,18 +117,18 @@ module _ {sheet rows₀ text₀ rows text : List ℕ} {at n len : ℕ} (σ : Sta
         pub step : Stored sheet at rows n text len next end xs ys
         step = rw e at τ
 
-        row-room : 16 * n + 16 ≤ length rows
-        row-room = leb-true _ _ (and-left (leb (16 * n + 16) (length rows)) _ (step .fit))
+        row-room : rowSize * n + rowSize ≤ length rows
+        row-room = leb-true _ _ (and-left (leb (rowSize * n + rowSize) (length rows)) _ (step .fit))
 
         text-room : len + length (step .bs) ≤ length text
-        text-room = leb-true _ _ (and-left (leb (len + length (step .bs)) (length text)) _ (and-right (leb (16 * n + 16) (length rows)) _ (step .fit)))
+        text-room = leb-true _ _ (and-left (leb (len + length (step .bs)) (length text)) _ (and-right (leb (rowSize * n + rowSize) (length rows)) _ (step .fit)))
 
         pub more : State sheet rows₀ text₀ xs ys next (n + 1) end
         more = record {
           named = σ .named;
           rs = σ .rs ++ rowBytes (step .what) (step .kind) len end;
           ts = σ .ts ++ step .bs;
-          rows-filled = filled-more (σ .rows-filled) (rowBytes (step .what) (step .kind) len end) (step .rows-are) (omega arith) (omega (arith, row-room, sized (σ .rows-filled)));
+          rows-filled = filled-more (σ .rows-filled) (rowBytes (step .what) (step .kind) len end) (step .rows-are) (omega (arith, row-size (step .what) (step .kind) len end)) (omega (arith, row-room, sized (σ .rows-filled)));
           text-filled = filled-more (σ .text-filled) (step .bs) (step .text-is) (sym (step .end-is)) (omega (arith, text-room, step .end-is, sized (σ .text-filled)));
-          left = one-line ∙ rw (step .says, fits-same (length (step .bs)) (step .fit), σ .text-filled .size, ← step .end-is, step .behind);
+          left = one-line ∙ rw (step .says, fits-same (length (step .bs)) (step .fit), σ .text-filled .size, ← step .end-is, step .rest);
         }

@@ -7,13 +7,14 @@ use native.Mathlib.Omega.{arith}
 use lib.Dec.{eqb, leb, ltb}
 use lib.ListN.{length, getD, drop, length-drop}
 use borrow.Author.Tests.{ne-eqb, le-leb, lt-leb, leb-true, ltb-true}
-use Rattle.shared.specs.Bytes.{digit}
+use Rattle.shared.specs.Bytes.{lineFeed, digit}
+use Rattle.shared.proofs.Lines.{line-within}
 use Rattle.shared.proofs.Logic.{and-left, and-right}
 use Rattle.sheet.specs.declared.line.Head.{Head}
 use Rattle.sheet.specs.declared.line.Head.the-variants.{Row, Bad}
 use Rattle.sheet.specs.Line.{Line, bad, textOf, rowOf, spaceAndText, isSecond, kindFrom, kindAndText, spaceAndKind, whatOf, lineOf}
-use Rattle.sheet.specs.Steps.{lineAt, behindAt, Headed, HeadAt}
-use Rattle.sheet.proofs.Cut.{line-short, line-here, line-more, behind-more}
+use Rattle.sheet.specs.Steps.{lineAt, afterAt, Headed, HeadAt}
+use Rattle.sheet.proofs.Cut.{line-here, line-more, rest-more}
 
 -- a choice between bad and bad
 both : (b : Bool) → cond b bad bad ≡ bad
@@ -54,9 +55,9 @@ digit-solid b e q = let h = digit-low b e in omega arith
 pub what-solid : (b : ℕ) → whatOf b ≤ 2 → b ≡ 10 → ⊥
 what-solid b h q = let e : whatOf b ≡ 3 = rw q in omega arith
 
--- a head behind bytes that have been read
-onward : {said said′ : Line} (sheet : List ℕ) (at at′ : ℕ) (r : Head) → said ≡ said′ → behindAt sheet at ≡ behindAt sheet at′ → at ≤ at′ → HeadAt said′ sheet at′ r → HeadAt said sheet at r
-onward sheet at at′ (Row what kind from) e b h σ = record { says = e ∙ σ .says; behind = b ∙ σ .behind; after = omega (arith, σ .after); within = σ .within }
+-- a head after bytes that have been read
+onward : {said said′ : Line} (sheet : List ℕ) (at at′ : ℕ) (r : Head) → said ≡ said′ → afterAt sheet at ≡ afterAt sheet at′ → at ≤ at′ → HeadAt said′ sheet at′ r → HeadAt said sheet at r
+onward sheet at at′ (Row what kind from) e b h σ = record { says = e ∙ σ .says; rest = b ∙ σ .rest; after = omega (arith, σ .after); within = σ .within }
 onward sheet at at′ Bad e b h σ = e ∙ σ
 
 -- ---- the kind, from an index on
@@ -68,8 +69,8 @@ module _ (sheet : List ℕ) (i : ℕ) (h : i < length sheet) (what k : ℕ) wher
   no-space : (getD sheet i 0 ≡ 32 → ⊥) → spaceAndText what k (lineAt sheet i) ≡ bad
   no-space n = rw (line-here sheet i h, ne-eqb (getD sheet i 0) 32 n)
 
-  space-behind : getD sheet i 0 ≡ 32 → behindAt sheet i ≡ behindAt sheet (i + 1)
-  space-behind e = behind-more sheet i h (λ q. let z : _≡_ {A = ℕ} 10 32 = cc in omega arith)
+  rest-space : getD sheet i 0 ≡ 32 → afterAt sheet i ≡ afterAt sheet (i + 1)
+  rest-space e = rest-more sheet i h (λ q. let z : _≡_ {A = ℕ} 10 32 = cc in omega arith)
 
 module _ (sheet : List ℕ) (at what : ℕ) (h : at + 3 ≤ length sheet) where
   pub kind-none : digit (getD sheet at 0) ≡ false → kindAndText what (lineAt sheet at) ≡ bad
@@ -79,8 +80,8 @@ module _ (sheet : List ℕ) (at what : ℕ) (h : at + 3 ≤ length sheet) where
     one-digit : kindAndText what (lineAt sheet at) ≡ kindFrom what (getD sheet at 0 - 48) (lineAt sheet (at + 1))
     one-digit = rw (line-more sheet at (omega arith) (digit-solid (getD sheet at 0) d), d)
 
-    behind-one : behindAt sheet at ≡ behindAt sheet (at + 1)
-    behind-one = behind-more sheet at (omega arith) (digit-solid (getD sheet at 0) d)
+    rest-one : afterAt sheet at ≡ afterAt sheet (at + 1)
+    rest-one = rest-more sheet at (omega arith) (digit-solid (getD sheet at 0) d)
 
     module _ (s : isSecond (getD sheet at 0 - 48) (getD sheet (at + 1) 0) ≡ true) where
       two : at + 1 + 1 ≡ at + 2
@@ -95,10 +96,10 @@ module _ (sheet : List ℕ) (at what : ℕ) (h : at + 3 ≤ length sheet) where
       pub kind-two : getD sheet (at + 2) 0 ≡ 32 → Headed (kindAndText what (lineAt sheet at)) sheet at what (10 * (getD sheet at 0 - 48) + (getD sheet (at + 1) 0 - 48)) (at + 3)
       kind-two e =
           let three : at + 2 + 1 ≡ at + 3 = omega arith in
-          let b : behindAt sheet (at + 2) ≡ behindAt sheet (at + 3) = space-behind sheet (at + 2) (omega arith) what 0 e ∙ rw three in
+          let b : afterAt sheet (at + 2) ≡ afterAt sheet (at + 3) = rest-space sheet (at + 2) (omega arith) what 0 e ∙ rw three in
           record {
             says = two-digits ∙ space-here sheet (at + 2) (omega arith) _ _ e ∙ rw three;
-            behind = behind-one ∙ behind-more sheet (at + 1) (omega arith) second-solid ∙ rw two b;
+            rest = rest-one ∙ rest-more sheet (at + 1) (omega arith) second-solid ∙ rw two b;
             after = omega arith;
             within = h;
           }
@@ -115,7 +116,7 @@ module _ (sheet : List ℕ) (at what : ℕ) (h : at + 3 ≤ length sheet) where
           let two : at + 1 + 1 ≡ at + 2 = omega arith in
           record {
             says = only-digit ∙ space-here sheet (at + 1) (omega arith) _ _ e ∙ rw two;
-            behind = behind-one ∙ space-behind sheet (at + 1) (omega arith) what 0 e ∙ rw two;
+            rest = rest-one ∙ rest-space sheet (at + 1) (omega arith) what 0 e ∙ rw two;
             after = omega arith;
             within = omega arith;
           }
@@ -126,7 +127,7 @@ module _ (sheet : List ℕ) (at what : ℕ) (h : at + 3 ≤ length sheet) where
 -- ---- the head
 
 pub head-short : (sheet : List ℕ) (at : ℕ) → length sheet < at + 5 → lineOf (lineAt sheet at) ≡ bad
-head-short sheet at h = too-short (lineAt sheet at) (omega (arith, line-short (drop at sheet), length-drop at sheet))
+head-short sheet at h = too-short (lineAt sheet at) (omega (arith, line-within lineFeed (drop at sheet) (omega arith), length-drop at sheet))
 
 module _ (sheet : List ℕ) (at : ℕ) (h : at + 5 ≤ length sheet) where
   pub head-other : 2 < whatOf (getD sheet at 0) → lineOf (lineAt sheet at) ≡ bad
@@ -134,15 +135,15 @@ module _ (sheet : List ℕ) (at : ℕ) (h : at + 5 ≤ length sheet) where
   head-other g = rw (line-here sheet at (omega arith), lt-leb (whatOf (getD sheet at 0)) 2 g)
 
   module _ (g : whatOf (getD sheet at 0) ≤ 2) where
-    behind-what : lineOf (lineAt sheet at) ≡ spaceAndKind (whatOf (getD sheet at 0)) (lineAt sheet (at + 1))
+    after-what : lineOf (lineAt sheet at) ≡ spaceAndKind (whatOf (getD sheet at 0)) (lineAt sheet (at + 1))
     unfolding lineOf
-    behind-what = rw (line-more sheet at (omega arith) (what-solid (getD sheet at 0) g), le-leb (whatOf (getD sheet at 0)) 2 g)
+    after-what = rw (line-more sheet at (omega arith) (what-solid (getD sheet at 0) g), le-leb (whatOf (getD sheet at 0)) 2 g)
 
     pub head-unspaced : (getD sheet (at + 1) 0 ≡ 32 → ⊥) → lineOf (lineAt sheet at) ≡ bad
-    head-unspaced n = behind-what ∙ rw (line-here sheet (at + 1) (omega arith), ne-eqb (getD sheet (at + 1) 0) 32 n)
+    head-unspaced n = after-what ∙ rw (line-here sheet (at + 1) (omega arith), ne-eqb (getD sheet (at + 1) 0) 32 n)
 
     pub head-kind : (r : Head) → getD sheet (at + 1) 0 ≡ 32 → HeadAt (kindAndText (whatOf (getD sheet at 0)) (lineAt sheet (at + 2))) sheet (at + 2) r → HeadAt (lineOf (lineAt sheet at)) sheet at r
     head-kind r e σ =
         let two : at + 1 + 1 ≡ at + 2 = omega arith in
-        onward sheet at (at + 2) r (behind-what ∙ rw (line-here sheet (at + 1) (omega arith), e, two))
-        (behind-more sheet at (omega arith) (what-solid (getD sheet at 0) g) ∙ space-behind sheet (at + 1) (omega arith) 0 0 e ∙ rw two) (omega arith) σ
+        onward sheet at (at + 2) r (after-what ∙ rw (line-here sheet (at + 1) (omega arith), e, two))
+        (rest-more sheet at (omega arith) (what-solid (getD sheet at 0) g) ∙ rest-space sheet (at + 1) (omega arith) 0 0 e ∙ rw two) (omega arith) σ

@@ -7,10 +7,11 @@ use Prim.Native.Nat.{ℕ, _+_, _≤_, _<_}
 use native.Mathlib.Omega.{arith}
 use lib.ListN.{length, getD}
 use borrow.Author.Tests.{ne-eqb}
+use Rattle.sink.specs.Sink.{Writes}
+use Rattle.sink.proofs.Sink.{nothing, andThen}
 use Rattle.sheet.specs.Line.{withByte, textOf}
-use Rattle.sheet.specs.Steps.{lineAt, behindAt, Writes, EscapeAt, Texted}
-use Rattle.sheet.proofs.Cut.{line-none, line-here, line-more, behind-more, behind-feed}
-use Rattle.sheet.proofs.Writing.{writes-none, writes-then}
+use Rattle.sheet.specs.Steps.{lineAt, afterAt, EscapeAt, Texted}
+use Rattle.sheet.proofs.Cut.{line-none, line-here, line-more, rest-more, rest-feed}
 
 abbrev withBytes : List ℕ → Option (List ℕ) → Option (List ℕ)
 withBytes [] t = t
@@ -28,12 +29,12 @@ bytes-wrong : (bs : List ℕ) → withBytes bs none ≡ none
 bytes-wrong [] = refl
 bytes-wrong (b ∷ bs) = rw (bytes-wrong bs)
 
--- ---- behind a backslash
+-- ---- after a backslash
 
 module _ (sheet : List ℕ) (i : ℕ) where
   pub escape-out : length sheet ≤ i → EscapeAt sheet i 0
   unfolding textOf
-  escape-out h = record { bars = λ e. rw (line-none sheet i h); makes = λ n. absurd (n refl); behind = λ n. absurd (n refl); within = λ n. absurd (n refl) }
+  escape-out h = record { bars = λ e. rw (line-none sheet i h); makes = λ n. absurd (n refl); rest = λ n. absurd (n refl); within = λ n. absurd (n refl) }
 
   module _ (h : i < length sheet) where
     pub escape-other : (getD sheet i 0 ≡ 110 → ⊥) → (getD sheet i 0 ≡ 92 → ⊥) → EscapeAt sheet i 0
@@ -41,7 +42,7 @@ module _ (sheet : List ℕ) (i : ℕ) where
     escape-other n m = record {
       bars = λ e. rw (line-here sheet i h, ne-eqb (getD sheet i 0) 110 n, ne-eqb (getD sheet i 0) 92 m);
       makes = λ n. absurd (n refl);
-      behind = λ n. absurd (n refl);
+      rest = λ n. absurd (n refl);
       within = λ n. absurd (n refl);
     }
 
@@ -52,7 +53,7 @@ module _ (sheet : List ℕ) (i : ℕ) where
         record {
           bars = λ q. absurd (z q);
           makes = λ q. rw (line-more sheet i h solid, e) (f (lineAt sheet (i + 1)));
-          behind = λ q. behind-more sheet i h solid;
+          rest = λ q. rest-more sheet i h solid;
           within = λ q. h;
         }
 
@@ -66,17 +67,17 @@ module _ (sheet : List ℕ) (i : ℕ) where
 
 -- ---- the loop
 
--- at its head: the text from `from` to i has been written behind len bytes of text₀
+-- at its head: the text from `from` to i has been written after len bytes of text₀
 pub record Scanned (sheet : List ℕ) (from : ℕ) (text₀ : List ℕ) (len : ℕ) (text : List ℕ) (i m : ℕ) : Type 0 where
   pub bs : List ℕ
   pub says : textOf false (lineAt sheet from) ≡ withBytes bs (textOf false (lineAt sheet i))
-  pub behind : behindAt sheet from ≡ behindAt sheet i
+  pub rest : afterAt sheet from ≡ afterAt sheet i
   pub after : from ≤ i
   pub within : i ≤ length sheet
   pub wrote : Writes text₀ len bs text m
 
 pub scan-start : {sheet : List ℕ} {from : ℕ} {text : List ℕ} {len : ℕ} → from ≤ length sheet → Scanned sheet from text len text from len
-scan-start h = record { bs = []; says = refl; behind = refl; after = omega arith; within = h; wrote = writes-none }
+scan-start h = record { bs = []; says = refl; rest = refl; after = omega arith; within = h; wrote = nothing }
 
 module _ {sheet : List ℕ} {from : ℕ} {text₀ : List ℕ} {len : ℕ} {text : List ℕ} {i m : ℕ} (σ : Scanned sheet from text₀ len text i m) where
   pub scan-out : length sheet ≤ i → textOf false (lineAt sheet from) ≡ none
@@ -89,7 +90,7 @@ module _ {sheet : List ℕ} {from : ℕ} {text₀ : List ℕ} {len : ℕ} {text 
     scan-feed e = record {
       bs = σ .bs;
       says = σ .says ∙ rw (line-here sheet i h, e) (bytes-end (σ .bs));
-      behind = σ .behind ∙ behind-feed sheet i h e;
+      rest = σ .rest ∙ rest-feed sheet i h e;
       after = omega (arith, σ .after);
       within = omega arith;
       wrote = σ .wrote;
@@ -108,10 +109,10 @@ module _ {sheet : List ℕ} {from : ℕ} {text₀ : List ℕ} {len : ℕ} {text 
         scan-escaped {e} ε z w = record {
           bs = σ .bs ++ (e ∷ []);
           says = σ .says ∙ rw (escaped-here, ε .makes z) (bytes-then (σ .bs) e _);
-          behind = σ .behind ∙ behind-more sheet i h n ∙ ε .behind z;
+          rest = σ .rest ∙ rest-more sheet i h n ∙ ε .rest z;
           after = omega (arith, σ .after);
           within = omega (arith, ε .within z);
-          wrote = writes-then (σ .wrote) w;
+          wrote = andThen (σ .wrote) w;
         }
 
       pub scan-plain : {m′ : ℕ} {text′ : List ℕ} → (getD sheet i 0 ≡ 92 → ⊥) → Writes text m (getD sheet i 0 ∷ []) text′ m′ → Scanned sheet from text₀ len text′ (i + 1) m′
@@ -119,8 +120,8 @@ module _ {sheet : List ℕ} {from : ℕ} {text₀ : List ℕ} {len : ℕ} {text 
       scan-plain b w = record {
         bs = σ .bs ++ (getD sheet i 0 ∷ []);
         says = σ .says ∙ rw (line-more sheet i h n, ne-eqb (getD sheet i 0) 10 n, ne-eqb (getD sheet i 0) 92 b) (bytes-then (σ .bs) (getD sheet i 0) _);
-        behind = σ .behind ∙ behind-more sheet i h n;
+        rest = σ .rest ∙ rest-more sheet i h n;
         after = omega (arith, σ .after);
         within = omega arith;
-        wrote = writes-then (σ .wrote) w;
+        wrote = andThen (σ .wrote) w;
       }

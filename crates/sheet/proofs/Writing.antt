@@ -1,60 +1,60 @@
--- Writing bytes into a lent slice. Assumes nothing.
-use mathlib.Core.List.{List, [], _∷_, _++_}
-use mathlib.Core.Path.{_≡_, refl, sym, _∙_}
-use Prim.Native.Nat.{ℕ, suc, _+_, _/_, _%_, _≤_}
-use native.Mathlib.Nat.{add-zero, add-suc, suc-add}
+-- What the sink's writes leave in a slice, and a row that is stored number by number. Assumes nothing.
+use mathlib.Core.Bool.{true}
+use mathlib.Core.List.{List, _++_}
+use mathlib.Core.Path.{_≡_, sym, ap, _∙_}
+use Prim.Native.Nat.{ℕ, _+_, _*_, _≤_, _<_}
 use native.Mathlib.Omega.{arith}
 use lib.Dec.{leb}
-use lib.ListN.{length, set, length-append}
-use lib.Seq.{sets}
-use borrow.Author.Tests.{leb-true, leb-false}
+use lib.ListN.{length, take, drop, length-append, take-append-drop}
+use lib.Seq.{sets, sets-eq}
+use borrow.Author.Tests.{leb-true, leb-false, le-leb}
+use Rattle.shared.specs.Numbers.{most32}
 use Rattle.shared.proofs.Logic.{split}
-use Rattle.sheet.specs.Row.{number, rowBytes}
-use Rattle.sheet.specs.Steps.{Writes}
+use Rattle.shared.proofs.LittleEndian.{length-littleEndian}
+use Rattle.shared.proofs.Stores.{sets-after}
+use Rattle.sink.specs.Sink.{Writes}
+use Rattle.rows.specs.Row.{rowSize}
+use Rattle.sheet.specs.Row.{number, rowBytes, rowFits}
 
--- two runs of stores, one behind the other
-pub sets-append : (l : List ℕ) (i : ℕ) (xs ys : List ℕ) → sets (sets l i xs) (i + length xs) ys ≡ sets l i (xs ++ ys)
-sets-append l i [] ys = rw add-zero
-sets-append l i (x ∷ xs) ys = rw (add-suc, ← suc-add) (sets-append (set l i x) (suc i) xs ys)
+-- ---- bytes that the sink has written
 
-pub writes-none : {l : List ℕ} {n : ℕ} → Writes l n [] l n
-writes-none {l} {n} = record { size = refl; fit = λ h. (sym (add-zero n), refl); over = λ h. omega arith }
+joined : (l m xs : List ℕ) (n r : ℕ) → r ≡ n + length xs → take r m ≡ take n l ++ xs → drop r m ≡ drop r l →
+    m ≡ take n l ++ xs ++ drop (n + length xs) l
+joined l m xs n r f t d = sym (take-append-drop r m) ∙ rw (t, d, f)
 
-pub writes-then : {l m k : List ℕ} {n p q : ℕ} {xs ys : List ℕ} → Writes l n xs m p → Writes m p ys k q → Writes l n (xs ++ ys) k q
-writes-then {l} {m} {k} {n} {p} {q} {xs} {ys} x y = record {
-  size = y .size ∙ x .size;
-  fit = λ h.
-      let e = length-append xs ys in
-      let s = x .size in
-      let u = x .fit (omega arith) in
-      let a = u .0 in
-      let v = y .fit (omega arith) in
-      let b = v .0 in
-      (omega arith, v .1 ∙ rw (u .1, u .0) (sets-append l n xs ys));
-  over = λ h.
-      let e = length-append xs ys in
-      let s = x .size in
-      split (leb (n + length xs) (length l))
-      (λ t. let u = x .fit (leb-true _ _ t) .0 in let w = y .over (omega arith) in omega arith)
-      (λ t. let u = x .over (leb-false _ _ t) in let w = y .over (omega arith) in omega arith);
-}
+module _ {l : List ℕ} {n : ℕ} {xs m : List ℕ} {r : ℕ} (w : Writes l n xs m r) where
+  -- where they fit, they are stored from n on
+  pub wrote-sets : n + length xs ≤ length l → m ≡ sets l n xs
+  wrote-sets h = joined l m xs n r (w .fits h .far) (w .fits h .text) (w .fits h .rest) ∙ sym (sets-eq xs l n h)
 
--- where a byte does not fit, the length is past the end
-pub writes-past : {l : List ℕ} {n b : ℕ} → length l ≤ n → Writes l n (b ∷ []) l (length l + 1)
-writes-past h = record { size = refl; fit = λ g. absurd (omega arith); over = λ g. omega arith }
+  -- they fit exactly if the length is not past the end
+  pub within-fits : r ≤ length l → n + length xs ≤ length l
+  within-fits h = split (leb (n + length xs) (length l)) (λ e. leb-true _ _ e) (λ e. let o = w .over (leb-false _ _ e) in absurd (omega arith))
+
+  pub past-over : length l < r → length l < n + length xs
+  past-over h =
+      split (leb (n + length xs) (length l)) (λ e. let o = w .fits (leb-true _ _ e) .far in let i : n + length xs ≤ length l = leb-true _ _ e in absurd (omega arith))
+      (λ e. leb-false _ _ e)
 
 -- ---- a row
 
-pub number-stored : (l : List ℕ) (at x : ℕ) → set (set (set (set l at (x % 256)) (at + 1) (x / 256 % 256)) (at + 2) (x / 65536 % 256)) (at + 3) (x / 16777216 % 256) ≡ sets l at (number x)
-number-stored l at x =
-    let one : at + 1 ≡ suc at = omega arith in
-    let two : at + 2 ≡ suc (suc at) = omega arith in
-    let three : at + 3 ≡ suc (suc (suc at)) = omega arith in
-    rw (one, two, three)
+pub row-fits : (space n end : ℕ) → rowSize * n + rowSize ≤ space → end ≤ most32 → true ≡ rowFits space n end
+row-fits space n end g h = rw (le-leb (rowSize * n + rowSize) space g, le-leb end most32 h)
 
-pub row-stored : (l : List ℕ) (at what kind start end : ℕ) → sets (sets (sets (sets l at (number what)) (at + 4) (number kind)) (at + 8) (number start)) (at + 12) (number end) ≡ sets l at (rowBytes what kind start end)
-row-stored l at what kind start end =
-    let four : (n : ℕ) → n + 4 ≡ suc (suc (suc (suc n))) = λ n. omega arith in
-    let eight : at + 8 ≡ at + 4 + 4 = omega arith in
-    let twelve : at + 12 ≡ at + 4 + 4 + 4 = omega arith in
-    rw (eight, twelve, four (at + 4 + 4), four (at + 4), four at)
+pub row-size : (what kind start end : ℕ) → length (rowBytes what kind start end) ≡ rowSize
+row-size what kind start end = simp (length-append, length-littleEndian)
+
+pub row-stored : (l : List ℕ) (at what kind start end : ℕ) {a b c d : List ℕ} → a ≡ sets l at (number what) →
+    b ≡ sets a (at + 4) (number kind) → c ≡ sets b (at + 8) (number start) → d ≡ sets c (at + 12) (number end) →
+    d ≡ sets l at (rowBytes what kind start end)
+row-stored l at what kind start end p q r s =
+    let one = length-littleEndian 4 what in
+    let two = length-littleEndian 4 kind in
+    let three = length-littleEndian 4 start in
+    let first-two = length-append (number what) (number kind) in
+    let first-three = length-append (number what ++ number kind) (number start) in
+    s
+    ∙ ap (λ m. sets m (at + 12) (number end)) (r ∙ ap (λ m. sets m (at + 8) (number start)) (q ∙ ap (λ m. sets m (at + 4) (number kind)) p))
+    ∙ ap (λ m. sets (sets m (at + 8) (number start)) (at + 12) (number end)) (sets-after l at (at + 4) (number what) (number kind) (omega arith))
+    ∙ ap (λ m. sets m (at + 12) (number end)) (sets-after l at (at + 8) (number what ++ number kind) (number start) (omega arith))
+    ∙ sets-after l at (at + 12) (number what ++ number kind ++ number start) (number end) (omega arith)

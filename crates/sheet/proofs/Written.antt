@@ -9,10 +9,12 @@ use native.Mathlib.Omega.{arith}
 use lib.Dec.{eqb, leb, ltb}
 use borrow.Author.Tests.{eqb-true, ne-eqb, le-leb, leb-true, lt-ltb, le-ltb, ltb-true, ltb-false}
 use Rattle.shared.specs.Bytes.{byte, bytes, lineFeed, space, digit}
+use Rattle.shared.specs.Lines.{firstLine}
+use Rattle.shared.proofs.Lines.{line-cons}
 use Rattle.shared.proofs.Logic.{split}
 use Rattle.shared.proofs.Below.{below}
 use Rattle.sheet.specs.Line.{bad, row, withByte, textOf, rowOf, spaceAndText, isSecond, kindFrom, kindAndText, spaceAndKind, whatOf, lineOf}
-use Rattle.sheet.specs.Steps.{firstLine}
+use Rattle.sheet.proofs.Cut.{no-line}
 use Rattle.sheet.proofs.Form.{digit-low, digit-high, second-digit, second-some, second-small, digit-solid, what-solid}
 
 -- ---- a row as a line of a sheet (document 01, 'Around the call')
@@ -86,26 +88,30 @@ withBackslash false l = l
 plain-written : (b : ℕ) (cs : List ℕ) {l bs : List ℕ} → eqb b 10 ≡ false → eqb b 92 ≡ false → bs ≡ b ∷ cs → l ≡ escaped cs ++ (10 ∷ []) → b ∷ l ≡ escaped bs ++ (10 ∷ [])
 plain-written b cs q r e h = rw (e, q, r) (ap (λ l. b ∷ l) h)
 
-text-written : (s : List ℕ) (f : Bool) (bs : List ℕ) → textOf f (firstLine s) ≡ some bs → withBackslash f (firstLine s) ≡ escaped bs ++ (10 ∷ [])
+text-written : (s : List ℕ) (f : Bool) (bs : List ℕ) → textOf f (firstLine lineFeed s) ≡ some bs → withBackslash f (firstLine lineFeed s) ≡ escaped bs ++ (10 ∷ [])
 unfolding textOf
-text-written [] false bs e = let z : _≡_ {A = ℕ} 0 1 = cc in absurd (omega arith)
-text-written [] true bs e = let z : _≡_ {A = ℕ} 0 1 = cc in absurd (omega arith)
-text-written (b ∷ t) false bs e =
-    split (eqb b 10) (λ q. let z : bs ≡ [] = cc (rw q at e) in rw (q, z, eqb-true b 10 q))
+text-written [] false bs e = let z : _≡_ {A = ℕ} 0 1 = cc (rw no-line at e) in absurd (omega arith)
+text-written [] true bs e = let z : _≡_ {A = ℕ} 0 1 = cc (rw no-line at e) in absurd (omega arith)
+text-written (b ∷ t) false bs e₀ =
+    let e = rw (line-cons b t) at e₀ in
+    rw (line-cons b t)
+    (split (eqb b 10) (λ q. let z : bs ≡ [] = cc (rw q at e) in rw (q, z, eqb-true b 10 q))
     (λ q.
     split (eqb b 92) (λ r. rw (q, eqb-true b 92 r) (text-written t true bs (rw (q, r) at e)))
-    (λ r. let μ = longer b (textOf false (firstLine t)) (rw (q, r) at e) in rw q (plain-written b (μ .cs) q r (μ .whole) (text-written t false (μ .cs) (μ .rest)))))
-text-written (b ∷ t) true bs e =
-    split (eqb b 110)
+    (λ r. let μ = longer b (textOf false (firstLine lineFeed t)) (rw (q, r) at e) in rw q (plain-written b (μ .cs) q r (μ .whole) (text-written t false (μ .cs) (μ .rest))))))
+text-written (b ∷ t) true bs e₀ =
+    let e = rw (line-cons b t) at e₀ in
+    rw (line-cons b t)
+    (split (eqb b 110)
     (λ q.
-    let μ = longer 10 (textOf false (firstLine t)) (rw (eqb-true b 110 q) at e) in
+    let μ = longer 10 (textOf false (firstLine lineFeed t)) (rw (eqb-true b 110 q) at e) in
     rw (eqb-true b 110 q, μ .whole) (ap (λ l. 92 ∷ 110 ∷ l) (text-written t false (μ .cs) (μ .rest))))
     (λ q.
     split (eqb b 92)
     (λ r.
-    let μ = longer 92 (textOf false (firstLine t)) (rw (eqb-true b 92 r) at e) in
+    let μ = longer 92 (textOf false (firstLine lineFeed t)) (rw (eqb-true b 92 r) at e) in
     rw (eqb-true b 92 r, μ .whole) (ap (λ l. 92 ∷ 92 ∷ l) (text-written t false (μ .cs) (μ .rest))))
-    (λ r. let z : _≡_ {A = ℕ} 0 1 = cc (rw (q, r) at e) in absurd (omega arith)))
+    (λ r. let z : _≡_ {A = ℕ} 0 1 = cc (rw (q, r) at e) in absurd (omega arith))))
 
 what-written : (b : ℕ) → whatOf b ≤ 2 → b ≡ whatByte (whatOf b)
 what-written b h =
@@ -118,19 +124,21 @@ module _ {w k : ℕ} {bs : List ℕ} where
   row-made what kind none e = impossible-row e
   row-made what kind (some cs) e = (cc, cc, cc)
 
-  space-written : (what kind : ℕ) (s : List ℕ) → spaceAndText what kind (firstLine s) ≡ row w k bs → (what ≡ w) × (kind ≡ k) × (firstLine s ≡ 32 ∷ (escaped bs ++ (10 ∷ [])))
-  space-written what kind [] e = impossible-row e
-  space-written what kind (b ∷ t) e =
+  space-written : (what kind : ℕ) (s : List ℕ) → spaceAndText what kind (firstLine lineFeed s) ≡ row w k bs → (what ≡ w) × (kind ≡ k) × (firstLine lineFeed s ≡ 32 ∷ (escaped bs ++ (10 ∷ [])))
+  space-written what kind [] e = impossible-row (rw no-line at e)
+  space-written what kind (b ∷ t) e₀ =
+      let e = rw (line-cons b t) at e₀ in
       split (eqb b 32)
       (λ q.
-      let m = row-made what kind (textOf false (firstLine t)) (rw (eqb-true b 32 q) at e) in
-      (m .0, m .1, rw (eqb-true b 32 q) (ap (λ l. 32 ∷ l) (text-written t false bs (m .2)))))
+      let m = row-made what kind (textOf false (firstLine lineFeed t)) (rw (eqb-true b 32 q) at e) in
+      (m .0, m .1, rw (line-cons b t, eqb-true b 32 q) (ap (λ l. 32 ∷ l) (text-written t false bs (m .2)))))
       (λ q. impossible-row (rw q at e))
 
   -- the kind's second byte, where the first is b
-  second-written : (what b : ℕ) (s : List ℕ) → digit b ≡ true → kindFrom what (b - 48) (firstLine s) ≡ row w k bs → (what ≡ w) × (k ≤ 34) × (b ∷ firstLine s ≡ decimal k ++ 32 ∷ (escaped bs ++ (10 ∷ [])))
-  second-written what b [] d e = impossible-row e
-  second-written what b (c ∷ t) d e =
+  second-written : (what b : ℕ) (s : List ℕ) → digit b ≡ true → kindFrom what (b - 48) (firstLine lineFeed s) ≡ row w k bs → (what ≡ w) × (k ≤ 34) × (b ∷ firstLine lineFeed s ≡ decimal k ++ 32 ∷ (escaped bs ++ (10 ∷ [])))
+  second-written what b [] d e = impossible-row (rw no-line at e)
+  second-written what b (c ∷ t) d e₀ =
+      let e = rw (line-cons c t) at e₀ in
       let low = digit-low b d in
       let high = digit-high b d in
       split (isSecond (b - 48) c)
@@ -144,34 +152,37 @@ module _ {w k : ℕ} {bs : List ℕ} where
       let is : 10 * (b - 48) + (c - 48) ≡ k = m .1 in
       let tens : 48 + k / 10 ≡ b = omega arith in
       let ones : 48 + k % 10 ≡ c = omega arith in
-      (m .0, omega arith, rw (solid, le-ltb k 10 (omega arith), tens, ones) (ap (λ l. b ∷ c ∷ l) (m .2))))
+      (m .0, omega arith, rw (line-cons c t, solid, le-ltb k 10 (omega arith), tens, ones) (ap (λ l. b ∷ c ∷ l) (m .2))))
       (λ q.
-      let m = space-written what (b - 48) (c ∷ t) (rw q at e) in
+      let m = space-written what (b - 48) (c ∷ t) (rw (line-cons c t) (rw q at e)) in
       let is : b - 48 ≡ k = m .1 in
       let ones : 48 + k ≡ b = omega arith in
       (m .0, omega arith, rw (lt-ltb k 10 (omega arith), ones) (ap (λ l. b ∷ l) (m .2))))
 
-  kind-written : (what : ℕ) (s : List ℕ) → kindAndText what (firstLine s) ≡ row w k bs → (what ≡ w) × (k ≤ 34) × (firstLine s ≡ decimal k ++ 32 ∷ (escaped bs ++ (10 ∷ [])))
-  kind-written what [] e = impossible-row e
-  kind-written what (b ∷ t) e =
+  kind-written : (what : ℕ) (s : List ℕ) → kindAndText what (firstLine lineFeed s) ≡ row w k bs → (what ≡ w) × (k ≤ 34) × (firstLine lineFeed s ≡ decimal k ++ 32 ∷ (escaped bs ++ (10 ∷ [])))
+  kind-written what [] e = impossible-row (rw no-line at e)
+  kind-written what (b ∷ t) e₀ =
+      let e = rw (line-cons b t) at e₀ in
       split (digit b)
-      (λ d. let solid = ne-eqb b 10 (digit-solid b d) in let m = second-written what b t d (rw (d, solid) at e) in (m .0, m .1, rw solid (m .2)))
+      (λ d. let solid = ne-eqb b 10 (digit-solid b d) in let m = second-written what b t d (rw (d, solid) at e) in (m .0, m .1, rw (line-cons b t, solid) (m .2)))
       (λ d. impossible-row (rw d at e))
 
-  behind-what : (what : ℕ) (s : List ℕ) → spaceAndKind what (firstLine s) ≡ row w k bs → (what ≡ w) × (k ≤ 34) × (firstLine s ≡ 32 ∷ (decimal k ++ 32 ∷ (escaped bs ++ (10 ∷ []))))
-  behind-what what [] e = impossible-row e
-  behind-what what (b ∷ t) e =
-      split (eqb b 32) (λ q. let m = kind-written what t (rw (eqb-true b 32 q) at e) in (m .0, m .1, rw (eqb-true b 32 q) (ap (λ l. 32 ∷ l) (m .2)))) (λ q. impossible-row (rw q at e))
+  after-what : (what : ℕ) (s : List ℕ) → spaceAndKind what (firstLine lineFeed s) ≡ row w k bs → (what ≡ w) × (k ≤ 34) × (firstLine lineFeed s ≡ 32 ∷ (decimal k ++ 32 ∷ (escaped bs ++ (10 ∷ []))))
+  after-what what [] e = impossible-row (rw no-line at e)
+  after-what what (b ∷ t) e₀ =
+      let e = rw (line-cons b t) at e₀ in
+      split (eqb b 32) (λ q. let m = kind-written what t (rw (eqb-true b 32 q) at e) in (m .0, m .1, rw (line-cons b t, eqb-true b 32 q) (ap (λ l. 32 ∷ l) (m .2)))) (λ q. impossible-row (rw q at e))
 
-  pub line-written : (s : List ℕ) → lineOf (firstLine s) ≡ row w k bs → (w ≤ 2) × (k ≤ 34) × (firstLine s ≡ written w k bs)
+  pub line-written : (s : List ℕ) → lineOf (firstLine lineFeed s) ≡ row w k bs → (w ≤ 2) × (k ≤ 34) × (firstLine lineFeed s ≡ written w k bs)
   unfolding lineOf
-  line-written [] e = impossible-row e
-  line-written (b ∷ t) e =
+  line-written [] e = impossible-row (rw no-line at e)
+  line-written (b ∷ t) e₀ =
+      let e = rw (line-cons b t) at e₀ in
       split (leb (whatOf b) 2)
       (λ q.
       let h : whatOf b ≤ 2 = leb-true _ _ q in
       let solid = ne-eqb b 10 (what-solid b h) in
-      let m = behind-what (whatOf b) t (rw (q, solid) at e) in
+      let m = after-what (whatOf b) t (rw (q, solid) at e) in
       let is : whatOf b ≡ w = m .0 in
-      (omega arith, m .1, rw (solid, ← is, ← what-written b h) (ap (λ l. b ∷ l) (m .2))))
+      (omega arith, m .1, rw (line-cons b t, solid, ← is, ← what-written b h) (ap (λ l. b ∷ l) (m .2))))
       (λ q. impossible-row (rw q at e))

@@ -5,7 +5,9 @@ use mathlib.Core.List.{List, [], _∷_, _++_}
 use Prim.Native.Nat.{ℕ, _+_, _*_}
 use lib.Dec.{leb}
 use lib.ListN.{length, drop}
+use Rattle.shared.specs.Numbers.{most32}
 use Rattle.shared.specs.Report.{Report, success, refuse, zeroed, putFirst, noNames, badLine, sheetFull}
+use Rattle.rows.specs.Row.{rowSize}
 use Rattle.sheet.specs.declared.Answer.{Answer}
 use Rattle.sheet.specs.declared.Answer.the-variants.{Read, NoNames, BadLine, SheetFull}
 use Rattle.sheet.specs.Line.{names, begins, lines, Line, bad, row, lineOf}
@@ -25,9 +27,9 @@ pub data Reading : Type 0 where
 
 -- One more row than n fits, with a text that ends at e: both slices have room, and e is a 32-bit number.
 abbrev pub fits : ℕ → ℕ → ℕ → ℕ → Bool
-fits rowSpace textSpace n e = leb (16 * n + 16) rowSpace && (leb e textSpace && leb e 4294967295)
+fits rowSpace textSpace n e = leb (rowSize * n + rowSize) rowSpace && (leb e textSpace && leb e most32)
 
--- The line behind n rows is number n + 1. Its row's text follows the texts of those rows.
+-- The line after n rows is number n + 1. Its row's text follows the texts of those rows.
 abbrev pub readLine : ℕ → ℕ → ℕ → List ℕ → List ℕ → Line → (List ℕ → List ℕ → Reading) → Reading
 readLine rowSpace textSpace n rows text bad more = refused badLine (n + 1)
 readLine rowSpace textSpace n rows text (row what kind bs) more =
@@ -41,18 +43,21 @@ readLines rowSpace textSpace n rows text [] = done n rows text
 readLines rowSpace textSpace n rows text (l ∷ ls) =
     readLine rowSpace textSpace n rows text (lineOf l) (λ rows′ text′. readLines rowSpace textSpace (n + 1) rows′ text′ ls)
 
--- The lines behind the names line, given space for so many bytes of rows and of text.
+-- The lines after the names line, given space for so many bytes of rows and of text.
 unfoldable pub reading : List ℕ → ℕ → ℕ → Reading
 reading sheet rowSpace textSpace = readLines rowSpace textSpace 0 [] [] (lines (drop (length names) sheet))
 
+-- the report of a sheet with the names line, by what its lines read as
 abbrev pub answerOf : Reading → Report
 answerOf (done n rows text) = success n (length text) 0
 answerOf (refused number line) = refuse number line
 
 -- The answer to a sheet.
 unfoldable pub sheetAnswer : List ℕ → ℕ → ℕ → Report
-sheetAnswer sheet rowSpace textSpace = cond (begins names sheet) (answerOf (reading sheet rowSpace textSpace)) (refuse noNames 0)
+sheetAnswer sheet rowSpace textSpace =
+    cond (begins names sheet) (answerOf (reading sheet rowSpace textSpace)) (refuse noNames 0)
 
+-- the slices xs for the rows and the texts after that
 abbrev pub rowsOf : Reading → List ℕ → List ℕ
 rowsOf (done n rows text) xs = putFirst rows xs
 rowsOf (refused number line) xs = zeroed xs

@@ -1,28 +1,36 @@
-// A line: its head, `L`, `T` or `R` and the kind, and its text.
+// A line of a sheet: its head, which is `L`, `T` or `R` and the kind, and its text.
 use shared::classes::is_digit;
+use sink::write::write_byte;
 ghost use mathlib.Core.Path.{_≡_};
-ghost use mathlib.Core.List.{[], _∷_};
 ghost use Prim.Native.Nat.{_+_, _≤_, _<_};
 ghost use lib.ListN.{length};
 ghost use Rattle.sheet.specs.Line.{isSecond, whatOf, kindAndText, lineOf};
-ghost use Rattle.sheet.specs.Steps.{lineAt, HeadAt, TextAt, EscapeAt, Writes};
+ghost use Rattle.sheet.specs.Steps.{lineAt, HeadAt, TextAt, EscapeAt};
 
-// A line's what, its kind and the index of its text.
+// What reading a line's head answers.
 pub enum Head {
-    Row(u8, u8, usize),
+    // The row's what and kind; the line's text starts at index `from` of the sheet.
+    Row { what: u8, kind: u8, from: usize },
+    // The head breaks its form.
     Bad,
 }
 
-// The head of the line at `at`. The shortest line has 5 bytes.
+// The number of bytes of the shortest line.
+const SHORTEST: usize = 5;
+
+// The highest what of a row.
+const MOST_WHAT: u8 = 2;
+
+// Reads the head of the line at index `at`.
 pub fn head_at(sheet: &[u8], at: usize) -> Head
     requires { ⌜ at ≤ length (now sheet) ⌝ }
     ensures { λ r. ⌜ HeadAt (lineOf (lineAt (now (sheet .entry)) at)) (now (sheet .entry)) at r ⌝ }
 {
-    if sheet.len() - at < 5 {
+    if sheet.len() - at < SHORTEST {
         return Head::Bad;
     }
     let what = what_of(sheet[at]);
-    if 2 < what {
+    if MOST_WHAT < what {
         return Head::Bad;
     }
     if sheet[at + 1] != b' ' {
@@ -31,13 +39,16 @@ pub fn head_at(sheet: &[u8], at: usize) -> Head
     kind_at(sheet, at + 2, what)
 }
 
-// A line's text read: the index behind its line feed, and the texts' length with it.
+// What reading a line's text answers.
 pub enum Text {
-    End(usize, usize),
+    // The line ends with a line feed right before index `next` of the sheet, and the texts so far end at `end`,
+    // which is past the slice where they do not fit.
+    End { next: usize, end: usize },
+    // The text breaks its form.
     Bad,
 }
 
-// Reads the text from `from` on into `text`, behind `len` bytes.
+// Reads the text of a line from index `from` of `sheet` into `text`, after `len` bytes.
 pub fn read_text(sheet: &[u8], from: usize, text: &mut [u8], len: usize) -> Text
     requires { ⌜ from ≤ length (now sheet) ⌝ }
     ensures { λ r. ⌜ TextAt (now (sheet .entry)) from (now (text .entry)) len r (now (text .exit)) ⌝ }
@@ -48,23 +59,23 @@ pub fn read_text(sheet: &[u8], from: usize, text: &mut [u8], len: usize) -> Text
         let b = sheet[i];
         i += 1;
         if b == b'\n' {
-            return Text::End(i, m);
+            return Text::End { next: i, end: m };
         }
         if b == b'\\' {
             let e = escape_at(sheet, i);
             if e == 0 {
                 return Text::Bad;
             }
-            m = put(text, m, e);
+            m = write_byte(text, m, e);
             i += 1;
         } else {
-            m = put(text, m, b);
+            m = write_byte(text, m, b);
         }
     }
     Text::Bad
 }
 
-// `L`, `T` or `R` as 0, 1 or 2; 3 for any other byte.
+// Returns 0, 1 or 2 for `L`, `T` or `R`, and 3 for any other byte.
 fn what_of(b: u8) -> u8
     ensures { λ r. ⌜ r ≡ whatOf b ⌝ }
 {
@@ -76,7 +87,7 @@ fn what_of(b: u8) -> u8
     }
 }
 
-// The kind at `at`, with the space behind it.
+// Reads the kind at index `at`, and the space after it.
 fn kind_at(sheet: &[u8], at: usize, what: u8) -> Head
     requires { ⌜ at + 3 ≤ length (now sheet) ⌝ }
     ensures { λ r. ⌜ HeadAt (kindAndText what (lineAt (now (sheet .entry)) at)) (now (sheet .entry)) at r ⌝ }
@@ -85,24 +96,35 @@ fn kind_at(sheet: &[u8], at: usize, what: u8) -> Head
     if !is_digit(b) {
         return Head::Bad;
     }
-    let first = b - 48;
+    let first = b - b'0';
     let c = sheet[at + 1];
     if is_second(first, c) {
         if sheet[at + 2] == b' ' {
-            let kind = 10 * first + (c - 48);
+            let kind = 10 * first + (c - b'0');
             let from = at + 3;
-            return Head::Row(what, kind, from);
+            return Head::Row {
+                what: what,
+                kind: kind,
+                from: from,
+            };
         }
         return Head::Bad;
     }
     if c == b' ' {
         let from = at + 2;
-        return Head::Row(what, first, from);
+        return Head::Row {
+            what: what,
+            kind: first,
+            from: from,
+        };
     }
     Head::Bad
 }
 
-// Whether the digit `b` may follow the kind's first digit.
+// The highest kind of a row.
+const MOST_KIND: u8 = 34;
+
+// Whether `b` is a digit that may follow the kind's first digit.
 fn is_second(first: u8, b: u8) -> bool
     requires { ⌜ first < 10 ⌝ }
     ensures { λ r. ⌜ r ≡ isSecond first b ⌝ }
@@ -111,12 +133,12 @@ fn is_second(first: u8, b: u8) -> bool
         return false;
     }
     if 0 < first {
-        return 10 * first + (b - 48) <= 34;
+        return 10 * first + (b - b'0') <= MOST_KIND;
     }
     false
 }
 
-// The byte that a backslash right before `i` makes; 0 where it may not stand.
+// Returns the byte that a backslash and the byte at index `i` make, and 0 where no backslash may stand before it.
 fn escape_at(sheet: &[u8], i: usize) -> u8
     ensures { λ r. ⌜ EscapeAt (now (sheet .entry)) i r ⌝ }
 {
@@ -130,16 +152,4 @@ fn escape_at(sheet: &[u8], i: usize) -> u8
         }
     }
     0
-}
-
-// Puts a byte behind `len` others; one past the end where it doesn't fit.
-fn put(text: &mut [u8], len: usize, b: u8) -> usize
-    ensures { λ r. ⌜ Writes (now (text .entry)) len (b ∷ []) (now (text .exit)) r ⌝ }
-{
-    if len < text.len() {
-        text[len] = b;
-        let next = len + 1;
-        return next;
-    }
-    text.len() + 1
 }

@@ -1,40 +1,37 @@
 // A row in bytes: four 32-bit numbers, little-endian.
+use rows::ROW_BYTES;
+use shared::numbers::put_number;
 ghost use mathlib.Core.Path.{_≡_};
-ghost use mathlib.Core.Bool.{cond, _&&_};
-ghost use Prim.Native.Nat.{_+_, _*_, _≤_};
-ghost use lib.Dec.{leb};
+ghost use mathlib.Core.Bool.{cond};
+ghost use Prim.Native.Nat.{_*_, _≤_};
 ghost use lib.ListN.{length};
-ghost use lib.Seq.{sets};
-ghost use Rattle.sheet.specs.Row.{number, rowBytes};
+ghost use Rattle.rows.specs.Row.{rowSize};
+ghost use Rattle.sheet.specs.Row.{rowFits, withRow};
 
-// Puts a row behind the `n` that stand already, if it fits.
+// The highest 32-bit number.
+const MOST_END: usize = 4294967295;
+
+// How many bytes one of a row's numbers has.
+const NUMBER_BYTES: usize = 4;
+
+// Stores a row in `rows` after the `n` rows that stand there, and returns true; where it does not fit, leaves `rows`
+// as it is and returns false.
 pub fn store(rows: &mut [u8], n: usize, what: u8, kind: u8, start: usize, end: usize) -> bool
-    requires { ⌜ (start ≤ end) × (16 * n ≤ length (now rows)) ⌝ }
-    ensures fits { λ r. ⌜ r ≡ leb (16 * n + 16) (length (now (rows .entry))) && leb end 4294967295 ⌝ }
+    requires { ⌜ (start ≤ end) × (rowSize * n ≤ length (now rows)) ⌝ }
+    ensures fits { λ r. ⌜ r ≡ rowFits (length (now (rows .entry))) n end ⌝ }
     ensures put { λ r. ⌜ now (rows .exit)
-        ≡ cond r (sets (now (rows .entry)) (16 * n) (rowBytes what kind start end)) (now (rows .entry)) ⌝ }
+        ≡ cond r (withRow (now (rows .entry)) n what kind start end) (now (rows .entry)) ⌝ }
 {
-    if 4294967295 < end {
+    if MOST_END < end {
         return false;
     }
-    let at = 16 * n;
-    if rows.len() - at < 16 {
+    let at = ROW_BYTES * n;
+    if rows.len() - at < ROW_BYTES {
         return false;
     }
-    write_number(rows, at, what as u32);
-    write_number(rows, at + 4, kind as u32);
-    write_number(rows, at + 8, start as u32);
-    write_number(rows, at + 12, end as u32);
+    put_number(rows, at, NUMBER_BYTES, what as u64);
+    put_number(rows, at + 4, NUMBER_BYTES, kind as u64);
+    put_number(rows, at + 8, NUMBER_BYTES, start as u64);
+    put_number(rows, at + 12, NUMBER_BYTES, end as u64);
     true
-}
-
-// Writes a number at `at`.
-fn write_number(rows: &mut [u8], at: usize, x: u32)
-    requires { ⌜ at + 4 ≤ length (now rows) ⌝ }
-    ensures { λ r. ⌜ now (rows .exit) ≡ sets (now (rows .entry)) at (number x) ⌝ }
-{
-    rows[at] = (x % 256) as u8;
-    rows[at + 1] = (x / 256 % 256) as u8;
-    rows[at + 2] = (x / 65536 % 256) as u8;
-    rows[at + 3] = (x / 16777216 % 256) as u8;
 }

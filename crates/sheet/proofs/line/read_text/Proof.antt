@@ -13,6 +13,28 @@ Inv-loop sheet from text₀ len i₀ m₀ text i m = Scanned sheet from text₀ 
 abbrev μ-loop : tie.MeasureT-loop
 μ-loop sheet from text₀ len i₀ m₀ text i m = length sheet - i
 
+-- ---- places, each with the way to the one before it
+
+abbrev turn : tie.Else1 Inv-loop μ-loop → tie.In-loop Inv-loop μ-loop
+turn c = c .before .before
+
+abbrev solid : tie.After-escape-at Inv-loop μ-loop → tie.Else1 Inv-loop μ-loop
+solid c = c .before .before
+
+abbrev escaped : tie.After-write-byte Inv-loop μ-loop → tie.Else3 Inv-loop μ-loop
+escaped c = c .before .before
+
+abbrev plain : tie.After-write-byte2 Inv-loop μ-loop → tie.Else2 Inv-loop μ-loop
+plain c = c .before .before
+
+-- ---- what is known there
+
+-- the loop's state, before the byte at hand was read
+abbrev before-byte : tie.Else1 Inv-loop μ-loop → tie.At-loop Inv-loop μ-loop
+before-byte c = turn c .before
+
+-- ---- the needs
+
 loop-holds : tie.Need-loop-holds Inv-loop μ-loop
 loop-holds c = scan-start (search needs)
 
@@ -26,37 +48,52 @@ same-length : tie.Need-same-length Inv-loop μ-loop
 same-length c = c .before .before .before .loop .inv .wrote .size
 
 returns : tie.Need-returns Inv-loop μ-loop
-returns c = scan-feed (c .before .before .before .loop .inv) (search needs) (c .if1 .taken)
+returns c = let t : tie.In-loop Inv-loop μ-loop = c .before .before in scan-feed (t .before .loop .inv) (t .loop-test .taken) (c .if1 .taken)
 
 escape-at-requires : tie.Need-escape-at-requires Inv-loop μ-loop
 escape-at-requires c κs = search needs
 
 same-length-2 : tie.Need-same-length-2 Inv-loop μ-loop
-same-length-2 c = c .before .before .before .before .before .before .loop .inv .wrote .size
+same-length-2 c = before-byte (solid (c .before)) .loop .inv .wrote .size
 
 returns-2 : tie.Need-returns-2 Inv-loop μ-loop
-returns-2 c = scan-wrong (c .before .before .before .before .before .before .loop .inv) (search needs) (c .before .before .before .if1 .left) (c .before .before .if2 .taken) (rw (← c .if3 .taken) (c .before .escape-at .ensures))
+returns-2 c =
+    let x : tie.After-escape-at Inv-loop μ-loop = c .before in
+    let e = solid x in
+    scan-wrong (before-byte e .loop .inv) (turn e .loop-test .taken) (e .if1 .left) (x .before .if2 .taken) (rw (← c .if3 .taken) (x .escape-at .ensures))
 
-put-requires : tie.Need-put-requires Inv-loop μ-loop
-put-requires c κs = search needs
+write-byte-requires : tie.Need-write-byte-requires Inv-loop μ-loop
+write-byte-requires c κs = search needs
 
 add-i-2 : tie.Need-add-i-2 Inv-loop μ-loop
-add-i-2 c = let h = c .before .before .before .before .before .escape-at .ensures .within (c .before .before .before .before .if3 .left) in omega arith
+add-i-2 c =
+    let y = escaped (c .before .before) in
+    let h = y .before .escape-at .ensures .within (y .if3 .left) in
+    omega arith
 
 loop-less : tie.Need-loop-less Inv-loop μ-loop
 loop-less c = search needs
 
 loop-again : tie.Need-loop-again Inv-loop μ-loop
-loop-again c = scan-escaped (c .before .before .before .before .before .before .before .before .before .before .loop .inv) (search needs) (c .before .before .before .before .before .before .before .if1 .left) (c .before .before .before .before .before .before .if2 .taken) (c .before .before .before .before .before .escape-at .ensures) (c .before .before .before .before .if3 .left) (c .before .before .put .ensures)
+loop-again c =
+    let w : tie.After-write-byte Inv-loop μ-loop = c .before .before in
+    let y = escaped w in
+    let x = y .before in
+    let e = solid x in
+    scan-escaped (before-byte e .loop .inv) (turn e .loop-test .taken) (e .if1 .left) (x .before .if2 .taken) (x .escape-at .ensures) (y .if3 .left) (w .write-byte .ensures)
 
-put-requires-2 : tie.Need-put-requires-2 Inv-loop μ-loop
-put-requires-2 c κs = search needs
+write-byte-requires-2 : tie.Need-write-byte-requires-2 Inv-loop μ-loop
+write-byte-requires-2 c κs = search needs
 
 loop-less-2 : tie.Need-loop-less-2 Inv-loop μ-loop
 loop-less-2 c = search needs
 
 loop-again-2 : tie.Need-loop-again-2 Inv-loop μ-loop
-loop-again-2 c = scan-plain (c .before .before .before .before .before .before .before .before .loop .inv) (search needs) (c .before .before .before .before .before .if1 .left) (c .before .before .before .before .if2 .left) (c .before .before .put2 .ensures)
+loop-again-2 c =
+    let w : tie.After-write-byte2 Inv-loop μ-loop = c .before .before in
+    let p = plain w in
+    let e = p .before in
+    scan-plain (before-byte e .loop .inv) (turn e .loop-test .taken) (e .if1 .left) (p .if2 .left) (w .write-byte2 .ensures)
 
 same-length-3 : tie.Need-same-length-3 Inv-loop μ-loop
 same-length-3 c = c .before .loop .inv .wrote .size
@@ -78,11 +115,11 @@ read-text-spec =
     escape-at-requires
     same-length-2
     returns-2
-    put-requires
+    write-byte-requires
     add-i-2
     loop-less
     loop-again
-    put-requires-2
+    write-byte-requires-2
     loop-less-2
     loop-again-2
     same-length-3

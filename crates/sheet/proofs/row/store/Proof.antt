@@ -1,17 +1,41 @@
 -- `sheet::row::store` meets its contract. Assumes nothing.
 use Prim.Native.Nat.{_*_, _+_}
-use mathlib.Core.Path.{refl, _∙_}
+use mathlib.Core.Path.{refl}
 use mathlib.Core.Bool.{and-false}
 use native.Mathlib.Omega.{arith}
 use lib.ListN.{length}
-use borrow.Author.Tests.{lt-leb, le-leb}
+use borrow.Author.Tests.{lt-leb}
 use borrow.Author.Needs.{needs}
-use Rattle.sheet.proofs.Writing.{row-stored}
+use Rattle.shared.specs.Numbers.{most32}
+use Rattle.rows.specs.Row.{rowSize}
+use Rattle.sheet.proofs.Writing.{row-fits, row-stored}
 use Rattle.sheet.proofs.row.store.Statement.{statement}
 use Rattle.sheet.proofs.row.store.Tie as tie
 
+-- ---- places: after each number is stored, from the end back to the start
+
+abbrev fourth : tie.After-slice-known5 → tie.After-put-number4
+fourth c = c .before .before
+
+abbrev third : tie.After-put-number4 → tie.After-put-number3
+third c = c .before .before .before .before
+
+abbrev second : tie.After-put-number3 → tie.After-put-number2
+second c = c .before .before .before .before
+
+abbrev first : tie.After-put-number2 → tie.After-put-number
+first c = c .before .before .before .before
+
+abbrev fitting : tie.After-put-number → tie.Else2
+fitting c = c .before .before
+
+abbrev start : tie.Else2 → tie.Start
+start c = c .before .before .before
+
+-- ---- the needs
+
 returns : tie.Need-returns
-returns c = (rw (lt-leb (c .before .before .args .end) 4294967295 (c .if1 .taken)) (simp and-false), refl)
+returns c = (rw (lt-leb (c .before .before .args .end) most32 (c .if1 .taken)) (simp and-false), refl)
 
 mul-at : tie.Need-mul-at
 mul-at c = search needs
@@ -20,40 +44,43 @@ sub-if2 : tie.Need-sub-if2
 sub-if2 c = search needs
 
 returns-2 : tie.Need-returns-2
-returns-2 c = (rw (lt-leb (16 * c .before .before .before .args .n + 16) (length (c .before .before .before .args .rows .now)) (omega arith)), refl)
+returns-2 c = let s : tie.Start = c .before .before .before in (rw (lt-leb (rowSize * s .args .n + rowSize) (length (s .args .rows .now)) (omega arith)), refl)
 
-write-number-requires : tie.Need-write-number-requires
-write-number-requires c κs = search needs
+put-number-requires : tie.Need-put-number-requires
+put-number-requires c κs = search needs
 
-add-write-number : tie.Need-add-write-number
-add-write-number c = search needs
+add-put-number : tie.Need-add-put-number
+add-put-number c = search needs
 
-write-number-requires-2 : tie.Need-write-number-requires-2
-write-number-requires-2 c κs = search needs
+put-number-requires-2 : tie.Need-put-number-requires-2
+put-number-requires-2 c κs = search needs
 
-add-write-number-2 : tie.Need-add-write-number-2
-add-write-number-2 c = search needs
+add-put-number-2 : tie.Need-add-put-number-2
+add-put-number-2 c = search needs
 
-cast-write-number : tie.Need-cast-write-number
-cast-write-number c = search needs
+put-number-requires-3 : tie.Need-put-number-requires-3
+put-number-requires-3 c κs = search needs
 
-write-number-requires-3 : tie.Need-write-number-requires-3
-write-number-requires-3 c κs = search needs
+add-put-number-3 : tie.Need-add-put-number-3
+add-put-number-3 c = search needs
 
-add-write-number-3 : tie.Need-add-write-number-3
-add-write-number-3 c = search needs
-
-cast-write-number-2 : tie.Need-cast-write-number-2
-cast-write-number-2 c = search needs
-
-write-number-requires-4 : tie.Need-write-number-requires-4
-write-number-requires-4 c κs = search needs
+put-number-requires-4 : tie.Need-put-number-requires-4
+put-number-requires-4 c κs = search needs
 
 same-length : tie.Need-same-length
 same-length c = search needs
 
 returns-3 : tie.Need-returns-3
-returns-3 c = (rw (le-leb (16 * c .before .before .before .before .before .before .before .before .before .before .before .before .before .before .before .before .before .before .before .args .n + 16) (length (c .before .before .before .before .before .before .before .before .before .before .before .before .before .before .before .before .before .before .before .args .rows .now)) (omega arith), le-leb (c .before .before .before .before .before .before .before .before .before .before .before .before .before .before .before .before .before .before .before .args .end) 4294967295 (omega arith)), c .before .before .write-number4 .ensures ∙ rw (c .before .before .before .before .before .before .write-number3 .ensures, c .before .before .before .before .before .before .before .before .before .before .write-number2 .ensures, c .before .before .before .before .before .before .before .before .before .before .before .before .before .before .write-number .ensures) (row-stored (c .before .before .before .before .before .before .before .before .before .before .before .before .before .before .before .before .before .before .before .args .rows .now) (16 * c .before .before .before .before .before .before .before .before .before .before .before .before .before .before .before .before .before .before .before .args .n) (c .before .before .before .before .before .before .before .before .before .before .before .before .before .before .before .before .before .before .before .args .what) (c .before .before .before .before .before .before .before .before .before .before .before .before .before .before .before .before .before .before .before .args .kind) (c .before .before .before .before .before .before .before .before .before .before .before .before .before .before .before .before .before .before .before .args .start) (c .before .before .before .before .before .before .before .before .before .before .before .before .before .before .before .before .before .before .before .args .end)))
+returns-3 c =
+    let c₄ = fourth c in
+    let c₃ = third c₄ in
+    let c₂ = second c₃ in
+    let c₁ = first c₂ in
+    let f = fitting c₁ in
+    let a = start f .args in (
+      row-fits (length (a .rows .now)) (a .n) (a .end) (omega arith) (omega arith),
+      row-stored (a .rows .now) (rowSize * a .n) (a .what) (a .kind) (a .start) (a .end) (c₁ .put-number .ensures) (c₂ .put-number2 .ensures) (c₃ .put-number3 .ensures) (c₄ .put-number4 .ensures),
+    )
 
 pub store-spec : {M : Type 1} → statement M
 store-spec =
@@ -63,14 +90,12 @@ store-spec =
     mul-at
     sub-if2
     returns-2
-    write-number-requires
-    add-write-number
-    write-number-requires-2
-    add-write-number-2
-    cast-write-number
-    write-number-requires-3
-    add-write-number-3
-    cast-write-number-2
-    write-number-requires-4
+    put-number-requires
+    add-put-number
+    put-number-requires-2
+    add-put-number-2
+    put-number-requires-3
+    add-put-number-3
+    put-number-requires-4
     same-length
     returns-3)
