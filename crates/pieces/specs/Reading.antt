@@ -24,7 +24,7 @@ pub data Reading : Type 0 where
 --     number      a run of word bytes begun with a digit
 --     operator    a run of operator bytes
 --     quoted q    in a quote opened by the byte q
---     escaped q   in it, behind a backslash
+--     escaped q   in it, after a backslash
 pub data Kind : Type 0 where
   closed word number operator : Kind
   quoted escaped : ℕ → Kind
@@ -46,21 +46,21 @@ pub data Begun : Type 0 where
 
 -- A run begun with a digit, which goes on as k: word bytes, and a `.` that a digit follows.
 abbrev pub digits : Kind → ℕ → ℕ → Joined
-digits k b behind = cond (isWord (class b) || (eqb b (byte ".") && digit behind)) (takes k) ends
+digits k b after = cond (isWord (class b) || (eqb b (byte ".") && digit after)) (takes k) ends
 
--- A quote runs to the next equal quote; a backslash takes the byte behind it along.
+-- A quote runs to the next equal quote; a backslash takes the byte after it along.
 abbrev pub inQuote : ℕ → ℕ → Kind
 inQuote q b = cond (eqb b q) closed (cond (eqb b (byte "\\")) (escaped q) (quoted q))
 
--- The byte b, with the byte behind it (0 at the text's end), at an open piece.
+-- The byte b, with the byte after it (0 at the text's end), at an open piece.
 abbrev pub join : Mode → ℕ → ℕ → Joined
-join between b behind = ends
-join (inside closed) b behind = ends
-join (inside word) b behind = cond (isWord (class b)) (takes word) ends
-join (inside number) b behind = digits number b behind
-join (inside operator) b behind = cond (isOperator (class b)) (takes operator) ends
-join (inside (quoted q)) b behind = takes (inQuote q b)
-join (inside (escaped q)) b behind = takes (quoted q)
+join between b after = ends
+join (inside closed) b after = ends
+join (inside word) b after = cond (isWord (class b)) (takes word) ends
+join (inside number) b after = digits number b after
+join (inside operator) b after = cond (isOperator (class b)) (takes operator) ends
+join (inside (quoted q)) b after = takes (inQuote q b)
+join (inside (escaped q)) b after = takes (quoted q)
 
 -- The byte b, of the class given, where no piece takes it.
 abbrev pub begin : Class → ℕ → Begun

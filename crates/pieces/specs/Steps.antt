@@ -22,6 +22,6 @@ abbrev pub quotedNext : ℕ → QuoteEnd → Next
 quotedNext s (At e) = Piece s e
 quotedNext s Never = Unreadable s
 
--- the piece from s to e behind n others
+-- the piece from s to e after n others
 abbrev pub put : List ℕ → ℕ → ℕ → ℕ → List ℕ
 put xs n s e = set (set xs (2 * n) s) (2 * n + 1) e

@@ -8,8 +8,8 @@ use Rattle.pieces.proofs.piece_at.Tie as tie
 shared-slice-read-b : tie.Need-shared-slice-read-b
 shared-slice-read-b c = search needs
 
-add-behind : tie.Need-add-behind
-add-behind c = search needs
+add-after : tie.Need-add-after
+add-after c = search needs
 
 class-of-requires : tie.Need-class-of-requires
 class-of-requires c κs = search needs
@@ -67,7 +67,7 @@ piece-at-spec =
     tie.close
     (tie.spec
     shared-slice-read-b
-    add-behind
+    add-after
     class-of-requires
     enum-told
     enum-told-2

@@ -30,8 +30,8 @@ same-length c = sized (c .before .before .before .loop .inv)
 returns : tie.Need-returns Inv-loop μ-loop
 returns c = let α = finished (c .before .before .before .loop .inv) (sym (c .enum-told .given .1) ∙ c .before .before .next-piece .ensures) in (α .report, α .slice)
 
-enum-known-i : tie.Need-enum-known-i Inv-loop μ-loop
-enum-known-i c = search needs
+enum-known-index : tie.Need-enum-known-index Inv-loop μ-loop
+enum-known-index c = search needs
 
 clear-numbers-requires : tie.Need-clear-numbers-requires Inv-loop μ-loop
 clear-numbers-requires c κs = search needs
@@ -40,7 +40,7 @@ same-length-2 : tie.Need-same-length-2 Inv-loop μ-loop
 same-length-2 c = c .before .before .clear-numbers .kept .0 ∙ sized (c .before .before .before .before .before .before .before .before .loop .inv)
 
 returns-2 : tie.Need-returns-2 Inv-loop μ-loop
-returns-2 c = let α = unread (c .before .before .before .before .before .before .before .before .loop .inv) (sym (c .before .before .before .before .before .i .given .1) ∙ c .before .before .before .before .before .before .before .next-piece .ensures) (c .before .before .clear-numbers .ensures) in (α .report, α .slice)
+returns-2 c = let α = unread (c .before .before .before .before .before .before .before .before .loop .inv) (sym (c .before .before .before .before .before .index .given .1) ∙ c .before .before .before .before .before .before .before .next-piece .ensures) (c .before .before .clear-numbers .ensures) in (α .report, α .slice)
 
 enum-known-start : tie.Need-enum-known-start Inv-loop μ-loop
 enum-known-start c = search needs
@@ -77,7 +77,7 @@ read-pieces-spec =
     enum-told
     same-length
     returns
-    enum-known-i
+    enum-known-index
     clear-numbers-requires
     same-length-2
     returns-2
