@@ -1,3 +1,1 @@
-pub mod Bytes
 pub mod Doors
-pub mod Value

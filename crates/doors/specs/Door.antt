@@ -1,16 +1,15 @@
--- What a C door returns and leaves, by what the call behind it answers (document 01, 'Around the call').
+-- What a C door returns and leaves, by what the call that it makes answers (document 01, 'Around the call').
 -- Assumes nothing.
 use mathlib.Core.Bool.{Bool, cond}
 use mathlib.Core.List.{List}
 use Prim.Native.Nat.{ℕ}
 use lib.Dec.{eqb}
 use lib.ListN.{length}
-use Rattle.shared.specs.Report.{Report, report}
-use Rattle.doors.specs.Bytes.{reportBytes}
+use Rattle.shared.specs.Report.{Report, report, reportSize, reportBytes}
 
 -- Refusal 11 is for a report slice that isn't 24 bytes.
 abbrev pub isReport : List ℕ → Bool
-isReport xs = eqb (length xs) 24
+isReport xs = eqb (length xs) reportSize
 
 -- What the door returns: the refusal or 0.
 unfoldable pub doorRefusal : List ℕ → Report → ℕ

@@ -1,3 +1,1 @@
-pub mod Bytes
 pub mod Door
-pub mod Steps

@@ -1,10 +1,10 @@
 // Each call's answer as a report.
-use crate::fill::Report;
-use crate::fill::refuse;
-use crate::fill::success;
-use crate::refusals;
+use shared::refusals;
+use shared::report::Report;
+use shared::report::refuse;
+use shared::report::success;
 ghost use mathlib.Core.Path.{_≡_};
-ghost use Rattle.doors.specs.Steps.{reportOf};
+ghost use Rattle.shared.specs.Report.{reportOf};
 ghost use Rattle.format_tokens.specs.Answer.{reported as layoutReported};
 ghost use Rattle.sheet.specs.Answer.{reported as sheetReported};
 ghost use Rattle.pieces.specs.Answer.{reported as piecesReported};

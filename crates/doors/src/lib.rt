@@ -1,10 +1,11 @@
 // The C doors (document 01, 'Around the call'): each returns the refusal or 0, and fills a 24-byte report.
-use crate::fill::REPORT_BYTES;
-use crate::fill::put_report;
 use format_source::format_source_with_shebang;
 use format_tokens::format_tokens_with;
 use lookahead::needs_space;
 use pieces::read_pieces;
+use shared::refusals;
+use shared::report::REPORT_BYTES;
+use shared::report::put_report;
 use sheet::read_sheet;
 ghost use mathlib.Core.Path.{_≡_};
 ghost use lib.ListN.{length};
@@ -16,8 +17,6 @@ ghost use Rattle.lookahead.specs.Answer.{spaceReport};
 ghost use Rattle.doors.specs.Door.{doorRefusal, doorReport, doorSlice};
 
 mod answers;
-mod fill;
-mod refusals;
 
 // Lays out the tokens that `rows` name in `text` (style 0 SameLine, 1 Allman). Reports the length, the inserted commas and plain.
 #[no_mangle]

@@ -2,4 +2,8 @@ pub mod Below
 pub mod Bytes
 pub mod Clear
 pub mod Injective
+pub mod Lines
+pub mod LittleEndian
 pub mod Logic
+pub mod Stores
+pub mod Value

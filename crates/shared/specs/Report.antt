@@ -5,6 +5,8 @@ use mathlib.Core.List.{List, _++_}
 use Prim.Native.Nat.{ℕ}
 use lib.Dec.{eqb}
 use lib.ListN.{length, drop, replicate}
+use Rattle.shared.specs.Numbers.{littleEndian}
+use Rattle.shared.specs.declared.report.Report.{}
 
 -- The refusals' numbers, under the table's names.
 abbrev pub option : ℕ
@@ -55,6 +57,18 @@ refuse number place = record { refusal = number; first = place; second = 0; thir
 
 abbrev pub accepted : Report → Bool
 accepted r = eqb (r .refusal) 0
+
+-- the report that a `Report` of the code is
+abbrev pub reportOf : Rattle.shared.specs.declared.report.Report.Report → Report
+reportOf r = record { refusal = r .refusal; first = r .first; second = r .second; third = r .third }
+
+-- how many bytes a report has
+abbrev pub reportSize : ℕ
+reportSize = 24
+
+-- A report's bytes (document 01, 'Around the call'): three little-endian eight-byte numbers.
+unfoldable pub reportBytes : Report → List ℕ
+reportBytes r = littleEndian 8 (r .first) ++ littleEndian 8 (r .second) ++ littleEndian 8 (r .third)
 
 -- A lent slice after a refusal that changes it: every place is 0.
 abbrev pub zeroed : List ℕ → List ℕ

@@ -1,9 +1,9 @@
 // A line: its head, `L`, `T` or `R` and the kind, and its text.
+use shared::classes::is_digit;
 ghost use mathlib.Core.Path.{_≡_};
 ghost use mathlib.Core.List.{[], _∷_};
 ghost use Prim.Native.Nat.{_+_, _≤_, _<_};
 ghost use lib.ListN.{length};
-ghost use Rattle.shared.specs.Bytes.{digit};
 ghost use Rattle.sheet.specs.Line.{isSecond, whatOf, kindAndText, lineOf};
 ghost use Rattle.sheet.specs.Steps.{lineAt, HeadAt, TextAt, EscapeAt, Writes};
 
@@ -100,15 +100,6 @@ fn kind_at(sheet: &[u8], at: usize, what: u8) -> Head
         return Head::Row(what, first, from);
     }
     Head::Bad
-}
-
-fn is_digit(b: u8) -> bool
-    ensures { λ r. ⌜ r ≡ digit b ⌝ }
-{
-    if 48 <= b {
-        return b <= 57;
-    }
-    false
 }
 
 // Whether the digit `b` may follow the kind's first digit.

@@ -2,7 +2,7 @@
 use mathlib.Core.Path.{_∙_, ap}
 use borrow.Author.Needs.{needs}
 use Rattle.shared.specs.Report.{success}
-use Rattle.doors.proofs.Bytes.{as-number}
+use Rattle.doors.proofs.Doors.{as-number}
 use Rattle.doors.proofs.answers.of_space.Statement.{statement}
 use Rattle.doors.proofs.answers.of_space.Tie as tie
 

@@ -4,7 +4,7 @@ use mathlib.Core.Path.{_≡_, refl}
 use Prim.Native.Nat.{ℕ, zero, suc, _+_, _*_, _/_, _%_, _^_, _<_}
 use native.Mathlib.Nat.{pow-suc}
 use native.Mathlib.Omega.{arith}
-use Rattle.doors.specs.Bytes.{littleEndian}
+use Rattle.shared.specs.Numbers.{littleEndian}
 
 -- what bytes say, the lowest first
 unfoldable pub value : List ℕ → ℕ

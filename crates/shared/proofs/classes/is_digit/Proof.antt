@@ -1,7 +1,7 @@
--- `sheet::line::is_digit` meets its contract. Assumes nothing.
+-- `shared::classes::is_digit` meets its contract. Assumes nothing.
 use borrow.Author.Tests.{le-leb, lt-leb}
-use Rattle.sheet.proofs.line.is_digit.Statement.{statement}
-use Rattle.sheet.proofs.line.is_digit.Tie as tie
+use Rattle.shared.proofs.classes.is_digit.Statement.{statement}
+use Rattle.shared.proofs.classes.is_digit.Tie as tie
 
 returns : tie.Need-returns
 returns c = rw (le-leb 48 (c .before .args .b) (c .if1 .taken))

@@ -1,30 +1,30 @@
--- `doors::fill::put_number` meets its contract. Assumes nothing.
+-- `shared::numbers::put_number` meets its contract. Assumes nothing.
 use Prim.Native.Nat.{_-_}
 use lib.Seq.{sets}
 use lib.ListN.{length}
 use borrow.Author.Needs.{needs}
-use Rattle.doors.specs.Bytes.{littleEndian}
-use Rattle.doors.proofs.Bytes.{Left, left-all, left-more, left-none}
-use Rattle.doors.proofs.fill.put_number.Statement.{statement}
-use Rattle.doors.proofs.fill.put_number.Tie as tie
+use Rattle.shared.specs.Numbers.{littleEndian}
+use Rattle.shared.proofs.LittleEndian.{Left, left-all, left-more, left-none}
+use Rattle.shared.proofs.numbers.put_number.Statement.{statement}
+use Rattle.shared.proofs.numbers.put_number.Tie as tie
 
 abbrev Inv-loop : tie.InvT-loop
-Inv-loop report₀ at x left₀ i₀ i-end report left i = Left (sets report₀ at (littleEndian 8 x)) report (length report₀) i i-end left
+Inv-loop bytes₀ at size x left₀ i₀ i-end bytes left i = Left (sets bytes₀ at (littleEndian size x)) bytes (length bytes₀) i i-end left
 
 abbrev μ-loop : tie.MeasureT-loop
-μ-loop report₀ at x left₀ i₀ i-end report left i = i-end - i
+μ-loop bytes₀ at size x left₀ i₀ i-end bytes left i = i-end - i
 
 add-i-end : tie.Need-add-i-end Inv-loop μ-loop
 add-i-end c = search needs
 
 loop-holds : tie.Need-loop-holds Inv-loop μ-loop
-loop-holds c = left-all (c .args .report .now) (c .args .at) (c .args .x) (c .pre)
+loop-holds c = left-all (c .args .bytes .now) (c .args .at) (c .args .size) (c .args .x) (c .pre)
 
-cast-report : tie.Need-cast-report Inv-loop μ-loop
-cast-report c = search needs
+cast-bytes : tie.Need-cast-bytes Inv-loop μ-loop
+cast-bytes c = search needs
 
-slice-write-report : tie.Need-slice-write-report Inv-loop μ-loop
-slice-write-report c = search needs
+slice-write-bytes : tie.Need-slice-write-bytes Inv-loop μ-loop
+slice-write-bytes c = search needs
 
 add-i : tie.Need-add-i Inv-loop μ-loop
 add-i c = search needs
@@ -49,8 +49,8 @@ put-number-spec =
     μ-loop
     add-i-end
     loop-holds
-    cast-report
-    slice-write-report
+    cast-bytes
+    slice-write-bytes
     add-i
     loop-less
     loop-again
