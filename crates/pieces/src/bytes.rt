@@ -1,6 +1,5 @@
 // The classes of bytes (document 01, 'Reading back'), and a test for each.
 ghost use mathlib.Core.Path.{_≡_};
-ghost use Rattle.shared.specs.Bytes.{digit};
 ghost use Rattle.pieces.specs.Class.{class, isWord, isOperator};
 ghost use Rattle.pieces.specs.Sets.{member, isGap, isSingle, isQuote};
 
@@ -39,16 +38,6 @@ pub fn class_of(b: u8) -> Class
         return Class::Quote;
     }
     Class::Unclassed
-}
-
-// Whether the byte is one of 0 to 9.
-pub fn is_digit(b: u8) -> bool
-    ensures { λ r. ⌜ r ≡ digit b ⌝ }
-{
-    if b'0' <= b {
-        return b <= b'9';
-    }
-    false
 }
 
 // Whether the byte is of the class Word.

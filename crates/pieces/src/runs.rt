@@ -2,6 +2,7 @@
 // index after what it passes over.
 use crate::bytes;
 use crate::eights;
+use shared::classes::is_digit;
 ghost use mathlib.Core.Path.{_≡_};
 ghost use mathlib.Core.Bool.{cond};
 ghost use Prim.Native.Nat.{_+_, _≤_, _<_};
@@ -31,7 +32,7 @@ pub fn gap_end(text: &[u8], from: usize) -> usize
 pub fn word_end(text: &[u8], from: usize, first: u8) -> usize
     ensures { λ r. ⌜ EndsAt (now (text .entry)) (cond (digit first) number word) from r ⌝ }
 {
-    if bytes::is_digit(first) {
+    if is_digit(first) {
         return number_end(text, from);
     }
     run_end(text, from, bytes::WORD_LOW, bytes::WORD_HIGH, true)
@@ -138,7 +139,7 @@ fn number_takes(text: &[u8], i: usize) -> bool
     }
     let after = i + 1;
     if after < text.len() {
-        return bytes::is_digit(text[after]);
+        return is_digit(text[after]);
     }
     false // the text ends after the dot
 }

@@ -18,7 +18,7 @@ use Rattle.rows.proofs.Sound.{misnamed, token-bad}
 use Rattle.lookahead.proofs.Rests.{here, over}
 use Rattle.definition.specs.Emit.{isSome}
 use Rattle.definition.specs.Plain.{plain}
-use Rattle.plain.specs.Scan.{fits, behind, plainRows}
+use Rattle.plain.specs.Scan.{fits, factsAfter, plainRows}
 use Rattle.plain.specs.LookBack.{factsFrom, factsAt, markFrom, fitsRow, isNamed, Ahead, Unfit, FitsTo}
 use Rattle.plain.proofs.Bytes.{part-slice}
 use Rattle.plain.proofs.LookBack.{facts-next}
@@ -85,8 +85,8 @@ module _ {rows text : List ℕ} {at : ℕ} (α : Ahead rows text at) where
     mark-is : markFrom rows text at ≡ fitsRow rows text at r && markFrom rows text (at + 16)
     unfolding plainRows
     mark-is =
-        let f : factsAt rows text (at + 16) ≡ behind (factsAt rows text at) (r .kind) (bytesOf text r) = rw e (facts-next rows text at) in
-        rw (next, f, and-assoc (eqb (r .what) TokenRow) (fits (factsAt rows text at) (r .kind) (bytesOf text r)) (plainRows text (behind (factsAt rows text at) (r .kind) (bytesOf text r)) (rowsOf (drop (at + 16) rows))))
+        let f : factsAt rows text (at + 16) ≡ factsAfter (factsAt rows text at) (r .kind) (bytesOf text r) = rw e (facts-next rows text at) in
+        rw (next, f, and-assoc (eqb (r .what) TokenRow) (fits (factsAt rows text at) (r .kind) (bytesOf text r)) (plainRows text (factsAfter (factsAt rows text at) (r .kind) (bytesOf text r)) (rowsOf (drop (at + 16) rows))))
 
     mark-more : fitsRow rows text at r ≡ true → markFrom rows text at ≡ markFrom rows text (at + 16)
     mark-more f = mark-is ∙ rw f

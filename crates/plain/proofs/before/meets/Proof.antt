@@ -1,6 +1,6 @@
 -- `plain::before::meets` meets its contract. Assumes nothing.
 use borrow.Author.Needs.{needs}
-use Rattle.plain.proofs.LookBack.{near-none, near-empty, near-behind}
+use Rattle.plain.proofs.LookBack.{near-none, near-empty, near-after}
 use Rattle.plain.proofs.before.meets.Statement.{statement}
 use Rattle.plain.proofs.before.meets.Tie as tie
 
@@ -25,20 +25,20 @@ smaller-requires c κs = search needs
 returns-2 : tie.Need-returns-2
 returns-2 c = near-empty (c .before .before .before .before .before .before .before .before .before .args .rows .now) (c .before .before .before .before .before .before .before .before .before .args .text .now) (c .before .before .before .before .before .before .near-end .ensures) (c .before .before .before .before .before .before .before .before .before .args .kind) (c .before .before .before .before .before .if1 .left) (c .before .before .before .before .row-at .ensures) (c .before .smaller .ensures) (c .if2 .taken)
 
-sub-meets-behind : tie.Need-sub-meets-behind
-sub-meets-behind c = search needs
+sub-meets-after : tie.Need-sub-meets-after
+sub-meets-after c = search needs
 
-part-meets-behind-start : tie.Need-part-meets-behind-start
-part-meets-behind-start c = search needs
+part-meets-after-start : tie.Need-part-meets-after-start
+part-meets-after-start c = search needs
 
-part-meets-behind-end : tie.Need-part-meets-behind-end
-part-meets-behind-end c = search needs
+part-meets-after-end : tie.Need-part-meets-after-end
+part-meets-after-end c = search needs
 
-meets-behind-requires : tie.Need-meets-behind-requires
-meets-behind-requires c κs = search needs
+meets-after-requires : tie.Need-meets-after-requires
+meets-after-requires c κs = search needs
 
 returns-3 : tie.Need-returns-3
-returns-3 c = near-behind (c .before .before .before .before .before .before .before .before .before .before .before .args .rows .now) (c .before .before .before .before .before .before .before .before .before .before .before .args .text .now) (c .before .before .before .before .before .before .before .before .near-end .ensures) (c .before .before .before .before .before .before .before .before .before .before .before .args .kind) (c .before .before .before .before .before .before .before .if1 .left) (c .before .before .before .before .before .before .row-at .ensures) (c .before .before .before .smaller .ensures) (c .before .before .if2 .left) (c .meets-behind .ensures)
+returns-3 c = near-after (c .before .before .before .before .before .before .before .before .before .before .before .args .rows .now) (c .before .before .before .before .before .before .before .before .before .before .before .args .text .now) (c .before .before .before .before .before .before .before .before .near-end .ensures) (c .before .before .before .before .before .before .before .before .before .before .before .args .kind) (c .before .before .before .before .before .before .before .if1 .left) (c .before .before .before .before .before .before .row-at .ensures) (c .before .before .before .smaller .ensures) (c .before .before .if2 .left) (c .meets-after .ensures)
 
 pub meets-spec : {M : Type 1} → statement M
 meets-spec =
@@ -51,8 +51,8 @@ meets-spec =
     cast-smaller
     smaller-requires
     returns-2
-    sub-meets-behind
-    part-meets-behind-start
-    part-meets-behind-end
-    meets-behind-requires
+    sub-meets-after
+    part-meets-after-start
+    part-meets-after-end
+    meets-after-requires
     returns-3)
