@@ -6,10 +6,11 @@ use Prim.Native.Nat.{ℕ, suc}
 use lib.Dec.{T}
 use Rattle.shared.specs.Bytes.{bytes, sameBytes}
 
--- The comma, `]` and `}` are known by their bytes.
+-- The lexeme is a comma. The comma, `]` and `}` are known by their bytes.
 abbrev pub comma : List ℕ → Bool
 comma w = sameBytes w (bytes ",")
 
+-- The lexeme is `]` or `}`.
 abbrev pub closer : List ℕ → Bool
 closer w = sameBytes w (bytes "]") || sameBytes w (bytes "}")
 

@@ -13,7 +13,7 @@ ghost use lib.ListN.{length, take, drop};
 ghost use Rattle.shared.specs.Bytes.{byte, within};
 ghost use Rattle.shared.specs.Numbers.{most32};
 ghost use Rattle.pieces.specs.Sets.{all};
-ghost use Rattle.pieces.specs.Eight.{eightOnes};
+ghost use Rattle.pieces.specs.Eight.{eightOnes, eightLows};
 ghost use Rattle.plain.specs.Scan.{isWordByte, runOf};
 ghost use Rattle.plain.specs.Eight.{foursOf, bytesWithin, lettersIn, wordsIn};
 
@@ -223,7 +223,7 @@ fn letters_in(x: u64) -> u64
 // Tells which bytes are one of `first` to `last`: those that reach `first` and not the byte after `last`. All
 // bytes of `low` are below 128, so that no sum carries into the next byte.
 fn bytes_within(low: u64, first: u8, last: u8) -> u64
-    requires { ⌜ (low ≤ 0x7f7f_7f7f_7f7f_7f7f) × (first ≤ 128) × (last ≤ 127) ⌝ }
+    requires { ⌜ (low ≤ eightLows) × (first ≤ 128) × (last ≤ 127) ⌝ }
     ensures { λ r. ⌜ r ≡ bytesWithin eightOnes low first last ⌝ }
 {
     (low + (128 - first as u64) * eights::ONES) ^ (low + (127 - last as u64) * eights::ONES)
