@@ -20,6 +20,7 @@ use Rattle.definition.specs.Arms.{nextIs}
 use Rattle.definition.specs.Plain.{isMute, hasItsLexeme, readsWhole, endsOperator, beginsOperator, beginsDigit, tightBefore, tightBehind, clause₂, clause₃, clause₄, clause₅, clause₆, clause₇, plain}
 use Rattle.definition.proofs.PlainScan
 use Rattle.definition.proofs.PlainScan.{see, plainFrom, plain-scan}
+use Rattle.plain.specs.LookBack.{NoBadRow}
 use Rattle.plain.specs.Scan.{Facts, unseen, mute, forbids, collides, fits, factsAfter, plainRows}
 
 -- ---- what the code keeps of what has been seen
@@ -155,7 +156,7 @@ rows-plain text q opened b i (r ∷ rs) e =
     rw (h, m) (sym (and-false (not (nextIs RightBrace (tokensFrom text (triviaOf text r ∷ []) rs) && opened)))))
     (λ g. rw (third (length text) b i r rs e f g)))
 
-pub pass : (rows text : List ℕ) → badFrom (length text) atStart 0 (rowsOf rows) ≡ none → plain (tokensOf rows text) ≡ plainRows text unseen (rowsOf rows)
+pub pass : (rows text : List ℕ) → NoBadRow rows text → plain (tokensOf rows text) ≡ plainRows text unseen (rowsOf rows)
 unfolding tokensOf
 pass rows text e =
     let ts = tokensFrom text [] (rowsOf rows) in

@@ -49,7 +49,7 @@ abbrev pub forbids : Facts → ℕ → Bool
 forbids q k =
     cond (eqb k Dot) (q .digit) (cond (eqb k LeftBrace) (q .comma) (cond (eqb k RightBrace) (q .opened) false))
 
--- Clause 4: two operator bytes would meet.
+-- Clause 4: two operator bytes would meet at kinds where they may not.
 abbrev pub collides : Facts → ℕ → List ℕ → Bool
 collides q k w = q .operator && (beginsOperator w && (q .tight || tightBehind k))
 
@@ -67,12 +67,15 @@ meetsAfter j v k = (eqb k Dot && beginsDigit v) || (endsOperator v && (tightBefo
 
 -- ---- the facts after a token of the kind k and the lexeme w
 
+-- A Record was seen, and no `{` since.
 abbrev pub armedAfter : Bool → ℕ → Bool
 armedAfter armed k = cond (eqb k Record) true (not (eqb k LeftBrace) && armed)
 
+-- The token is the first `{` after a Record.
 abbrev pub opens : Facts → ℕ → Bool
 opens q k = eqb k LeftBrace && q .armed
 
+-- All of them: Newline and Eof leave the first three as they are, and Eof leaves the fourth.
 abbrev pub factsAfter : Facts → ℕ → List ℕ → Facts
 factsAfter q k w = record {
   operator = cond (mute k) (q .operator) (endsOperator w);

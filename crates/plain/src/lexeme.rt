@@ -95,6 +95,37 @@ pub fn is_operators(lexeme: &[u8]) -> bool
     true
 }
 
+// Whether the lexeme reads as one piece that is the whole of it.
+pub fn reads_whole(lexeme: &[u8]) -> bool
+    ensures { λ r. ⌜ r ≡ readsWhole (now (lexeme .entry)) ⌝ }
+{
+    let next = next_piece(lexeme, 0);
+    match next {
+        Next::Piece { start, end } => {
+            if start != 0 {
+                return false;
+            }
+            end == lexeme.len()
+        }
+        Next::End => false,
+        Next::Unreadable { index: _ } => false,
+    }
+}
+
+// Whether the lexeme is a number, or a quote without a backslash. Another lexeme may read as one piece too.
+pub fn is_value(lexeme: &[u8]) -> bool
+    ensures { λ r. ⌜ (r ≡ true → IsValue (now (lexeme .entry))) ⌝ }
+{
+    if lexeme.len() == 0 {
+        return false;
+    }
+    let first = lexeme[0];
+    if is_digit(first) {
+        return runs::word_end(lexeme, 1, first) == lexeme.len();
+    }
+    is_quoted(lexeme, first)
+}
+
 // Whether the lexeme is the byte twice.
 fn is_pair(lexeme: &[u8], b: u8) -> bool
     ensures { λ r. ⌜ r ≡ sameBytes (now (lexeme .entry)) (b ∷ b ∷ []) ⌝ }
@@ -125,37 +156,6 @@ fn is_else(lexeme: &[u8]) -> bool
         return false;
     }
     lexeme[3] == b'e'
-}
-
-// Whether the lexeme reads as one piece that is the whole of it.
-pub fn reads_whole(lexeme: &[u8]) -> bool
-    ensures { λ r. ⌜ r ≡ readsWhole (now (lexeme .entry)) ⌝ }
-{
-    let next = next_piece(lexeme, 0);
-    match next {
-        Next::Piece { start, end } => {
-            if start != 0 {
-                return false;
-            }
-            end == lexeme.len()
-        }
-        Next::End => false,
-        Next::Unreadable { index: _ } => false,
-    }
-}
-
-// Whether the lexeme is a number, or a quote without a backslash. Another lexeme may read as one piece too.
-pub fn is_value(lexeme: &[u8]) -> bool
-    ensures { λ r. ⌜ (r ≡ true → IsValue (now (lexeme .entry))) ⌝ }
-{
-    if lexeme.len() == 0 {
-        return false;
-    }
-    let first = lexeme[0];
-    if is_digit(first) {
-        return runs::word_end(lexeme, 1, first) == lexeme.len();
-    }
-    is_quoted(lexeme, first)
 }
 
 // Whether the lexeme, whose first byte is `first`, is a quote that its last byte closes, without a backslash.
