@@ -6,11 +6,12 @@ use native.Mathlib.Numerals.{add-one}
 use native.Mathlib.Omega.{arith}
 use lib.ListN.{length}
 use borrow.Author.Tests.{le-leb}
+use Rattle.shared.specs.Numbers.{most32}
 use Rattle.shared.specs.Report.{success}
 use Rattle.pieces.specs.Answer.{reported, answerFrom, readAnswer}
 use Rattle.pieces.specs.Reading.{Reading, done, refused, piece, reading, readFrom}
 use Rattle.pieces.specs.Next.{next}
-use Rattle.pieces.proofs.Resume.{First, next-first}
+use Rattle.pieces.proofs.Resume.{first}
 use Rattle.piece_reader.specs.Reader.{endOf, countFrom, countAnswer}
 use Rattle.piece_reader.specs.Steps.{pieceEnd, counted}
 
@@ -23,9 +24,6 @@ pub record Counts (text : List ℕ) (at n : ℕ) : Type 0 where
 pub start : (text : List ℕ) → Counts text 0 0
 unfolding countAnswer
 start text = record { answer = refl; few = omega arith; within = omega arith }
-
-first : (text : List ℕ) (at : ℕ) {s e : ℕ} {r : Reading} → readFrom text at ≡ piece s e r → First text at s e
-first text at h = next-first text at (sym (ap next h))
 
 module _ (text : List ℕ) (at n : ℕ) (σ : Counts text at n) where
   abbrev ending : Reading → ℕ
@@ -67,15 +65,15 @@ least done k n h = omega (arith, ap (λ x. x .first) h)
 least (refused i) k n h = absurd (omega (arith, ap (λ x. x .refusal) h))
 least (piece s e r) k n h = omega (arith, least r (suc k) n h)
 
-module _ (text : List ℕ) (size n : ℕ) (short : length text ≤ 4294967295) (room : 2 * n ≤ size) where
+module _ (text : List ℕ) (size n : ℕ) (short : length text ≤ most32) (room : 2 * n ≤ size) where
   fits-from : (r : Reading) (at k : ℕ) → readFrom text at ≡ r → countFrom k r ≡ success n 0 0 → answerFrom size k r ≡ success n 0 0
   unfolding countFrom answerFrom
   fits-from done at k h c = c
   fits-from (refused i) at k h c = c
   fits-from (piece s e r) at k h c =
       let φ = first text at h in
-      let behind : readFrom text e ≡ r = cc in
-      rw (le-leb (2 * k + 2) size (omega (arith, room, least r (suc k) n c)), le-leb e 4294967295 (omega (arith, short, φ .within))) (fits-from r e (suc k) behind c)
+      let after : readFrom text e ≡ r = cc in
+      rw (le-leb (2 * k + 2) size (omega (arith, room, least r (suc k) n c)), le-leb e most32 (omega (arith, short, φ .within))) (fits-from r e (suc k) after c)
 
   -- Where `count_pieces` answers n, a slice of 2 n numbers has room for all pieces.
   pub counted-fit : countAnswer text ≡ success n 0 0 → readAnswer text size ≡ success n 0 0

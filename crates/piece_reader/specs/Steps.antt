@@ -10,10 +10,11 @@ use Rattle.pieces.specs.Reading.{readFrom}
 use Rattle.pieces.specs.Next.{next}
 use Rattle.piece_reader.specs.Reader.{endOf}
 
+-- The end of the piece that is next from an index on, or the index itself.
 abbrev pub pieceEnd : List ℕ → ℕ → ℕ
 pieceEnd text at = endOf at (next (readFrom text at))
 
--- the answer where n pieces were read, and no piece is next
+-- The answer where n pieces were read, by what is next.
 abbrev pub counted : ℕ → Next → Answer
 counted n (Piece s e) = answer.Pieces n
 counted n End = answer.Pieces n

@@ -2,10 +2,10 @@
 use mathlib.Core.Bool.{Bool, true, false, cond}
 use mathlib.Core.List.{List, [], _∷_, _++_, append-assoc, append-nil}
 use mathlib.Core.Path.{_≡_, refl, sym, ap, _∙_}
-use Prim.Native.Nat.{ℕ, suc, _+_, _*_, _≤_, _<_}
+use Prim.Native.Nat.{ℕ, suc, _+_, _*_, _≤_}
 use native.Mathlib.Numerals.{add-one}
 use native.Mathlib.Omega.{arith}
-use lib.ListN.{length, getD, drop, set, length-append, length-drop, length-set}
+use lib.ListN.{length, getD, drop, set, length-append, length-drop}
 use lib.Seq.{drop-cons, set-at}
 use Rattle.shared.specs.Report.{Report, success, refuse, accepted, zeroed, unreadable, piecesFull}
 use Rattle.shared.proofs.Logic.{and-left}
@@ -15,7 +15,7 @@ use Rattle.pieces.specs.declared.Answer.{Answer}
 use Rattle.pieces.specs.declared.Answer.the-variants.{Pieces, Unreadable, PiecesFull}
 use Rattle.pieces.specs.declared.Next.the-variants.{Piece, End}
 use Rattle.pieces.specs.declared.Next.the-variants
-use Rattle.pieces.specs.Reading.{Reading, done, refused, piece, reading, readFrom}
+use Rattle.pieces.specs.Reading.{reading, readFrom}
 use Rattle.pieces.specs.Next.{next}
 use Rattle.pieces.specs.Answer.{reported, fits, answerFrom, numbers, readAnswer, readSlots}
 use Rattle.pieces.specs.Steps.{put}
@@ -43,7 +43,7 @@ refused-slots : (text xs₀ : List ℕ) (r : Report) → readAnswer text (length
 unfolding readSlots
 refused-slots text xs₀ r e f = rw (e, f)
 
--- one more piece behind those stored
+-- one more piece after those stored
 put-at : (p : List ℕ) (x y : ℕ) (zs : List ℕ) (n s e : ℕ) → length p ≡ 2 * n → put (p ++ x ∷ y ∷ zs) n s e ≡ p ++ (s ∷ e ∷ []) ++ zs
 put-at p x y zs n s e h =
     ap (λ l. set l (2 * n + 1) e) (set-at p x (y ∷ zs) s (2 * n) h ∙ sym (append-assoc p (s ∷ []) (y ∷ zs)))

@@ -1,7 +1,7 @@
 -- A run that a digit began, a byte at a time. Assumes nothing.
 use mathlib.Core.Bool.{Bool, true, false, cond, _&&_, _||_}
 use mathlib.Core.List.{List}
-use mathlib.Core.Path.{_≡_, refl, sym, ap, _∙_}
+use mathlib.Core.Path.{_≡_, refl}
 use Prim.Native.Nat.{ℕ, _+_, _≤_}
 use lib.Dec.{eqb}
 use lib.ListN.{length, getD, List·getD-eq-default}
@@ -45,7 +45,7 @@ module _ (text : List ℕ) (i : ℕ) where
   pub number-other : isWord (class (getD text i 0)) ≡ false → (getD text i 0 ≡ 46 → ⊥) → false ≡ taken (joinAt text number i)
   number-other e n = digits-other (getD text i 0) (getD text (i + 1) 0) e n
 
-  -- a dot, with a byte behind it, and at the text's end
+  -- a dot, with a byte after it, and at the text's end
   pub number-dot : getD text i 0 ≡ 46 → digit (getD text (i + 1) 0) ≡ taken (joinAt text number i)
   number-dot e = digits-dot (getD text i 0) (getD text (i + 1) 0) e
 

@@ -1,4 +1,4 @@
--- An open quote: its ordinary bytes, and the byte behind them. Assumes nothing.
+-- An open quote: its ordinary bytes, and the byte after them. Assumes nothing.
 use mathlib.Core.Bool.{false}
 use mathlib.Core.List.{List, [], _∷_}
 use mathlib.Core.Path.{_≡_, refl, sym, _∙_}
@@ -30,7 +30,7 @@ ordinary-run q (b ∷ t) s i =
     (λ e. split (eqb b 92) (λ f. rw (e, f, add-zero) (rw (e, f))) (λ f. rw (e, f, add-suc, ← suc-add) (ordinary-run q t s (suc i))))
 
 module _ {text : List ℕ} {q from i : ℕ} (ρ : Reaches text (quoted q) from (quoted q) i) where
-  -- behind the ordinary bytes
+  -- after the ordinary bytes
   pub stops : {e : ℕ} → e ≡ i + runLength (ordinary q) (drop i text) → Stops text q from e
   stops h = rw h (record {
     reached = record { reads = λ s. ρ .reads s ∙ ordinary-run q (drop i text) s i ∙ rw drop-drop };
@@ -50,7 +50,7 @@ module _ {text : List ℕ} {q from i : ℕ} (σ : Stops text q from i) where
   pub quote-closed : i < length text → getD text i 0 ≡ q → EndsAt text (quoted q) from (i + 1)
   quote-closed h e = reaches-end (reaches-more ρ h (rw (eq-eqb (getD text i 0) q e))) (ends-here text closed (i + 1) (λ s r. refl) refl)
 
-  -- a backslash takes the byte behind it along, if there is one
+  -- a backslash takes the byte after it along, if there is one
   pub quote-escaped : i < length text → (getD text i 0 ≡ q → ⊥) → Reaches text (quoted q) from (quoted q) (i + 2)
   quote-escaped h n =
       let m = backslash q (getD text i 0) (σ .stop h) n in

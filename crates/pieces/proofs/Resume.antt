@@ -1,15 +1,13 @@
--- Behind its first piece a text reads on as from that piece's end. Assumes nothing.
+-- After its first piece a text reads on as from that piece's end. Assumes nothing.
 use mathlib.Core.List.{List, [], _∷_}
 use mathlib.Core.Path.{_≡_, refl, sym, ap, _∙_}
 use Prim.Native.Nat.{ℕ, suc, _+_, _≤_, _<_}
-use native.Mathlib.Nat.{add-zero}
 use native.Mathlib.Omega.{arith}
 use lib.ListN.{length, drop, length-drop}
 use lib.Seq.{drop-drop}
-use Rattle.pieces.specs.declared.Next.{Next}
 use Rattle.pieces.specs.declared.Next.the-variants.{Piece, End, Unreadable}
 use Rattle.pieces.specs.Class.{class}
-use Rattle.pieces.specs.Reading.{Reading, done, refused, piece, Kind, closed, word, number, operator, quoted, escaped, Mode, between, inside, Joined, ends, takes, join, Begun, nothing, blank, opens, begin, flush, peek, afterBegin, read, readFrom}
+use Rattle.pieces.specs.Reading.{Reading, done, refused, piece, Kind, closed, word, number, operator, quoted, escaped, between, inside, Joined, ends, takes, join, Begun, nothing, blank, opens, begin, flush, peek, read, readFrom}
 use Rattle.pieces.specs.Next.{next}
 
 -- the reading r from index e on, of the bytes t that stand from i on
@@ -58,14 +56,14 @@ rest-between (b ∷ t) s i {s′} {e} {r} h = go (begin (class b) b) refl (λ q.
 pub starts-after : (t : List ℕ) (s i : ℕ) {s′ e : ℕ} {r : Reading} → read t between s i ≡ piece s′ e r → i ≤ s′
 starts-after t s i h = rest-between t s i h .0
 
--- the first piece of the text from an index on, and the reading behind it
+-- the first piece of the text from an index on, and the reading after it
 pub record First (text : List ℕ) (at s e : ℕ) : Type 0 where
   pub reads : readFrom text at ≡ piece s e (readFrom text e)
   pub after : at ≤ s
   pub some : s < e
   pub within : e ≤ length text
 
-first : (text : List ℕ) (at : ℕ) {s e : ℕ} {r : Reading} → readFrom text at ≡ piece s e r → First text at s e
+pub first : (text : List ℕ) (at : ℕ) {s e : ℕ} {r : Reading} → readFrom text at ≡ piece s e r → First text at s e
 first text at {s} {e} {r} h =
     let m = rest-between (drop at text) at at h in
     let ρ = m .2 in

@@ -1,7 +1,7 @@
 -- Reading from an index on, a byte or a run at a time. Assumes nothing.
 use mathlib.Core.Bool.{Bool, true, false, cond, _&&_}
 use mathlib.Core.List.{List, [], _∷_}
-use mathlib.Core.Path.{_≡_, refl, sym, ap, _∙_}
+use mathlib.Core.Path.{_≡_, refl, _∙_}
 use Prim.Native.Nat.{ℕ, zero, suc, _+_, _≤_, _<_}
 use native.Mathlib.Nat.{add-zero, add-suc, suc-add}
 use native.Mathlib.Numerals.{add-one}
@@ -11,10 +11,8 @@ use borrow.Author.Tests.{ltb-true, ltb-false}
 use lib.ListN.{length, getD, take, drop, drop-of-length-le, length-drop}
 use lib.Seq.{drop-cons, drop-drop, getD-drop}
 use Rattle.shared.proofs.Logic.{split, and-left, and-right}
-use Rattle.pieces.specs.declared.bytes.Class.{Class}
-use Rattle.pieces.specs.declared.bytes.Class.the-variants.{Gap}
-use Rattle.pieces.specs.Class.{class, isWord, isOperator}
-use Rattle.pieces.specs.Reading.{Reading, done, refused, piece, Kind, word, operator, Mode, between, inside, Joined, ends, takes, join, Begun, nothing, opens, begin, flush, peek, afterBegin, read, readFrom}
+use Rattle.pieces.specs.Class.{class}
+use Rattle.pieces.specs.Reading.{Reading, done, refused, piece, Kind, Mode, between, inside, ends, takes, join, nothing, opens, begin, flush, peek, read, readFrom}
 use Rattle.pieces.specs.Sets.{runLength, all, isGap}
 use Rattle.pieces.specs.Ends.{EndsAt, joinAt}
 use Rattle.pieces.proofs.Sets.{gap-of}
@@ -81,7 +79,7 @@ module _ (k : Kind) (f : ℕ → Bool) (joins : (b p : ℕ) → join (inside k) 
   pub run-ends : (text : List ℕ) (i : ℕ) → EndsAt text k i (i + runLength f (drop i text))
   run-ends text i = record { reads = λ s. set-run (drop i text) s i ∙ rw drop-drop }
 
--- ---- the loops: a byte of the run, a byte behind it, and the end of the text
+-- ---- the loops: a byte of the run, a byte after it, and the end of the text
 
 module _ (f : ℕ → Bool) (text : List ℕ) (i : ℕ) where
   pub run-more : i < length text → f (getD text i 0) ≡ true → (i + 1) + runLength f (drop (i + 1) text) ≡ i + runLength f (drop i text)
@@ -135,7 +133,7 @@ module _ (text : List ℕ) (k : Kind) (i : ℕ) (whole : (s : ℕ) (r : Reading)
       split (ltb i (length text)) (λ h. record { reads = λ s. ends-before text i (ltb-true _ _ h) k e s ∙ whole s _ })
       (λ h. ends-out (ltb-false _ _ h))
 
--- behind a run no byte of the set stands
+-- after a run no byte of the set stands
 run-over : (f : ℕ → Bool) (t : List ℕ) → runLength f t < length t → f (getD t (runLength f t) 0) ≡ false
 run-over f [] h = absurd (omega arith)
 run-over f (b ∷ t) h = split (f b) (λ e. rw e (run-over f t (let k : suc (runLength f t) < suc (length t) = rw e at h in omega arith))) (λ e. rw (e, e))

@@ -1,9 +1,7 @@
 -- A text of gaps and lexemes, each lexeme whole and apart from what stands before it, reads as exactly its lexemes. Assumes nothing.
-use mathlib.Core.Bool.{true, false}
 use mathlib.Core.List.{List, [], _∷_, _++_, append-assoc}
 use mathlib.Core.Path.{_≡_, refl, sym, _∙_}
-use Prim.Native.Nat.{ℕ, zero, suc, _+_, _≤_}
-use native.Mathlib.Omega.{arith}
+use Prim.Native.Nat.{ℕ, suc, _+_}
 use lib.ListN.{length, length-append}
 use lib.Seq.{slice, take-at, drop-at}
 use Rattle.pieces.specs.declared.bytes.Class.the-variants.{Gap}
@@ -30,12 +28,12 @@ abbrev pub Gaps : List ℕ → Type 0
 Gaps [] = Unit {0}
 Gaps (b ∷ g) = (class b ≡ Gap) × Gaps g
 
--- what is left open behind a gap
+-- what is left open after a gap
 abbrev pub afterGap : Left → List ℕ → Left
 afterGap l [] = l
 afterGap l (b ∷ g) = clear
 
--- `Separated l segs n`: well separated, behind what l says is left open; n is left open at the end
+-- `Separated l segs n`: well separated, after what l says is left open; n is left open at the end
 pub data Separated : Left → List Seg → Left → Type 0 where
   end : {l : Left} → Separated l [] l
   gap : {l n : Left} {g : List ℕ} {segs : List Seg} → Gaps g → Separated (afterGap l g) segs n → Separated l (blank g ∷ segs) n
@@ -58,7 +56,7 @@ solid-end λ′ = go (λ′ .rests)
     go : {l : Left} → Rests (inside (λ′ .end)) l → (s i : ℕ) (r : Reading) → flush (inside (λ′ .end)) s i r ≡ piece s i r
     go (rests-inside d) = d
 
--- the bytes of a lexeme behind what is left open
+-- the bytes of a lexeme after what is left open
 read-lexeme : {m : Mode} {l : Left} {w : List ℕ} (r : List ℕ) → Rests m l → (λ′ : Lexeme w) → Apart l w → (s i : ℕ) → read (w ++ r) m s i ≡ flush m s i (read r (inside (λ′ .end)) i (past i w))
 read-lexeme {m} {l} {w} r ρ λ′ a s i =
     let ended : join m (λ′ .head) (peek (λ′ .tail ++ r)) ≡ _ = rests-apart ρ (λ′ .head) (λ′ .tail) r (rw (λ′ .bytes) at a) in
@@ -97,7 +95,7 @@ cut-segs (lex w ∷ segs) pre zs =
 pub reads-back : {n : Left} {segs : List Seg} (zs : List ℕ) → Separated clear segs n → cut (flatten segs) (length (lexemes segs)) (numbers (reading (flatten segs)) ++ zs) ≡ lexemes segs
 reads-back {segs = segs} zs r = rw (reading-segs r) (cut-segs segs [] zs)
 
--- ---- writing goes on at the end, behind what is left open
+-- ---- writing goes on at the end, after what is left open
 
 pub separated-append : {l n o : Left} {s t : List Seg} → Separated l s n → Separated n t o → Separated l (s ++ t) o
 separated-append end q = q

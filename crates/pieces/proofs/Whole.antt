@@ -1,8 +1,8 @@
 -- A lexeme that reads as one piece goes on doing so before whatever does not join it. Assumes nothing.
 use mathlib.Core.Bool.{Bool, true, false, cond, _&&_, _||_}
-use mathlib.Core.List.{List, [], _∷_, _++_, append-nil}
-use mathlib.Core.Path.{_≡_, refl, sym, ap, _∙_}
-use Prim.Native.Nat.{ℕ, suc, _+_, _≤_, _<_}
+use mathlib.Core.List.{List, [], _∷_, _++_}
+use mathlib.Core.Path.{_≡_, refl, _∙_}
+use Prim.Native.Nat.{ℕ, suc, _+_}
 use native.Mathlib.Omega.{arith}
 use lib.Dec.{eqb}
 use lib.ListN.{length}
@@ -13,7 +13,7 @@ use Rattle.pieces.specs.declared.bytes.Class.{Class}
 use Rattle.pieces.specs.declared.bytes.Class.the-variants.{Gap, Single, Quote, Word, Operator, Unclassed}
 use Rattle.pieces.specs.Class.{class, isWord, isOperator}
 use Rattle.pieces.specs.Reading.{Reading, done, refused, piece, Kind, closed, word, number, operator, quoted, escaped, Mode, between, inside, Joined, ends, takes, Begun, nothing, blank, opens}
-use Rattle.pieces.specs.Reading.{digits, inQuote, join, begin, flush, peek, read, reading}
+use Rattle.pieces.specs.Reading.{digits, join, begin, flush, peek, read, reading}
 use Rattle.pieces.proofs.Sets.{operator-of}
 use Rattle.pieces.proofs.Resume.{flushed, starts-after}
 
@@ -39,13 +39,13 @@ leaves Unclassed b = clear
 abbrev pub leftBy : List ℕ → Left
 leftBy w = leaves (class (peek w)) (peek w)
 
--- a run begun with a digit does not take w's first byte, whatever stands behind w
+-- a run begun with a digit does not take w's first byte, whatever stands after w
 abbrev pub Undigit : List ℕ → Type 0
 Undigit [] = Unit {0}
 Undigit (b ∷ []) = digits number b 48 ≡ ends
 Undigit (b ∷ c ∷ t) = digits number b c ≡ ends
 
--- w is not taken into what is left open, whatever stands behind it
+-- w is not taken into what is left open, whatever stands after it
 abbrev pub Apart : Left → List ℕ → Type 0
 Apart clear w = Unit {0}
 Apart shut w = Unit {0}
@@ -53,7 +53,7 @@ Apart afterWord w = isWord (class (peek w)) ≡ false
 Apart afterNumber w = Undigit w
 Apart afterOperator w = isOperator (class (peek w)) ≡ false
 
--- ---- the byte behind: where the text ends it counts as 0, at which the fewest bytes are taken; a digit lets the most be taken
+-- ---- the byte after: where the text ends it counts as 0, at which the fewest bytes are taken; a digit lets the most be taken
 
 keep-least : (k : Kind) (w x d : Bool) {l : Kind} → cond (w || (x && false)) (takes k) ends ≡ takes l → cond (w || (x && d)) (takes k) ends ≡ takes l
 keep-least k true x d e = e
@@ -164,7 +164,7 @@ left-begin Unclassed b e = cc
 abbrev pub ReadsWhole : List ℕ → Type 0
 ReadsWhole w = reading w ≡ piece 0 (length w) done
 
--- the index behind w
+-- the index after w
 abbrev pub past : ℕ → List ℕ → ℕ
 past i [] = i
 past i (b ∷ t) = past (suc i) t
@@ -173,7 +173,7 @@ pub past-length : (w : List ℕ) (i : ℕ) → past i w ≡ i + length w
 past-length [] i = omega arith
 past-length (b ∷ t) i = omega (arith, past-length t (suc i))
 
--- the open piece of the kind k takes all of t, before any r, and stands whole behind it
+-- the open piece of the kind k takes all of t, before any r, and stands whole after it
 record Goes (k : Kind) (t : List ℕ) : Type 0 where
   end : Kind
   solid : Solid end
@@ -236,18 +236,6 @@ lexeme (b ∷ t) e = go (begin (class b) b) refl
 pub parts : (m : Mode) (b : ℕ) (t : List ℕ) (s i : ℕ) → join m b (peek t) ≡ ends → read (b ∷ t) m s i ≡ flush m s i (read (b ∷ t) between i i)
 unfolding read
 parts m b t s i e = rw e
-
--- before a text r that is apart, the lexeme is the first piece, and r is read on from its end
-pub reads-before : (w r : List ℕ) → ReadsWhole w → Apart (leftBy w) r → (s i : ℕ) → read (w ++ r) between s i ≡ piece i (past i w) (read r between (past i w) (past i w))
-unfolding read
-reads-before w r e a s i = let λ′ = lexeme w e in λ′ .reads r s i ∙ go r a (λ′ .rests) i (past i w)
-  where
-    solid-of : {k : Kind} {l : Left} → Rests (inside k) l → Solid k
-    solid-of (rests-inside d) = d
-
-    go : (r : List ℕ) {k : Kind} → Apart (leftBy w) r → Rests (inside k) (leftBy w) → (s i : ℕ) → read r (inside k) s i ≡ piece s i (read r between i i)
-    go [] a ρ s i = solid-of ρ s i done
-    go (b ∷ r) {k} a ρ s i = parts (inside k) b r s i (rw append-nil at (rests-apart ρ b r [] a)) ∙ solid-of ρ s i _
 
 -- ---- a piece begun with an operator byte has no other bytes
 

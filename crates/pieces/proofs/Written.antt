@@ -1,19 +1,18 @@
 -- What a writer keeps, from left to right: its bytes are well separated, and its lexemes are the tokens' with commas inserted.
 -- The last two laws are demand 3, from the reader's promise alone. Assumes nothing.
-use mathlib.Core.Bool.{Bool, true, false, cond}
+use mathlib.Core.Bool.{true}
 use mathlib.Core.List.{List, [], _∷_, _++_, append-assoc, append-nil}
 use mathlib.Core.Path.{_≡_, refl, sym, ap, _∙_}
 use Prim.Native.Nat.{ℕ, zero, suc, _+_, _*_, _≤_}
 use native.Mathlib.Nat.{add-zero, zero-add}
 use native.Mathlib.Omega.{arith}
-use lib.Dec.{T, leb}
+use lib.Dec.{T}
 use lib.ListN.{length, drop, length-append}
 use borrow.Author.Tests.{le-leb}
-use Rattle.shared.specs.Report.{Report, success, putFirst}
-use Rattle.pieces.specs.declared.bytes.Class.{Class}
+use Rattle.shared.specs.Report.{success, putFirst}
 use Rattle.pieces.specs.declared.bytes.Class.the-variants.{Single}
-use Rattle.pieces.specs.Class.{class, isWord, isOperator}
-use Rattle.pieces.specs.Reading.{Reading, done, refused, piece, peek, read, reading}
+use Rattle.pieces.specs.Class.{class}
+use Rattle.pieces.specs.Reading.{Reading, done, refused, piece, read, reading}
 use Rattle.pieces.specs.Answer.{fits, answerFrom, numbers, readAnswer, readSlots, cut}
 use Rattle.pieces.specs.Commas.{closer, struck, Inserted, none, same, more}
 use Rattle.pieces.proofs.Whole.{Left, clear, shut, afterWord, afterNumber, afterOperator, leftBy, Apart, ReadsWhole, undotted, past, past-length}
@@ -56,7 +55,7 @@ comma-single : class 44 ≡ Single
 unfolding class
 comma-single = refl
 
--- behind the comma, with or without a gap, anything stands apart
+-- after the comma, with or without a gap, anything stands apart
 comma-apart : (g w : List ℕ) → Apart (afterGap (leftBy (44 ∷ [])) g) w
 unfolding class
 comma-apart [] w = tt

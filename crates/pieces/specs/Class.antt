@@ -7,11 +7,12 @@ use Rattle.shared.specs.Bytes.{byte, bytes, oneOf, within, digit}
 use Rattle.pieces.specs.declared.bytes.Class.{Class}
 use Rattle.pieces.specs.declared.bytes.Class.the-variants.{Gap, Single, Quote, Word, Operator, Unclassed}
 
--- A–Z a–z 0–9 _ and 128–255
+-- A byte of A–Z, a–z, 0–9, _ or 128–255.
 abbrev pub wordByte : ℕ → Bool
-wordByte b = within (byte "A") (byte "Z") b || within (byte "a") (byte "z") b || digit b || eqb b (byte "_") || within 128 255 b
+wordByte b =
+    within (byte "A") (byte "Z") b || within (byte "a") (byte "z") b || digit b || eqb b (byte "_") || within 128 255 b
 
--- An operator byte is any other of 33–126.
+-- The class of a byte. An operator byte is any other of 33–126.
 unfoldable pub class : ℕ → Class
 class b =
     cond (oneOf (bytes "\n ") b) Gap
@@ -20,8 +21,10 @@ class b =
     (cond (wordByte b) Word
     (cond (within 33 126 b) Operator Unclassed))))
 
+-- The class is Word.
 abbrev pub isWord : Class → Bool
 isWord = elim [ Gap ↦ false | Single ↦ false | Quote ↦ false | Word ↦ true | Operator ↦ false | Unclassed ↦ false ]
 
+-- The class is Operator.
 abbrev pub isOperator : Class → Bool
 isOperator = elim [ Gap ↦ false | Single ↦ false | Quote ↦ false | Word ↦ false | Operator ↦ true | Unclassed ↦ false ]

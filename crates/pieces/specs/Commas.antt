@@ -6,10 +6,11 @@ use Prim.Native.Nat.{ℕ, suc}
 use lib.Dec.{T}
 use Rattle.shared.specs.Bytes.{bytes, sameBytes}
 
--- the comma, `]` and `}` are known by their bytes
+-- The lexeme is a comma. The comma, `]` and `}` are known by their bytes.
 abbrev pub comma : List ℕ → Bool
 comma w = sameBytes w (bytes ",")
 
+-- The lexeme is `]` or `}`.
 abbrev pub closer : List ℕ → Bool
 closer w = sameBytes w (bytes "]") || sameBytes w (bytes "}")
 
@@ -17,7 +18,8 @@ closer w = sameBytes w (bytes "]") || sameBytes w (bytes "}")
 pub data Inserted : List (List ℕ) → List (List ℕ) → ℕ → Type 0 where
   none : Inserted [] [] 0
   same : {w : List ℕ} {xs ys : List (List ℕ)} {n : ℕ} → Inserted xs ys n → Inserted (w ∷ xs) (w ∷ ys) n
-  more : {w : List ℕ} {xs ys : List (List ℕ)} {n : ℕ} → T (closer w) → Inserted xs ys n → Inserted (w ∷ xs) (bytes "," ∷ w ∷ ys) (suc n)
+  more : {w : List ℕ} {xs ys : List (List ℕ)} {n : ℕ} → T (closer w) → Inserted xs ys n →
+      Inserted (w ∷ xs) (bytes "," ∷ w ∷ ys) (suc n)
 
 -- Only commas, or nothing, stand before a first `]` or `}`.
 abbrev pub closes : List (List ℕ) → Bool

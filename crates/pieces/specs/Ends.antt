@@ -15,18 +15,20 @@ use Rattle.pieces.specs.Reading.{Kind, quoted, inside, Joined, ends, tak
 pub record EndsAt (text : List ℕ) (k : Kind) (from e : ℕ) : Type 0 where
   pub reads : (s : ℕ) → read (drop from text) (inside k) s from ≡ piece s e (readFrom text e)
 
+-- A quote opened by the byte q, and open at an index, ends there, or is never closed.
 abbrev pub QuoteEnds : List ℕ → ℕ → ℕ → QuoteEnd → Type 0
 QuoteEnds text q from (At e) = EndsAt text (quoted q) from e
 QuoteEnds text q from Never = (s : ℕ) → read (drop from text) (inside (quoted q)) s from ≡ refused s
 
--- a byte that a quote opened by q passes over alone: neither q nor a backslash
+-- A byte that a quote opened by q passes over alone: neither q nor a backslash.
 abbrev pub ordinary : ℕ → ℕ → Bool
 ordinary q b = not (eqb b q) && not (eqb b (byte "\\"))
 
+-- The open piece takes the byte.
 abbrev pub taken : Joined → Bool
 taken ends = false
 taken (takes k) = true
 
--- what the byte at an index does to an open piece
+-- What the byte at an index does to an open piece of the kind k.
 abbrev pub joinAt : List ℕ → Kind → ℕ → Joined
 joinAt text k i = join (inside k) (getD text i 0) (getD text (i + 1) 0)

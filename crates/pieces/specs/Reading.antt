@@ -24,45 +24,45 @@ pub data Reading : Type 0 where
 --     number      a run of word bytes begun with a digit
 --     operator    a run of operator bytes
 --     quoted q    in a quote opened by the byte q
---     escaped q   in it, behind a backslash
+--     escaped q   in it, after a backslash
 pub data Kind : Type 0 where
   closed word number operator : Kind
   quoted escaped : ℕ → Kind
 
--- between pieces, or inside one
+-- The reader is between pieces, or inside one of a kind.
 pub data Mode : Type 0 where
   between : Mode
   inside : Kind → Mode
 
--- what a byte does to an open piece: the piece ends before it, or takes it and goes on as a kind
+-- What a byte does to an open piece: the piece ends before it, or takes it and goes on as a kind.
 pub data Joined : Type 0 where
   ends : Joined
   takes : Kind → Joined
 
--- what a byte begins that no piece takes: nothing (it has no class), a gap, or a piece of a kind
+-- What a byte begins that no piece takes: nothing (it has no class), a gap, or a piece of a kind.
 pub data Begun : Type 0 where
   nothing blank : Begun
   opens : Kind → Begun
 
 -- A run begun with a digit, which goes on as k: word bytes, and a `.` that a digit follows.
 abbrev pub digits : Kind → ℕ → ℕ → Joined
-digits k b behind = cond (isWord (class b) || (eqb b (byte ".") && digit behind)) (takes k) ends
+digits k b after = cond (isWord (class b) || (eqb b (byte ".") && digit after)) (takes k) ends
 
--- A quote runs to the next equal quote; a backslash takes the byte behind it along.
+-- A quote runs to the next equal quote; a backslash takes the byte after it along.
 abbrev pub inQuote : ℕ → ℕ → Kind
 inQuote q b = cond (eqb b q) closed (cond (eqb b (byte "\\")) (escaped q) (quoted q))
 
--- The byte b, with the byte behind it (0 at the text's end), at an open piece.
+-- What the byte b does to an open piece; after is the byte that follows, or 0 at the text's end.
 abbrev pub join : Mode → ℕ → ℕ → Joined
-join between b behind = ends
-join (inside closed) b behind = ends
-join (inside word) b behind = cond (isWord (class b)) (takes word) ends
-join (inside number) b behind = digits number b behind
-join (inside operator) b behind = cond (isOperator (class b)) (takes operator) ends
-join (inside (quoted q)) b behind = takes (inQuote q b)
-join (inside (escaped q)) b behind = takes (quoted q)
+join between b after = ends
+join (inside closed) b after = ends
+join (inside word) b after = cond (isWord (class b)) (takes word) ends
+join (inside number) b after = digits number b after
+join (inside operator) b after = cond (isOperator (class b)) (takes operator) ends
+join (inside (quoted q)) b after = takes (inQuote q b)
+join (inside (escaped q)) b after = takes (quoted q)
 
--- The byte b, of the class given, where no piece takes it.
+-- What the byte b, of the class given, begins where no piece takes it.
 abbrev pub begin : Class → ℕ → Begun
 begin Gap b = blank
 begin Single b = opens closed
@@ -71,7 +71,7 @@ begin Word b = opens (cond (digit b) number word)
 begin Operator b = opens operator
 begin Unclassed b = nothing
 
--- What is open from s ends at i: a piece, or a quote that is never closed; r is read from i on.
+-- What is open from s on ends at i, as a piece or as a quote that is never closed; r is what is read from i on.
 abbrev pub flush : Mode → ℕ → ℕ → Reading → Reading
 flush between s i r = r
 flush (inside closed) s i r = piece s i r
@@ -81,10 +81,12 @@ flush (inside operator) s i r = piece s i r
 flush (inside (quoted q)) s i r = refused s
 flush (inside (escaped q)) s i r = refused s
 
+-- The first byte, or 0 where there is none.
 abbrev pub peek : List ℕ → ℕ
 peek [] = 0
 peek (b ∷ t) = b
 
+-- The reading goes on by what the byte did to the open piece, or by what it begins.
 abbrev pub afterJoin : Joined → (Kind → Reading) → Reading → Reading
 afterJoin ends more over = over
 afterJoin (takes k) more over = more k
@@ -94,13 +96,14 @@ afterBegin nothing i more = refused i
 afterBegin blank i more = more between
 afterBegin (opens k) i more = more (inside k)
 
--- The text's bytes from index i on, in the mode m, where what is open began at s.
+-- The reading of a text's bytes from index i on, in the mode m, where what is open began at s.
 unfoldable pub read : List ℕ → Mode → ℕ → ℕ → Reading
 read [] m s i = flush m s i done
 read (b ∷ t) m s i =
     afterJoin (join m b (peek t)) (λ k. read t (inside k) s (suc i))
     (flush m s i (afterBegin (begin (class b) b) i (λ n. read t n i (suc i))))
 
+-- The reading of a whole text.
 abbrev pub reading : List ℕ → Reading
 reading text = read text between 0 0
 

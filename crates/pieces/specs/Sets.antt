@@ -7,6 +7,7 @@ use lib.Dec.{eqb, ltb}
 use Rattle.pieces.specs.declared.bytes.Class.{Class}
 use Rattle.pieces.specs.declared.bytes.Class.the-variants.{Gap, Single, Quote, Word, Operator, Unclassed}
 
+-- Bit k of the number is set.
 abbrev pub bit : ℕ → ℕ → Bool
 bit n k = eqb (n / 2 ^ k % 2) 1
 
@@ -14,12 +15,12 @@ bit n k = eqb (n / 2 ^ k % 2) 1
 abbrev pub member : ℕ → ℕ → Bool → ℕ → Bool
 member low high upper b = cond (ltb b 64) (bit low b) (cond (ltb b 128) (bit high (b - 64)) upper)
 
--- how many bytes of the set stand first
+-- How many bytes of the set f stand first, before one that is not in it.
 abbrev pub runLength : (ℕ → Bool) → List ℕ → ℕ
 runLength f [] = zero
 runLength f (b ∷ t) = cond (f b) (suc (runLength f t)) zero
 
--- all bytes are in the set
+-- All bytes are in the set f.
 abbrev pub all : (ℕ → Bool) → List ℕ → Bool
 all f [] = true
 all f (b ∷ w) = f b && all f w

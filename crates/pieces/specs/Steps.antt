@@ -12,16 +12,16 @@ use Rattle.pieces.specs.declared.runs.QuoteEnd.the-variants.{At, Never}
 use Rattle.pieces.specs.Class.{class}
 use Rattle.pieces.specs.Sets.{isGap}
 
--- a byte that is no gap stands at i
+-- At the index i stands a byte that is no gap.
 pub record Begins (text : List ℕ) (i : ℕ) : Type 0 where
   pub inside : i < length text
   pub solid : isGap (class (getD text i 0)) ≡ false
 
--- what a quote opened at s is
+-- What stands at s, where a quote is opened, by where it ends.
 abbrev pub quotedNext : ℕ → QuoteEnd → Next
 quotedNext s (At e) = Piece s e
 quotedNext s Never = Unreadable s
 
--- the piece from s to e behind n others
+-- The slice with the piece from s to e put after n others.
 abbrev pub put : List ℕ → ℕ → ℕ → ℕ → List ℕ
 put xs n s e = set (set xs (2 * n) s) (2 * n + 1) e

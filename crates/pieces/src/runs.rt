@@ -1,6 +1,8 @@
-// Where an open piece ends, by its kind.
+// Where an open piece ends, by its kind. Each function takes the index from which it looks, and answers the
+// index after what it passes over.
 use crate::bytes;
 use crate::eights;
+use shared::classes::is_digit;
 ghost use mathlib.Core.Path.{_≡_};
 ghost use mathlib.Core.Bool.{cond};
 ghost use Prim.Native.Nat.{_+_, _≤_, _<_};
@@ -11,51 +13,53 @@ ghost use Rattle.pieces.specs.Reading.{word, number, operator};
 ghost use Rattle.pieces.specs.Sets.{member, runLength, all, isGap};
 ghost use Rattle.pieces.specs.Ends.{EndsAt, QuoteEnds, taken, joinAt, ordinary};
 
-// Where a quote ends: behind the quote that closes it, or never.
+// Where a quote ends.
 pub enum QuoteEnd {
-    At(usize),
+    // The index after the quote that closes it.
+    At { end: usize },
+    // No quote closes it before the text's end.
     Never,
 }
 
-// Behind the gaps that start at `from`.
+// The index after the gaps that start at `from`.
 pub fn gap_end(text: &[u8], from: usize) -> usize
     ensures { λ r. ⌜ r ≡ from + runLength (λ b. isGap (class b)) (drop from (now (text .entry))) ⌝ }
 {
     run_end(text, from, bytes::GAP_LOW, 0, false)
 }
 
-// Behind a run of word bytes that the byte `first` began, right before `from`.
+// The index after a run of word bytes which the byte `first`, directly before `from`, began.
 pub fn word_end(text: &[u8], from: usize, first: u8) -> usize
     ensures { λ r. ⌜ EndsAt (now (text .entry)) (cond (digit first) number word) from r ⌝ }
 {
-    if bytes::is_digit(first) {
+    if is_digit(first) {
         return number_end(text, from);
     }
     run_end(text, from, bytes::WORD_LOW, bytes::WORD_HIGH, true)
 }
 
-// Behind a run of operator bytes.
+// The index after the run of operator bytes that starts at `from`.
 pub fn operator_end(text: &[u8], from: usize) -> usize
     ensures { λ r. ⌜ EndsAt (now (text .entry)) operator from r ⌝ }
 {
     run_end(text, from, bytes::OPERATOR_LOW, bytes::OPERATOR_HIGH, false)
 }
 
-// Behind the quote that closes what `quote` opened, right before `from`.
+// The index after the quote that closes what the byte `quote`, directly before `from`, opened.
 pub fn quote_end(text: &[u8], from: usize, quote: u8) -> QuoteEnd
     ensures { λ r. ⌜ QuoteEnds (now (text .entry)) quote from r ⌝ }
 {
     let mut i = ordinary_end(text, from, quote);
     while i < text.len() {
         if text[i] == quote {
-            return QuoteEnd::At(i + 1);
+            return QuoteEnd::At { end: i + 1 };
         }
-        i = ordinary_end(text, i + 2, quote); // a backslash takes the byte behind it along
+        i = ordinary_end(text, i + 2, quote); // a backslash takes the byte after it along
     }
     QuoteEnd::Never
 }
 
-// Behind the ordinary bytes that start at `from`: neither the quote nor a backslash.
+// The index after the ordinary bytes that start at `from`: those that are neither the quote nor a backslash.
 pub fn ordinary_end(text: &[u8], from: usize, quote: u8) -> usize
     ensures { λ r. ⌜ r ≡ from + runLength (ordinary quote) (drop from (now (text .entry))) ⌝ }
 {
@@ -69,6 +73,7 @@ pub fn ordinary_end(text: &[u8], from: usize, quote: u8) -> usize
     i
 }
 
+// Whether the byte is neither the quote nor a backslash.
 fn is_ordinary(quote: u8, b: u8) -> bool
     ensures { λ r. ⌜ r ≡ ordinary quote b ⌝ }
 {
@@ -78,7 +83,7 @@ fn is_ordinary(quote: u8, b: u8) -> bool
     b != b'\\'
 }
 
-// Behind as many of them as eights that are tested at once pass over.
+// The index after as many ordinary bytes from `from` on as can be passed over eight at a time.
 fn ordinary_eights(text: &[u8], from: usize, quote: u8) -> usize
     ensures { λ r. ⌜ r + runLength (ordinary quote) (drop r (now (text .entry)))
         ≡ from + runLength (ordinary quote) (drop from (now (text .entry))) ⌝ }
@@ -97,6 +102,7 @@ fn ordinary_eights(text: &[u8], from: usize, quote: u8) -> usize
     i
 }
 
+// Whether the eight bytes from `at` on are ordinary.
 fn eight_ordinary(text: &[u8], at: usize, quote: u8) -> bool
     requires { ⌜ at + 8 ≤ length (now text) ⌝ }
     ensures { λ r. ⌜ r ≡ all (ordinary quote) (take 8 (drop at (now (text .entry)))) ⌝ }
@@ -105,7 +111,7 @@ fn eight_ordinary(text: &[u8], at: usize, quote: u8) -> bool
     eights::bytes_other(x, quote) & eights::bytes_other(x, b'\\') == eights::HIGH
 }
 
-// Behind a run that a digit began: word bytes, and each `.` that a digit follows.
+// The index after a run that a digit began: word bytes, and each `.` that a digit follows.
 fn number_end(text: &[u8], from: usize) -> usize
     ensures { λ r. ⌜ EndsAt (now (text .entry)) number from r ⌝ }
 {
@@ -131,14 +137,14 @@ fn number_takes(text: &[u8], i: usize) -> bool
     if b != b'.' {
         return false;
     }
-    let behind = i + 1;
-    if behind < text.len() {
-        return bytes::is_digit(text[behind]);
+    let after = i + 1;
+    if after < text.len() {
+        return is_digit(text[after]);
     }
-    false // the text ends behind the dot
+    false // the text ends after the dot
 }
 
-// Behind the run of bytes of a set that starts at `from`.
+// The index after the run of bytes of a set that starts at `from`.
 fn run_end(text: &[u8], from: usize, low: u64, high: u64, upper: bool) -> usize
     ensures { λ r. ⌜ r ≡ from + runLength (member low high upper) (drop from (now (text .entry))) ⌝ }
 {

@@ -87,7 +87,7 @@ unfolding hasItsLexeme readsWhole read
 itself-operators [] e = rw e
 itself-operators (b ∷ w) e = rw (e, only w) (split (runOf operatorByte (b ∷ w)) (λ r. rw (r, operators-whole (b ∷ w) r)) (λ r. rw r))
 
--- behind Comma, and none of the others with a fixed lexeme
+-- after Comma, and none of the others with a fixed lexeme
 past : (k : ℕ) {j : ℕ} → j < k → (k ≡ suc j → ⊥) → suc j < k
 past k l n = omega arith
 

@@ -1,5 +1,5 @@
 -- Names of four to eight bytes, by their first four and last four bytes in one number. Assumes nothing.
-use mathlib.Core.Bool.{Bool, true, _&&_}
+use mathlib.Core.Bool.{Bool, true}
 use mathlib.Core.List.{List, [], _∷_}
 use mathlib.Core.Path.{_≡_, refl, sym, _∙_}
 use Prim.Native.Nat.{ℕ, zero, suc, _+_, _-_, _*_, _≤_, _<_}
@@ -10,16 +10,14 @@ use lib.Dec.{eqb}
 use lib.ListN.{length, getD, take, drop}
 use lib.Seq.{drop-cons}
 use Rattle.shared.proofs.Logic.{and-left, and-right}
-use Rattle.shared.proofs.Below.{agree-below}
-use Rattle.rows.specs.Row.{number}
 use Rattle.pieces.specs.Class.{class}
 use Rattle.pieces.specs.Sets.{all}
 use Rattle.pieces.specs.Eight.{eightOnes}
 use Rattle.pieces.proofs.Eight.{Bytes, Each, same-each, and-each, xor-each, eight-test}
 use Rattle.plain.specs.Scan.{isWordByte, runOf}
-use Rattle.plain.specs.Eight.{lettersIn, wordsIn}
+use Rattle.plain.specs.Eight.{foursOf, lettersIn, wordsIn}
 use Rattle.plain.proofs.Eight.{highs, letters-each, highs-each, eight-words}
-use Rattle.plain.proofs.Runs.{all-parts, both-ends}
+use Rattle.plain.proofs.Runs.{all-parts, both-ends, only-words}
 
 -- the code's test, of as many bytes as `ones` has the byte 1: with its high bit set a byte is no letter
 abbrev letterBits : ℕ → ℕ → ℕ
@@ -30,7 +28,7 @@ isLetter b = eqb (letterBits 1 b) 128
 
 letter-word : (b : ℕ) → b < 256 → isLetter b ≡ true → isWordByte b ≡ true
 unfolding class
-letter-word b h e = and-right (isLetter b) (isWordByte b) (agree-below 256 (λ b. isLetter b && isWordByte b) isLetter refl b h ∙ e)
+letter-word = only-words isLetter refl
 
 letters-words : (s : List ℕ) → Bytes s → all isLetter s ≡ true → all isWordByte s ≡ true
 letters-words [] bytes e = refl
@@ -77,7 +75,7 @@ module _ (w : List ℕ) (h : 4 ≤ length w) (k : length w ≤ 8) (bytes : Bytes
       let high : all isWordByte (take 4 (drop from w)) ≡ all isWordByte (drop 4 parts) = rw (four w from (omega arith)) in
       all-parts isWordByte 4 parts ∙ rw (← low, ← high) (both-ends 4 isWordByte w h (omega arith) (omega arith))
 
-  module _ {x : ℕ} (e : x ≡ number w 0 + number w from * 0x1_0000_0000) where
+  module _ {x : ℕ} (e : x ≡ foursOf w) where
     pub letters-run : eqb (letterBits eightOnes x) (128 * eightOnes) ≡ true → runOf isWordByte w ≡ true
     letters-run t =
         let whole = eight-test parts 0 (omega arith) small (letterBits 1) isLetter (λ b g. refl) {x = x} (omega arith) only-letters in

@@ -15,7 +15,7 @@ use Rattle.rows.specs.Kinds.{Eof, LeftBrace, Comma, Record, Dot}
 use Rattle.rows.specs.Row.{Row, number, rowAt}
 use Rattle.rows.specs.Token.{bytesOf}
 use Rattle.definition.specs.Plain.{operatorByte, endsOperator, beginsDigit, tightBefore, tightBehind}
-use Rattle.plain.specs.Scan.{Facts, unseen, mute, behind, meets, meetsBehind}
+use Rattle.plain.specs.Scan.{Facts, unseen, mute, factsAfter, meets, meetsAfter}
 use Rattle.plain.specs.LookBack.{factsFrom, factsAt, Near}
 use Rattle.plain.proofs.Bytes.{digit-first, operator-last, part-slice}
 
@@ -24,15 +24,15 @@ module _ (rows text : List ℕ) where
   unfolding factsFrom
   facts-none at h = let z : at / 16 ≡ 0 = omega arith in rw z
 
-  -- behind the row at an index
-  pub facts-next : (at : ℕ) → factsAt rows text (at + 16) ≡ behind (factsAt rows text at) (rowAt rows at .kind) (bytesOf text (rowAt rows at))
+  -- after the row at an index
+  pub facts-next : (at : ℕ) → factsAt rows text (at + 16) ≡ factsAfter (factsAt rows text at) (rowAt rows at .kind) (bytesOf text (rowAt rows at))
   unfolding factsFrom
   facts-next at =
       let n : (at + 16) / 16 ≡ suc (at / 16) = omega arith in
       let z : at + 16 - 16 ≡ at = omega arith in
       rw (n, z)
 
--- behind a row of the kind k, as the code reads it
+-- after a row of the kind k, as the code reads it
 module _ (rows text : List ℕ) (at : ℕ) (h : 16 ≤ at) {k : ℕ} (e : k ≡ number rows (at - 16 + 4)) where
   abbrev before : Facts
   before = factsAt rows text (at - 16)
@@ -40,7 +40,7 @@ module _ (rows text : List ℕ) (at : ℕ) (h : 16 ≤ at) {k : ℕ} (e : k ≡ 
   abbrev now : Facts
   now = factsAt rows text at
 
-  is : now ≡ behind before k (bytesOf text (rowAt rows (at - 16)))
+  is : now ≡ factsAfter before k (bytesOf text (rowAt rows (at - 16)))
   is = let z : at - 16 + 16 ≡ at = omega arith in rw (z, ← e) at (facts-next rows text (at - 16))
 
   pub comma-eof : k ≡ Eof → now .comma ≡ before .comma
@@ -67,13 +67,13 @@ module _ (rows text : List ℕ) (at : ℕ) (h : 16 ≤ at) {k : ℕ} (e : k ≡ 
   pub meets-mute : (j : ℕ) → mute k ≡ true → meets now j ≡ meets before j
   meets-mute j m = ap (λ q. meets q j) is ∙ rw m
 
-  meets-written : (j : ℕ) → mute k ≡ false → meets now j ≡ meetsBehind k (bytesOf text (rowAt rows (at - 16))) j
+  meets-written : (j : ℕ) → mute k ≡ false → meets now j ≡ meetsAfter k (bytesOf text (rowAt rows (at - 16))) j
   meets-written j m = ap (λ q. meets q j) is ∙ rw m
 
 meets-none : (rows text : List ℕ) (at j : ℕ) → at < 16 → meets (factsAt rows text at) j ≡ false
 meets-none rows text at j h = rw (facts-none rows text at h, and-false)
 
--- ---- behind the last token but Newline and Eof
+-- ---- after the last token but Newline and Eof
 
 no-bytes : (a e : ℕ) (text : List ℕ) → min e (length text) ≤ a → slice a e text ≡ []
 no-bytes a e text h = drop-of-length-le (take e text) {i = a} (rw (length-take e text) h)
@@ -88,37 +88,37 @@ module _ (rows text : List ℕ) {at near : ℕ} (ν : Near rows at near) (k : �
   near-none h = sym (ν .same text k ∙ meets-none rows text near k h)
 
   module _ (h : 16 ≤ near) {r : Row} (e : r ≡ rowAt rows (near - 16)) {m : ℕ} (em : m ≡ min (r .end) (length text)) where
-    near-is : meets (factsAt rows text at) k ≡ meetsBehind (r .kind) (bytesOf text r) k
+    near-is : meets (factsAt rows text at) k ≡ meetsAfter (r .kind) (bytesOf text r) k
     near-is = rw e (ν .same text k ∙ meets-written rows text near h refl k (ν .written h))
 
     pub near-empty : m ≤ r .start → false ≡ meets (factsAt rows text at) k
     near-empty l = sym (near-is ∙ rw (no-bytes (r .start) (r .end) text (rw em at l), and-false))
 
-    pub near-behind : r .start < m → {x : Bool} → x ≡ meetsBehind (r .kind) (take (m - r .start) (drop (r .start) text)) k → x ≡ meets (factsAt rows text at) k
-    near-behind l f =
+    pub near-after : r .start < m → {x : Bool} → x ≡ meetsAfter (r .kind) (take (m - r .start) (drop (r .start) text)) k → x ≡ meets (factsAt rows text at) k
+    near-after l f =
         let part : take (m - r .start) (drop (r .start) text) ≡ bytesOf text r =
         part-slice (r .start) m text (omega arith) ∙ ap (drop (r .start)) (rw em (same-take (r .end) text)) in
         f ∙ rw part (sym near-is)
 
--- ---- directly behind a token of the kind j and the lexeme w
+-- ---- directly after a token of the kind j and the lexeme w
 
 module _ (j : ℕ) (w : List ℕ) (k : ℕ) (n : length w ≡ 0 → ⊥) {x : Bool} (ex : x ≡ eqb k Dot && digit (getD w 0 0)) where
   dotted : x ≡ eqb k Dot && beginsDigit w
   dotted = ex ∙ rw (digit-first w n)
 
-  pub behind-digit : x ≡ true → true ≡ meetsBehind j w k
-  behind-digit t = rw (sym dotted ∙ t)
+  pub after-digit : x ≡ true → true ≡ meetsAfter j w k
+  after-digit t = rw (sym dotted ∙ t)
 
   module _ (f : x ≡ false) {y : Bool} (ey : y ≡ operatorByte (getD w (length w - 1) 0)) where
     ends : y ≡ endsOperator w
     ends = ey ∙ operator-last w n
 
-    pub behind-other : y ≡ false → false ≡ meetsBehind j w k
-    behind-other g = rw (sym dotted ∙ f, sym ends ∙ g)
+    pub after-other : y ≡ false → false ≡ meetsAfter j w k
+    after-other g = rw (sym dotted ∙ f, sym ends ∙ g)
 
     module _ (t : y ≡ true) {z : Bool} (ez : z ≡ tightBefore j) where
-      pub behind-tight : z ≡ true → true ≡ meetsBehind j w k
-      behind-tight u = rw (sym dotted ∙ f, sym ends ∙ t, sym ez ∙ u)
+      pub after-tight : z ≡ true → true ≡ meetsAfter j w k
+      after-tight u = rw (sym dotted ∙ f, sym ends ∙ t, sym ez ∙ u)
 
-      pub behind-loose : z ≡ false → {a : Bool} → a ≡ tightBehind k → a ≡ meetsBehind j w k
-      behind-loose u ea = ea ∙ rw (sym dotted ∙ f, sym ends ∙ t, sym ez ∙ u)
+      pub after-loose : z ≡ false → {a : Bool} → a ≡ tightBehind k → a ≡ meetsAfter j w k
+      after-loose u ea = ea ∙ rw (sym dotted ∙ f, sym ends ∙ t, sym ez ∙ u)

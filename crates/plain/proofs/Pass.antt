@@ -1,7 +1,7 @@
 -- The loops of the pass: the mark is what the pass says of the rows that are left. Assumes nothing.
 use mathlib.Core.Bool.{Bool, true, false, not, _&&_, _||_, and-assoc}
 use mathlib.Core.List.{List, _∷_}
-use mathlib.Core.Option.{none, some}
+use mathlib.Core.Option.{some}
 use mathlib.Core.Path.{_≡_, refl, sym, ap, _∙_}
 use Prim.Native.Nat.{ℕ, _+_, _-_, _≤_, _<_}
 use native.Mathlib.Omega.{arith}
@@ -18,8 +18,8 @@ use Rattle.rows.proofs.Sound.{misnamed, token-bad}
 use Rattle.lookahead.proofs.Rests.{here, over}
 use Rattle.definition.specs.Emit.{isSome}
 use Rattle.definition.specs.Plain.{plain}
-use Rattle.plain.specs.Scan.{fits, behind, plainRows}
-use Rattle.plain.specs.LookBack.{factsFrom, factsAt, markFrom, fitsRow, isNamed, Ahead, Unfit, FitsTo}
+use Rattle.plain.specs.Scan.{fits, factsAfter, plainRows}
+use Rattle.plain.specs.LookBack.{factsFrom, factsAt, markFrom, fitsRow, isNamed, goodAndFits, NoBadRow, Ahead, Unfit, FitsTo}
 use Rattle.plain.proofs.Bytes.{part-slice}
 use Rattle.plain.proofs.LookBack.{facts-next}
 use Rattle.plain.proofs.Rows.{pass}
@@ -38,12 +38,12 @@ and-yes false = refl
 
 -- what the answer b tells
 abbrev Told : List ℕ → List ℕ → Bool → Type 0
-Told rows text b = (b ≡ true → badFrom (length text) atStart 0 (rowsOf rows) ≡ none) × (badFrom (length text) atStart 0 (rowsOf rows) ≡ none → b ≡ plain (tokensOf rows text))
+Told rows text b = (b ≡ true → NoBadRow rows text) × (NoBadRow rows text → b ≡ plain (tokensOf rows text))
 
 pub start-ahead : (rows text : List ℕ) → Ahead rows text 0
 start-ahead rows text = record { within = omega arith; before = atStart; count = 0; no-lead = refl; left = refl }
 
-start-mark : (rows text : List ℕ) → badFrom (length text) atStart 0 (rowsOf rows) ≡ none → plain (tokensOf rows text) ≡ markFrom rows text 0
+start-mark : (rows text : List ℕ) → NoBadRow rows text → plain (tokensOf rows text) ≡ markFrom rows text 0
 unfolding factsFrom
 start-mark rows text e = pass rows text e
 
@@ -60,7 +60,7 @@ module _ {rows text : List ℕ} {at : ℕ} (α : Ahead rows text at) where
   unfolding plainRows
   mark-over h = rw (over rows at (α .within) h)
 
-  good-over : length rows - at < 16 → badFrom (length text) atStart 0 (rowsOf rows) ≡ none
+  good-over : length rows - at < 16 → NoBadRow rows text
   unfolding badFrom
   good-over h = α .left ∙ rw (over rows at (α .within) h, α .no-lead)
 
@@ -85,8 +85,8 @@ module _ {rows text : List ℕ} {at : ℕ} (α : Ahead rows text at) where
     mark-is : markFrom rows text at ≡ fitsRow rows text at r && markFrom rows text (at + 16)
     unfolding plainRows
     mark-is =
-        let f : factsAt rows text (at + 16) ≡ behind (factsAt rows text at) (r .kind) (bytesOf text r) = rw e (facts-next rows text at) in
-        rw (next, f, and-assoc (eqb (r .what) TokenRow) (fits (factsAt rows text at) (r .kind) (bytesOf text r)) (plainRows text (behind (factsAt rows text at) (r .kind) (bytesOf text r)) (rowsOf (drop (at + 16) rows))))
+        let f : factsAt rows text (at + 16) ≡ factsAfter (factsAt rows text at) (r .kind) (bytesOf text r) = rw e (facts-next rows text at) in
+        rw (next, f, and-assoc (eqb (r .what) TokenRow) (fits (factsAt rows text at) (r .kind) (bytesOf text r)) (plainRows text (factsAfter (factsAt rows text at) (r .kind) (bytesOf text r)) (rowsOf (drop (at + 16) rows))))
 
     mark-more : fitsRow rows text at r ≡ true → markFrom rows text at ≡ markFrom rows text (at + 16)
     mark-more f = mark-is ∙ rw f
@@ -106,23 +106,23 @@ module _ (rows text : List ℕ) (at : ℕ) {r : Row} (e : r ≡ rowAt rows at) w
   named-there = rw e
 
   -- the answers of `row_fits`
-  pub row-none : (r .what ≡ TokenRow → ⊥) → false ≡ isNamed text (rowAt rows at) && fitsRow rows text at (rowAt rows at)
+  pub row-none : (r .what ≡ TokenRow → ⊥) → false ≡ goodAndFits rows text at
   row-none n = rw (row-trivia n) (sym (and-none (isNamed text (rowAt rows at))))
 
   module _ {m : Bool} (k : m ≡ misnamed Other (length text) r) where
-    pub row-misnamed : m ≡ true → false ≡ isNamed text (rowAt rows at) && fitsRow rows text at (rowAt rows at)
+    pub row-misnamed : m ≡ true → false ≡ goodAndFits rows text at
     row-misnamed z = rw (named-there, ← k, z)
 
     pub row-inside : m ≡ false → Inside text r
     row-inside z = named-inside text r (sym k ∙ z)
 
-    pub row-fixed : m ≡ false → Unfit rows text at → r .kind ≤ Else → false ≡ isNamed text (rowAt rows at) && fitsRow rows text at (rowAt rows at)
+    pub row-fixed : m ≡ false → Unfit rows text at → r .kind ≤ Else → false ≡ goodAndFits rows text at
     row-fixed z u l = rw (u .unfit (omega (arith, ap (λ r. r .kind) e)) (rw (← e) (row-inside z))) (sym (and-none (isNamed text (rowAt rows at))))
 
     pub row-token : m ≡ false → r .what ≡ TokenRow → fitsRow rows text at (rowAt rows at) ≡ fits (factsAt rows text at) (r .kind) (part text r)
     row-token z w = there ∙ rw (eq-eqb (r .what) TokenRow w, part-slice (r .start) (r .end) text (row-inside z .ordered))
 
-    pub row-read : m ≡ false → r .what ≡ TokenRow → {x : Bool} → x ≡ fits (factsAt rows text at) (r .kind) (part text r) → x ≡ isNamed text (rowAt rows at) && fitsRow rows text at (rowAt rows at)
+    pub row-read : m ≡ false → r .what ≡ TokenRow → {x : Bool} → x ≡ fits (factsAt rows text at) (r .kind) (part text r) → x ≡ goodAndFits rows text at
     row-read z w f = f ∙ sym (row-token z w) ∙ rw (named-there, ← k, z)
 
 -- ---- the loop of `fit_end`
@@ -173,15 +173,15 @@ module _ {rows text : List ℕ} {from at : ℕ} (π : Passed rows text from at) 
 -- ---- the loop of `plain_mark`
 
 module _ {rows text : List ℕ} {at : ℕ} (φ : FitsTo rows text 0 at) where
-  marked : badFrom (length text) atStart 0 (rowsOf rows) ≡ none → plain (tokensOf rows text) ≡ markFrom rows text at
+  marked : NoBadRow rows text → plain (tokensOf rows text) ≡ markFrom rows text at
   marked good = start-mark rows text good ∙ φ .mark
 
   pub plain-over : length rows - at < 16 → Told rows text true
   plain-over h = (λ z. good-over (φ .ahead) h, λ g. sym (marked g ∙ mark-over (φ .ahead) h))
 
-  module _ (h : 16 ≤ length rows - at) {x : Bool} (f : x ≡ isNamed text (rowAt rows at) && fitsRow rows text at (rowAt rows at)) where
+  module _ (h : 16 ≤ length rows - at) {x : Bool} (f : x ≡ goodAndFits rows text at) where
     -- a token that fits, but is not named well, is bad
-    unfit : x ≡ false → badFrom (length text) atStart 0 (rowsOf rows) ≡ none → markFrom rows text at ≡ false
+    unfit : x ≡ false → NoBadRow rows text → markFrom rows text at ≡ false
     unfit z g =
         split (fitsRow rows text at (rowAt rows at))
         (λ t.

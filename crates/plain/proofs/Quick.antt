@@ -1,5 +1,5 @@
 -- Lexemes that are told to read as one piece without reading them: where the piece that the first byte begins ends with the lexeme. Assumes nothing.
-use mathlib.Core.Bool.{true, false, cond, _&&_, _||_}
+use mathlib.Core.Bool.{true, false, cond}
 use mathlib.Core.List.{List}
 use mathlib.Core.Path.{_≡_, refl, sym, _∙_}
 use Prim.Native.Nat.{ℕ, _+_, _-_, _<_}
@@ -8,8 +8,6 @@ use lib.Dec.{eqb}
 use lib.ListN.{length, getD, take, drop}
 use borrow.Author.Tests.{eqb-true, eq-eqb}
 use Rattle.shared.specs.Bytes.{digit}
-use Rattle.shared.proofs.Logic.{and-right}
-use Rattle.shared.proofs.Below.{agree-below}
 use Rattle.pieces.specs.Class.{class, isWord, isOperator}
 use Rattle.pieces.specs.Reading.{Kind, word, number, quoted, between, opens, begin}
 use Rattle.pieces.specs.Sets.{runLength, isQuote}
@@ -20,15 +18,11 @@ use Rattle.pieces.proofs.Quote.{stops, quote-closed}
 use Rattle.definition.specs.Plain.{readsWhole}
 use Rattle.plain.specs.Scan.{runOf, IsValue}
 use Rattle.plain.proofs.Bytes.{operator-first}
-use Rattle.plain.proofs.Runs.{run-all-of}
-
-pub quotes-are : (b : ℕ) → b < 256 → eqb b 34 || eqb b 39 ≡ isQuote (class b)
-unfolding class
-quotes-are = agree-below 256 (λ b. eqb b 34 || eqb b 39) (λ b. isQuote (class b)) refl
+use Rattle.plain.proofs.Runs.{run-all-of, only-words}
 
 digit-word : (b : ℕ) → b < 256 → digit b ≡ true → isWord (class b) ≡ true
 unfolding class
-digit-word b h e = and-right (digit b) (isWord (class b)) (agree-below 256 (λ b. digit b && isWord (class b)) digit refl b h ∙ e)
+digit-word = only-words digit refl
 
 module _ (w : List ℕ) (some : 0 < length w) where
   abbrev first : ℕ

@@ -20,7 +20,8 @@ use Rattle.definition.specs.Arms.{nextIs}
 use Rattle.definition.specs.Plain.{isMute, hasItsLexeme, readsWhole, endsOperator, beginsOperator, beginsDigit, tightBefore, tightBehind, clause₂, clause₃, clause₄, clause₅, clause₆, clause₇, plain}
 use Rattle.definition.proofs.PlainScan
 use Rattle.definition.proofs.PlainScan.{see, plainFrom, plain-scan}
-use Rattle.plain.specs.Scan.{Facts, unseen, mute, forbids, collides, fits, behind, plainRows}
+use Rattle.plain.specs.LookBack.{NoBadRow}
+use Rattle.plain.specs.Scan.{Facts, unseen, mute, forbids, collides, fits, factsAfter, plainRows}
 
 -- ---- what the code keeps of what has been seen
 
@@ -39,8 +40,8 @@ factsAt q opened = record {
   opened = opened;
 }
 
-behind-is : (q : PlainScan.Seen) (opened : Bool) (t : Token) → behind (factsAt q opened) (t .kind) (t .lexeme) ≡ factsAt (see q t) (eqb (t .kind) LeftBrace && q .armed)
-behind-is q opened t = split (isMute t) (λ e. rw e) (λ e. rw e)
+after-is : (q : PlainScan.Seen) (opened : Bool) (t : Token) → factsAfter (factsAt q opened) (t .kind) (t .lexeme) ≡ factsAt (see q t) (eqb (t .kind) LeftBrace && q .armed)
+after-is q opened t = split (isMute t) (λ e. rw e) (λ e. rw e)
 
 -- ---- the clauses at one token
 
@@ -120,7 +121,7 @@ no-trail size i (r ∷ rs) e = sym (and-true (eqb (r .what) Trailing)) ∙ first
 
 -- ---- the pass
 
--- what a token owes to the row behind it is asked there
+-- what a token owes to the row after it is asked there
 module _ (u nt no p : Bool) where
   later : (c : Bool) → u && c && (nt && (no && p)) ≡ u && (nt && (c && no) && p)
   later c = rw (and-assoc u c (nt && (no && p))) (ap (λ x. u && x) (go c nt))
@@ -147,7 +148,7 @@ rows-plain text q opened b i (r ∷ rs) e =
     let ts = tokensFrom text [] rs in
     let arms = eqb (r .kind) LeftBrace && q .armed in
     split (eqb (r .what) TokenRow)
-    (λ f. rw (eqb-true (r .what) TokenRow f, fits-is q opened t, behind-is q opened t, rows-plain text (see q t) arms (after (r .what)) (i + 1) rs (rest-good (length text) b i r rs e), emptied (nextIs RightBrace ts) (eqb (r .kind) LeftBrace) (q .armed), no-trailing text rs)
+    (λ f. rw (eqb-true (r .what) TokenRow f, fits-is q opened t, after-is q opened t, rows-plain text (see q t) arms (after (r .what)) (i + 1) rs (rest-good (length text) b i r rs e), emptied (nextIs RightBrace ts) (eqb (r .kind) LeftBrace) (q .armed), no-trailing text rs)
     (later₅ (not (eqb (r .kind) RightBrace && opened)) (not (trails rs)) (clause₇ (q .armed) t ts) (plainFrom (see q t) ts) (clause₂ t) (clause₃ t) (clause₄ (q .last) t) (clause₅ (q .last) t) (clause₆ (q .comma) t)))
     (λ f. split (eqb (r .what) Leading)
     (λ g. let h = eqb-true (r .what) Leading g in
@@ -155,7 +156,7 @@ rows-plain text q opened b i (r ∷ rs) e =
     rw (h, m) (sym (and-false (not (nextIs RightBrace (tokensFrom text (triviaOf text r ∷ []) rs) && opened)))))
     (λ g. rw (third (length text) b i r rs e f g)))
 
-pub pass : (rows text : List ℕ) → badFrom (length text) atStart 0 (rowsOf rows) ≡ none → plain (tokensOf rows text) ≡ plainRows text unseen (rowsOf rows)
+pub pass : (rows text : List ℕ) → NoBadRow rows text → plain (tokensOf rows text) ≡ plainRows text unseen (rowsOf rows)
 unfolding tokensOf
 pass rows text e =
     let ts = tokensFrom text [] (rowsOf rows) in

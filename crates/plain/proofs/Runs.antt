@@ -1,5 +1,5 @@
 -- Runs of bytes of one set: counted off by the loops, and read as one piece. Assumes nothing.
-use mathlib.Core.Bool.{Bool, true, false, _&&_, and-assoc, and-true, and-false}
+use mathlib.Core.Bool.{Bool, true, false, _&&_, Bool·beq, and-assoc, and-true, and-false}
 use mathlib.Core.List.{List, [], _∷_}
 use mathlib.Core.Path.{_≡_, refl, sym, _∙_}
 use Prim.Native.Nat.{ℕ, zero, suc, _+_, _-_, _≤_, _<_, min}
@@ -10,9 +10,9 @@ use lib.Dec.{leb}
 use lib.ListN.{length, getD, take, drop, drop-of-length-le}
 use lib.Seq.{drop-cons, drop-drop}
 use borrow.Author.Tests.{eq-eqb, leb-true, leb-false}
-use Rattle.shared.specs.Bytes.{digit, within}
+use Rattle.shared.specs.Bytes.{byte, digit, within}
 use Rattle.shared.proofs.Logic.{split, impossible′, and-left, and-right}
-use Rattle.shared.proofs.Below.{agree-below}
+use Rattle.shared.proofs.Below.{allBelow, agree-below}
 use Rattle.pieces.specs.declared.bytes.Class.{Class}
 use Rattle.pieces.specs.declared.bytes.Class.the-variants.{Gap, Single, Quote, Word, Operator, Unclassed}
 use Rattle.pieces.specs.Class.{class, isWord, isOperator}
@@ -169,8 +169,13 @@ pub words-begin : (w : List ℕ) → runOf isWordByte w ≡ true → beginsOpera
 words-begin [] e = refl
 words-begin (b ∷ w) e = apart (class b) (first isWordByte b w e)
 
--- ---- small letters are word bytes
+-- ---- bytes of a set are word bytes, by one test that is computed at every byte
 
-pub small-word : (b : ℕ) → b < 256 → within 97 122 b ≡ true → isWord (class b) ≡ true
+pub only-words : (f : ℕ → Bool) → allBelow 256 (λ b. Bool·beq (f b && isWordByte b) (f b)) ≡ true →
+    (b : ℕ) → b < 256 → f b ≡ true → isWordByte b ≡ true
+only-words f t b h e = and-right (f b) (isWordByte b) (agree-below 256 (λ b. f b && isWordByte b) f t b h ∙ e)
+
+-- small letters
+pub small-word : (b : ℕ) → b < 256 → within (byte "a") (byte "z") b ≡ true → isWordByte b ≡ true
 unfolding class
-small-word b h e = and-right (within 97 122 b) (isWord (class b)) (agree-below 256 (λ b. within 97 122 b && isWord (class b)) (within 97 122) refl b h ∙ e)
+small-word = only-words (within (byte "a") (byte "z")) refl

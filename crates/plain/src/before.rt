@@ -1,19 +1,19 @@
-// Whether a row fits behind the rows before it: the clauses of the plain mark.
+// Whether a row fits after the rows before it: the clauses of the plain mark that look back.
 use crate::lexeme::begins_operator;
 use crate::lexeme::bracket_of;
-use crate::lexeme::is_digit;
 use crate::lexeme::is_itself;
-use crate::lexeme::is_operator;
 use crate::lexeme::is_operators;
 use crate::lexeme::is_single;
 use crate::lexeme::is_value;
 use crate::lexeme::reads_whole;
 use crate::words::is_words;
-use crate::words::smaller;
+use pieces::bytes::is_operator;
 use rows::ROW_BYTES;
 use rows::kinds;
 use rows::number_at;
 use rows::row_at;
+use shared::classes::is_digit;
+use shared::numbers::smaller;
 ghost use mathlib.Core.Bool.{true, _&&_};
 ghost use mathlib.Core.List.{List};
 ghost use mathlib.Core.Path.{_≡_};
@@ -21,15 +21,15 @@ ghost use Prim.Native.Nat.{ℕ, _+_, _≤_, _<_};
 ghost use lib.Dec.{eqb};
 ghost use lib.ListN.{length};
 ghost use Rattle.shared.specs.Bytes.{digit};
-ghost use Rattle.rows.specs.Kinds.{Dot};
+ghost use Rattle.rows.specs.Kinds.{Comma, Dot, Else};
 ghost use Rattle.definition.specs.Plain.{tightBefore, tightBehind};
-ghost use Rattle.plain.specs.Scan.{fits, forbids, meets, meetsBehind};
-ghost use Rattle.plain.specs.LookBack.{factsAt, Near};
+ghost use Rattle.plain.specs.Scan.{forbids, meets, meetsAfter};
+ghost use Rattle.plain.specs.LookBack.{factsAt, fitsAt, Near};
 
-// A token of a kind with a fixed lexeme, or Newline or Eof.
+// Whether a token of the kind and lexeme given fits at `at`, for a kind with a fixed lexeme, Newline or Eof.
 pub fn fits_fixed(rows: &[u8], text: &[u8], at: usize, kind: u32, lexeme: &[u8]) -> bool
-    requires { ⌜ (at ≤ length (now rows)) × (kind ≤ 19) ⌝ }
-    ensures { λ r. ⌜ r ≡ fits (factsAt (now (rows .entry)) (now (text .entry)) at) kind (now (lexeme .entry)) ⌝ }
+    requires { ⌜ (at ≤ length (now rows)) × (kind ≤ Else) ⌝ }
+    ensures { λ r. ⌜ r ≡ fitsAt (now (rows .entry)) (now (text .entry)) at kind (now (lexeme .entry)) ⌝ }
 {
     if kind <= kinds::NEWLINE {
         return true;
@@ -49,10 +49,12 @@ pub fn fits_fixed(rows: &[u8], text: &[u8], at: usize, kind: u32, lexeme: &[u8])
     !meets(rows, text, at, kind)
 }
 
-// A token of another kind, by tests that are quicker than reading its lexeme: most pass them.
+// The same for any other kind, by tests that are quicker than reading the lexeme. Yes is certain, no is not;
+// most tokens that fit pass them.
 pub fn fits_free(rows: &[u8], text: &[u8], at: usize, kind: u32, lexeme: &[u8]) -> bool
-    requires { ⌜ (at ≤ length (now rows)) × (19 < kind) ⌝ }
-    ensures { λ r. ⌜ (r ≡ true → fits (factsAt (now (rows .entry)) (now (text .entry)) at) kind (now (lexeme .entry)) ≡ true) ⌝ }
+    requires { ⌜ (at ≤ length (now rows)) × (Else < kind) ⌝ }
+    ensures { λ r. ⌜ (r ≡ true
+        → fitsAt (now (rows .entry)) (now (text .entry)) at kind (now (lexeme .entry)) ≡ true) ⌝ }
 {
     if is_words(lexeme) {
         return true;
@@ -63,10 +65,10 @@ pub fn fits_free(rows: &[u8], text: &[u8], at: usize, kind: u32, lexeme: &[u8]) 
     is_value(lexeme)
 }
 
-// The same, by reading it.
+// The same, by reading the lexeme: the answer is certain.
 pub fn fits_read(rows: &[u8], text: &[u8], at: usize, kind: u32, lexeme: &[u8]) -> bool
-    requires { ⌜ (at ≤ length (now rows)) × (19 < kind) ⌝ }
-    ensures { λ r. ⌜ r ≡ fits (factsAt (now (rows .entry)) (now (text .entry)) at) kind (now (lexeme .entry)) ⌝ }
+    requires { ⌜ (at ≤ length (now rows)) × (Else < kind) ⌝ }
+    ensures { λ r. ⌜ r ≡ fitsAt (now (rows .entry)) (now (text .entry)) at kind (now (lexeme .entry)) ⌝ }
 {
     if !reads_whole(lexeme) {
         return false;
@@ -79,9 +81,10 @@ pub fn fits_read(rows: &[u8], text: &[u8], at: usize, kind: u32, lexeme: &[u8]) 
 
 // ---- clauses 6 and 7, at a bracket
 
-// A `{` behind a comma, a `}` that leaves a record empty. Most brackets are neither: that is asked first.
+// Whether the bracket at `at` is a `{` after a comma, or a `}` that leaves a record empty. Most brackets are
+// neither brace: that is tested first.
 fn forbids(rows: &[u8], at: usize, kind: u32) -> bool
-    requires { ⌜ (at ≤ length (now rows)) × (kind ≤ 8) ⌝ }
+    requires { ⌜ (at ≤ length (now rows)) × (kind ≤ Comma) ⌝ }
     ensures { λ r. ⌜ ((text : List ℕ) → r ≡ forbids (factsAt (now (rows .entry)) text at) kind) ⌝ }
 {
     if kinds::RIGHT_BRACE < kind {
@@ -94,7 +97,7 @@ fn forbids(rows: &[u8], at: usize, kind: u32) -> bool
     }
 }
 
-// The last token but Eof is a Comma.
+// Whether the last token before `at` but Eof is a Comma.
 fn follows_comma(rows: &[u8], at: usize) -> bool
     requires { ⌜ at ≤ length (now rows) ⌝ }
     ensures { λ r. ⌜ ((text : List ℕ) → r ≡ factsAt (now (rows .entry)) text at .comma) ⌝ }
@@ -110,7 +113,7 @@ fn follows_comma(rows: &[u8], at: usize) -> bool
     false
 }
 
-// The last token is the first `{` after a Record.
+// Whether the last token before `at` is the first `{` after a Record.
 fn empties_record(rows: &[u8], at: usize) -> bool
     requires { ⌜ at ≤ length (now rows) ⌝ }
     ensures { λ r. ⌜ ((text : List ℕ) → r ≡ factsAt (now (rows .entry)) text at .opened) ⌝ }
@@ -125,7 +128,8 @@ fn empties_record(rows: &[u8], at: usize) -> bool
     is_armed(rows, last)
 }
 
-// There is a Record, and no `{` since. Only a `}` directly behind a `{` asks: no row is looked at twice.
+// Whether there is a Record before `at`, and no `{` since. Only a `}` directly after a `{` asks for it, so that
+// no row is looked at twice.
 fn is_armed(rows: &[u8], at: usize) -> bool
     requires { ⌜ at ≤ length (now rows) ⌝ }
     ensures { λ r. ⌜ ((text : List ℕ) → r ≡ factsAt (now (rows .entry)) text at .armed) ⌝ }
@@ -146,7 +150,7 @@ fn is_armed(rows: &[u8], at: usize) -> bool
 
 // ---- clauses 4 and 5, at a lexeme that begins with an operator byte
 
-// Two operator bytes would meet, or a Dot is behind a digit.
+// Whether two operator bytes would meet, or a Dot stands after a digit.
 fn meets(rows: &[u8], text: &[u8], at: usize, kind: u32) -> bool
     requires { ⌜ at ≤ length (now rows) ⌝ }
     ensures { λ r. ⌜ r ≡ meets (factsAt (now (rows .entry)) (now (text .entry)) at) kind ⌝ }
@@ -161,10 +165,11 @@ fn meets(rows: &[u8], text: &[u8], at: usize, kind: u32) -> bool
     if end <= start {
         return false;
     }
-    meets_behind(row.kind, &text[start..end], kind)
+    meets_after(row.kind, &text[start..end], kind)
 }
 
-// Behind the row of the last token but Newline and Eof, or less than a row.
+// The index after the row of the last token before `at` but Newline and Eof. Where there is none, it is less
+// than a row.
 fn near_end(rows: &[u8], at: usize) -> usize
     requires { ⌜ at ≤ length (now rows) ⌝ }
     ensures { λ r. ⌜ Near (now (rows .entry)) at r ⌝ }
@@ -180,10 +185,10 @@ fn near_end(rows: &[u8], at: usize) -> usize
     i
 }
 
-// The same, directly behind a token of the kind `near` and the bytes `before`.
-fn meets_behind(near: u32, before: &[u8], kind: u32) -> bool
+// The same as `meets`, after a token of the kind `near` whose bytes are `before`.
+fn meets_after(near: u32, before: &[u8], kind: u32) -> bool
     requires { ⌜ 0 < length (now before) ⌝ }
-    ensures { λ r. ⌜ r ≡ meetsBehind near (now (before .entry)) kind ⌝ }
+    ensures { λ r. ⌜ r ≡ meetsAfter near (now (before .entry)) kind ⌝ }
 {
     if dots_digit(kind, before[0]) {
         return true;
@@ -197,6 +202,7 @@ fn meets_behind(near: u32, before: &[u8], kind: u32) -> bool
     tight_behind(kind)
 }
 
+// Whether the kind is Dot, and `first`, the first byte of the lexeme before it, is a digit.
 fn dots_digit(kind: u32, first: u8) -> bool
     ensures { λ r. ⌜ r ≡ eqb kind Dot && digit first ⌝ }
 {
@@ -206,6 +212,7 @@ fn dots_digit(kind: u32, first: u8) -> bool
     is_digit(first)
 }
 
+// Whether the kind is one that no operator byte may follow directly.
 fn tight_before(kind: u32) -> bool
     ensures { λ r. ⌜ r ≡ tightBefore kind ⌝ }
 {
@@ -221,6 +228,7 @@ fn tight_before(kind: u32) -> bool
     }
 }
 
+// Whether the kind is one that may not follow an operator byte directly.
 fn tight_behind(kind: u32) -> bool
     ensures { λ r. ⌜ r ≡ tightBehind kind ⌝ }
 {

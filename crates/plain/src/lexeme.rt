@@ -1,24 +1,28 @@
-// A lexeme by itself: clauses 2 and 3, and its bytes.
+// A lexeme by itself: clauses 2 and 3 of the plain mark, and its bytes.
 use crate::words::one;
-use crate::words::smaller;
 use pieces::Next;
+use pieces::bytes::is_operator;
+use pieces::bytes::is_quote;
 use pieces::next_piece;
 use pieces::runs;
 use rows::kinds;
+use shared::classes::is_digit;
+use shared::numbers::smaller;
 ghost use mathlib.Core.Bool.{true, _&&_};
 ghost use mathlib.Core.List.{[], _∷_};
 ghost use mathlib.Core.Path.{_≡_};
 ghost use Prim.Native.Nat.{_+_, _≤_, _<_};
 ghost use lib.Dec.{eqb};
 ghost use lib.ListN.{length, getD, take, drop};
-ghost use Rattle.shared.specs.Bytes.{digit, sameBytes};
+ghost use Rattle.shared.specs.Bytes.{sameBytes, elseWord};
+ghost use Rattle.rows.specs.Kinds.{Comma, Else};
 ghost use Rattle.pieces.specs.Class.{class};
 ghost use Rattle.pieces.specs.Sets.{all, isQuote};
 ghost use Rattle.pieces.specs.Ends.{ordinary};
 ghost use Rattle.definition.specs.Plain.{operatorByte, hasItsLexeme, readsWhole, beginsOperator};
 ghost use Rattle.plain.specs.Scan.{bracketOf, runOf, IsValue};
 
-// The byte of a kind from LeftBrace to Comma; or 0.
+// The byte that is the lexeme of a kind from LeftBrace to Comma, or 0 for another kind.
 pub fn bracket_of(kind: u32) -> u8
     ensures { λ r. ⌜ r ≡ bracketOf kind ⌝ }
 {
@@ -34,9 +38,9 @@ pub fn bracket_of(kind: u32) -> u8
     }
 }
 
-// Whether the lexeme is that of a kind from Colon to Else; it reads as one piece that is the whole of it.
+// Whether the lexeme is the one of the kind, from Colon to Else. If so it reads as one piece, the whole of it.
 pub fn is_itself(kind: u32, lexeme: &[u8]) -> bool
-    requires { ⌜ (8 < kind) × (kind ≤ 19) ⌝ }
+    requires { ⌜ (Comma < kind) × (kind ≤ Else) ⌝ }
     ensures { λ r. ⌜ r ≡ hasItsLexeme kind (now (lexeme .entry)) && readsWhole (now (lexeme .entry)) ⌝ }
 {
     match kind {
@@ -54,6 +58,7 @@ pub fn is_itself(kind: u32, lexeme: &[u8]) -> bool
     }
 }
 
+// Whether the lexeme is the byte alone.
 pub fn is_single(lexeme: &[u8], b: u8) -> bool
     ensures { λ r. ⌜ r ≡ sameBytes (now (lexeme .entry)) (b ∷ []) ⌝ }
 {
@@ -63,6 +68,7 @@ pub fn is_single(lexeme: &[u8], b: u8) -> bool
     lexeme[0] == b
 }
 
+// Whether the lexeme begins with an operator byte.
 pub fn begins_operator(lexeme: &[u8]) -> bool
     ensures { λ r. ⌜ r ≡ beginsOperator (now (lexeme .entry)) ⌝ }
 {
@@ -72,35 +78,7 @@ pub fn begins_operator(lexeme: &[u8]) -> bool
     is_operator(lexeme[0])
 }
 
-pub fn is_digit(b: u8) -> bool
-    ensures { λ r. ⌜ r ≡ digit b ⌝ }
-{
-    if 48 <= b {
-        return b <= 57;
-    }
-    false
-}
-
-// The operator bytes below 64, and those of 64–127, as bits.
-const OPERATOR_LOW: u64 = 0x7400_ec7a_0000_0000;
-
-const OPERATOR_HIGH: u64 = 0x5000_0001_5000_0001;
-
-pub fn is_operator(b: u8) -> bool
-    ensures { λ r. ⌜ r ≡ operatorByte b ⌝ }
-{
-    let k = b as u32;
-    if k < 64 {
-        return (OPERATOR_LOW >> k) % 2 == 1;
-    }
-    if k < 128 {
-        let j = k - 64;
-        return (OPERATOR_HIGH >> j) % 2 == 1;
-    }
-    false
-}
-
-// Whether there are bytes, and all are operator bytes.
+// Whether the lexeme has bytes, and all of them are operator bytes.
 pub fn is_operators(lexeme: &[u8]) -> bool
     ensures { λ r. ⌜ r ≡ runOf operatorByte (now (lexeme .entry)) ⌝ }
 {
@@ -117,7 +95,38 @@ pub fn is_operators(lexeme: &[u8]) -> bool
     true
 }
 
-// The byte twice.
+// Whether the lexeme reads as one piece that is the whole of it.
+pub fn reads_whole(lexeme: &[u8]) -> bool
+    ensures { λ r. ⌜ r ≡ readsWhole (now (lexeme .entry)) ⌝ }
+{
+    let next = next_piece(lexeme, 0);
+    match next {
+        Next::Piece { start, end } => {
+            if start != 0 {
+                return false;
+            }
+            end == lexeme.len()
+        }
+        Next::End => false,
+        Next::Unreadable { index: _ } => false,
+    }
+}
+
+// Whether the lexeme is a number, or a quote without a backslash. Another lexeme may read as one piece too.
+pub fn is_value(lexeme: &[u8]) -> bool
+    ensures { λ r. ⌜ (r ≡ true → IsValue (now (lexeme .entry))) ⌝ }
+{
+    if lexeme.len() == 0 {
+        return false;
+    }
+    let first = lexeme[0];
+    if is_digit(first) {
+        return runs::word_end(lexeme, 1, first) == lexeme.len();
+    }
+    is_quoted(lexeme, first)
+}
+
+// Whether the lexeme is the byte twice.
 fn is_pair(lexeme: &[u8], b: u8) -> bool
     ensures { λ r. ⌜ r ≡ sameBytes (now (lexeme .entry)) (b ∷ b ∷ []) ⌝ }
 {
@@ -130,8 +139,9 @@ fn is_pair(lexeme: &[u8], b: u8) -> bool
     lexeme[1] == b
 }
 
+// Whether the lexeme is `else`.
 fn is_else(lexeme: &[u8]) -> bool
-    ensures { λ r. ⌜ r ≡ sameBytes (now (lexeme .entry)) (101 ∷ 108 ∷ 115 ∷ 101 ∷ []) ⌝ }
+    ensures { λ r. ⌜ r ≡ sameBytes (now (lexeme .entry)) elseWord ⌝ }
 {
     if lexeme.len() != 4 {
         return false;
@@ -148,38 +158,7 @@ fn is_else(lexeme: &[u8]) -> bool
     lexeme[3] == b'e'
 }
 
-// Whether the lexeme reads as one piece that is the whole of it.
-pub fn reads_whole(lexeme: &[u8]) -> bool
-    ensures { λ r. ⌜ r ≡ readsWhole (now (lexeme .entry)) ⌝ }
-{
-    let next = next_piece(lexeme, 0);
-    match next {
-        Next::Piece(start, end) => {
-            if start != 0 {
-                return false;
-            }
-            end == lexeme.len()
-        }
-        Next::End => false,
-        Next::Unreadable(_) => false,
-    }
-}
-
-// Whether the lexeme is a number, or a quote without a backslash.
-pub fn is_value(lexeme: &[u8]) -> bool
-    ensures { λ r. ⌜ (r ≡ true → IsValue (now (lexeme .entry))) ⌝ }
-{
-    if lexeme.len() == 0 {
-        return false;
-    }
-    let first = lexeme[0];
-    if is_digit(first) {
-        return runs::word_end(lexeme, 1, first) == lexeme.len();
-    }
-    is_quoted(lexeme, first)
-}
-
-// Whether the lexeme, which begins with `first`, is a quote that its last byte closes, without a backslash.
+// Whether the lexeme, whose first byte is `first`, is a quote that its last byte closes, without a backslash.
 fn is_quoted(lexeme: &[u8], first: u8) -> bool
     requires { ⌜ (0 < length (now lexeme)) × (first ≡ getD (now lexeme) 0 0) ⌝ }
     ensures { λ r. ⌜ (r ≡ true → IsValue (now (lexeme .entry))) ⌝ }
@@ -200,18 +179,11 @@ fn is_quoted(lexeme: &[u8], first: u8) -> bool
     lexeme.len() - end == 1
 }
 
-fn is_quote(b: u8) -> bool
-    ensures { λ r. ⌜ r ≡ isQuote (class b) ⌝ }
-{
-    if b == b'"' {
-        return true;
-    }
-    b == b'\''
-}
-
-// The same from sixty-six bytes on.
+// The same for sixty-six bytes and more, of which the first is the quote `quote`.
 fn is_long_quoted(lexeme: &[u8], quote: u8) -> bool
-    requires { ⌜ (66 ≤ length (now lexeme)) × (quote ≡ getD (now lexeme) 0 0) × (isQuote (class quote) ≡ true) ⌝ }
+    requires { ⌜ (66 ≤ length (now lexeme))
+        × (quote ≡ getD (now lexeme) 0 0)
+        × (isQuote (class quote) ≡ true) ⌝ }
     ensures { λ r. ⌜ (r ≡ true → IsValue (now (lexeme .entry))) ⌝ }
 {
     let last = lexeme.len() - 1;
@@ -221,7 +193,8 @@ fn is_long_quoted(lexeme: &[u8], quote: u8) -> bool
     is_ordinary(&lexeme[1..last], quote)
 }
 
-// Whether all bytes are ordinary: neither the quote nor a backslash. Sixty-four are tested at a time: the last of all, where fewer are left.
+// Whether all bytes are ordinary: neither the quote nor a backslash. Sixty-four are tested at a time; where fewer
+// are left, the last sixty-four of all.
 fn is_ordinary(s: &[u8], quote: u8) -> bool
     requires { ⌜ 64 ≤ length (now s) ⌝ }
     ensures { λ r. ⌜ r ≡ runOf (ordinary quote) (now (s .entry)) ⌝ }
@@ -238,7 +211,8 @@ fn is_ordinary(s: &[u8], quote: u8) -> bool
     true
 }
 
-// Whether the sixty-four bytes from `at` on are ordinary. No byte ends the loop, so that it compiles to vector code; one of thirty-two is unrolled instead.
+// Whether the sixty-four bytes from `at` on are ordinary. No byte ends the loop, so that it compiles to vector
+// code; a loop of thirty-two is unrolled instead.
 fn block_ordinary(s: &[u8], at: usize, quote: u8) -> bool
     requires { ⌜ at + 64 ≤ length (now s) ⌝ }
     ensures { λ r. ⌜ r ≡ all (ordinary quote) (take 64 (drop at (now (s .entry)))) ⌝ }
@@ -252,7 +226,7 @@ fn block_ordinary(s: &[u8], at: usize, quote: u8) -> bool
     others == 0
 }
 
-// 0 for an ordinary byte alone.
+// 0 for an ordinary byte, and 1 or more for another.
 fn count_other(b: u8, quote: u8) -> u8
     ensures { λ r. ⌜ (eqb r 0 ≡ ordinary quote b) × (r ≤ 2) ⌝ }
 {

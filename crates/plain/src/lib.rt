@@ -1,5 +1,5 @@
-// The plain mark (document 01), in one pass over the rows, which looks for bad rows too. Nothing is kept of the rows that
-// were passed: a clause that asks for them looks back, over as many rows as lie between.
+// The plain mark (document 01), in one pass over the rows, which looks for bad rows too. Nothing is kept of the
+// rows that were passed: a clause that asks for them looks back, over as many rows as lie between.
 use crate::before::fits_fixed;
 use crate::before::fits_free;
 use crate::before::fits_read;
@@ -7,25 +7,24 @@ use rows::ROW_BYTES;
 use rows::kinds;
 use rows::misnames;
 use rows::row_at;
-ghost use mathlib.Core.Bool.{true, _&&_};
-ghost use mathlib.Core.Option.{none};
+ghost use mathlib.Core.Bool.{true};
 ghost use mathlib.Core.Path.{_≡_};
 ghost use Prim.Native.Nat.{_+_, _≤_};
 ghost use lib.ListN.{length};
-ghost use Rattle.rows.specs.Row.{rowAt, rowsOf};
+ghost use Rattle.rows.specs.Row.{rowSize};
 ghost use Rattle.rows.specs.Token.{tokensOf};
-ghost use Rattle.rows.specs.Checks.{atStart, badFrom};
 ghost use Rattle.definition.specs.Plain.{plain};
-ghost use Rattle.plain.specs.LookBack.{fitsRow, isNamed, Ahead, Unfit, FitsTo};
+ghost use Rattle.plain.specs.LookBack.{NoBadRow, goodAndFits, Ahead, Unfit, FitsTo};
 
 mod before;
 mod lexeme;
 mod words;
 
-// Whether the tokens that the rows name in the text are plain: the mark where no row is bad, and no where one is.
+// Whether the tokens that the rows name in the text are plain. Where a row is bad the answer is no.
 pub fn plain_mark(rows: &[u8], text: &[u8]) -> bool
-    ensures good { λ r. ⌜ (r ≡ true → badFrom (length (now (text .entry))) atStart 0 (rowsOf (now (rows .entry))) ≡ none) ⌝ }
-    ensures mark { λ r. ⌜ (badFrom (length (now (text .entry))) atStart 0 (rowsOf (now (rows .entry))) ≡ none → r ≡ plain (tokensOf (now (rows .entry)) (now (text .entry)))) ⌝ }
+    ensures good { λ r. ⌜ (r ≡ true → NoBadRow (now (rows .entry)) (now (text .entry))) ⌝ }
+    ensures mark { λ r. ⌜ (NoBadRow (now (rows .entry)) (now (text .entry))
+        → r ≡ plain (tokensOf (now (rows .entry)) (now (text .entry)))) ⌝ }
 {
     let mut at = fit_end(rows, text, 0);
     while ROW_BYTES <= rows.len() - at {
@@ -37,7 +36,8 @@ pub fn plain_mark(rows: &[u8], text: &[u8]) -> bool
     true
 }
 
-// Behind the rows from `from` on that fit by quick tests; a good row of a kind with a fixed lexeme on which it stops doesn't fit.
+// The index after the rows from `from` on that fit by quick tests. Of the row on which it stops it is not known
+// whether it fits, but a good row of a kind with a fixed lexeme does not.
 fn fit_end(rows: &[u8], text: &[u8], from: usize) -> usize
     requires { ⌜ Ahead (now rows) (now text) from ⌝ }
     ensures { λ r. ⌜ FitsTo (now (rows .entry)) (now (text .entry)) from r ⌝ }
@@ -73,10 +73,10 @@ fn fit_end(rows: &[u8], text: &[u8], from: usize) -> usize
     at
 }
 
-// Whether the row on which the quick tests stopped is good and fits.
+// Whether the row at `at`, on which the quick tests stopped, is good and fits.
 fn row_fits(rows: &[u8], text: &[u8], at: usize) -> bool
-    requires { ⌜ (at + 16 ≤ length (now rows)) × Unfit (now rows) (now text) at ⌝ }
-    ensures { λ r. ⌜ r ≡ isNamed (now (text .entry)) (rowAt (now (rows .entry)) at) && fitsRow (now (rows .entry)) (now (text .entry)) at (rowAt (now (rows .entry)) at) ⌝ }
+    requires { ⌜ (at + rowSize ≤ length (now rows)) × Unfit (now rows) (now text) at ⌝ }
+    ensures { λ r. ⌜ r ≡ goodAndFits (now (rows .entry)) (now (text .entry)) at ⌝ }
 {
     let row = row_at(rows, at);
     if row.what != kinds::TOKEN {

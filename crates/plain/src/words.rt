@@ -1,21 +1,23 @@
 // Runs of word bytes.
-use crate::lexeme::is_digit;
+use pieces::bytes;
 use pieces::eights;
 use rows::number_at;
+use shared::classes::is_digit;
+use shared::numbers::smaller;
 ghost use mathlib.Core.Bool.{true, cond};
 ghost use mathlib.Core.Path.{_≡_};
-ghost use Prim.Native.Nat.{_+_, _-_, _*_, _≤_, _<_, min};
+ghost use Prim.Native.Nat.{_+_, _-_, _*_, _≤_, _<_};
 ghost use lib.Bits.{bitAnd};
 ghost use lib.Dec.{eqb};
 ghost use lib.ListN.{length, take, drop};
-ghost use Rattle.shared.specs.Bytes.{within};
-ghost use Rattle.rows.specs.Row.{number};
+ghost use Rattle.shared.specs.Bytes.{byte, within};
+ghost use Rattle.shared.specs.Numbers.{most32};
 ghost use Rattle.pieces.specs.Sets.{all};
-ghost use Rattle.pieces.specs.Eight.{eightOnes};
+ghost use Rattle.pieces.specs.Eight.{eightOnes, eightLows};
 ghost use Rattle.plain.specs.Scan.{isWordByte, runOf};
-ghost use Rattle.plain.specs.Eight.{bytesWithin, lettersIn, wordsIn};
+ghost use Rattle.plain.specs.Eight.{foursOf, bytesWithin, lettersIn, wordsIn};
 
-// Whether there are bytes, and all are word bytes. No loop tests a lexeme of up to sixteen bytes.
+// Whether the lexeme has bytes, and all of them are word bytes. Up to sixteen bytes are tested without a loop.
 pub fn is_words(lexeme: &[u8]) -> bool
     ensures { λ r. ⌜ r ≡ runOf isWordByte (now (lexeme .entry)) ⌝ }
 {
@@ -35,8 +37,8 @@ pub fn is_words(lexeme: &[u8]) -> bool
     is_long_words(lexeme)
 }
 
-// The same for four to eight bytes, by the first four and the last four. Most are letters alone: these are
-// asked for first.
+// The same for four to eight bytes, by the first four and the last four. Most lexemes have letters alone, so
+// that these are tested first.
 fn two_fours(lexeme: &[u8]) -> bool
     requires { ⌜ (4 ≤ length (now lexeme)) × (length (now lexeme) ≤ 8) ⌝ }
     ensures { λ r. ⌜ r ≡ runOf isWordByte (now (lexeme .entry)) ⌝ }
@@ -57,8 +59,8 @@ fn two_eights(lexeme: &[u8]) -> bool
     all_high(first & last)
 }
 
-// The same from eight on. Eight are tested at a time: the last eight of all, where fewer are left. A string
-// begins with a quote.
+// The same for eight bytes and more. Eight are tested at a time; where fewer are left, the last eight of all.
+// A string is told at once, by its first byte.
 fn is_long_words(lexeme: &[u8]) -> bool
     requires { ⌜ 8 ≤ length (now lexeme) ⌝ }
     ensures { λ r. ⌜ r ≡ runOf isWordByte (now (lexeme .entry)) ⌝ }
@@ -81,7 +83,7 @@ fn is_long_words(lexeme: &[u8]) -> bool
     true
 }
 
-// The same from thirty-two on, and thirty-two at a time.
+// The same for thirty-two bytes and more, thirty-two at a time.
 fn is_block_words(lexeme: &[u8]) -> bool
     requires { ⌜ 32 ≤ length (now lexeme) ⌝ }
     ensures { λ r. ⌜ r ≡ runOf isWordByte (now (lexeme .entry)) ⌝ }
@@ -98,7 +100,7 @@ fn is_block_words(lexeme: &[u8]) -> bool
     true
 }
 
-// The same for none, two or three bytes.
+// The same for no byte, two or three.
 fn is_short_words(lexeme: &[u8]) -> bool
     requires { ⌜ (length (now lexeme) < 4) × (length (now lexeme) ≡ 1 → ⊥) ⌝ }
     ensures { λ r. ⌜ r ≡ runOf isWordByte (now (lexeme .entry)) ⌝ }
@@ -118,19 +120,10 @@ fn is_short_words(lexeme: &[u8]) -> bool
     is_word(lexeme[2])
 }
 
-// The smaller of two numbers.
-pub fn smaller(a: usize, b: usize) -> usize
-    ensures { λ r. ⌜ r ≡ min a b ⌝ }
-{
-    if a < b {
-        return a;
-    }
-    b
-}
-
 // ---- a block of thirty-two
 
-// Whether the thirty-two bytes from `at` on are word bytes. No byte ends the loop, so that it compiles to vector code.
+// Whether the thirty-two bytes from `at` on are word bytes. No byte ends the loop, so that it compiles to
+// vector code.
 fn block_words(s: &[u8], at: usize) -> bool
     requires { ⌜ at + 32 ≤ length (now s) ⌝ }
     ensures { λ r. ⌜ r ≡ all isWordByte (take 32 (drop at (now (s .entry)))) ⌝ }
@@ -144,14 +137,14 @@ fn block_words(s: &[u8], at: usize) -> bool
     words == 32
 }
 
-// 1 for a word byte, 0 for another: of the tests one at most holds.
+// 1 for a word byte, and 0 for another. At most one of the tests holds.
 fn count_word(b: u8) -> u8
     ensures { λ r. ⌜ (r ≡ cond (isWordByte b) 1 0) × (r ≤ 1) ⌝ }
 {
     one(128 <= b) + one(b == b'_') + one(is_digit(b)) + one(is_small(b | 32))
 }
 
-// 1 for yes, 0 for no.
+// 1 for yes, and 0 for no.
 pub fn one(x: bool) -> u8
     ensures { λ r. ⌜ (r ≡ cond x 1 0) × (r ≤ 1) ⌝ }
 {
@@ -166,8 +159,8 @@ pub fn one(x: bool) -> u8
 // In each byte, the bit that makes a letter small.
 const SMALL: u64 = 0x2020_2020_2020_2020;
 
-// What a number is multiplied by to stand behind four bytes.
-const BEHIND_FOUR: u64 = 0x1_0000_0000;
+// What a number is multiplied by to stand after four bytes.
+const AFTER_FOUR: u64 = 0x1_0000_0000;
 
 // Whether the eight bytes from `at` on are word bytes.
 fn eight_words(s: &[u8], at: usize) -> bool
@@ -177,7 +170,7 @@ fn eight_words(s: &[u8], at: usize) -> bool
     all_high(words_in(eights::eight_bytes(s, at)))
 }
 
-// Whether all are letters, for four to eight bytes. A byte with its high bit set is no letter.
+// Whether all bytes are letters, for four to eight of them. A byte with its high bit set is no letter.
 fn is_letters(s: &[u8]) -> bool
     requires { ⌜ (4 ≤ length (now s)) × (length (now s) ≤ 8) ⌝ }
     ensures { λ r. ⌜ (r ≡ true → runOf isWordByte (now (s .entry)) ≡ true) ⌝ }
@@ -189,31 +182,30 @@ fn is_letters(s: &[u8]) -> bool
 // The first four and the last four bytes, which may overlap, in one number.
 fn fours(s: &[u8]) -> u64
     requires { ⌜ 4 ≤ length (now s) ⌝ }
-    ensures { λ r. ⌜ r ≡ number (now (s .entry)) 0
-        + number (now (s .entry)) (length (now (s .entry)) - 4) * 0x1_0000_0000 ⌝ }
+    ensures { λ r. ⌜ r ≡ foursOf (now (s .entry)) ⌝ }
 {
     let first = wide(number_at(s, 0));
     let last = wide(number_at(s, s.len() - 4));
-    first + last * BEHIND_FOUR
+    first + last * AFTER_FOUR
 }
 
 // The same number in 64 bits.
 fn wide(n: u32) -> u64
-    ensures { λ r. ⌜ (r ≡ n) × (r ≤ 0xffff_ffff) ⌝ }
+    ensures { λ r. ⌜ (r ≡ n) × (r ≤ most32) ⌝ }
 {
     n as u64
 }
 
-// Whether each byte's high bit is set: the tests below answer there, byte by byte, and leave anything in the
-// other bits.
+// Whether the high bit of each byte is set. The tests below answer there, byte by byte, and leave anything in
+// the other bits.
 fn all_high(x: u64) -> bool
     ensures { λ r. ⌜ r ≡ eqb (bitAnd x (128 * eightOnes)) (128 * eightOnes) ⌝ }
 {
     x & eights::HIGH == eights::HIGH
 }
 
-// Which bytes are word bytes: letters, digits, `_` and those with the high bit set. `_` with its bit of SMALL
-// changed is 127: of the low parts that one alone reaches the high bit when 1 is added.
+// Tells which bytes are word bytes: letters, digits, `_` and those with the high bit set. `_` with its bit of
+// SMALL changed is 127: of the low parts that one alone reaches the high bit when 1 is added.
 fn words_in(x: u64) -> u64
     ensures { λ r. ⌜ r ≡ wordsIn eightOnes x ⌝ }
 {
@@ -221,17 +213,17 @@ fn words_in(x: u64) -> u64
     letters_in(x) | bytes_within(low, b'0', b'9') | ((low ^ SMALL) + eights::ONES) | x
 }
 
-// Which bytes are letters but for the high bit: each is made small first.
+// Tells which bytes are letters but for the high bit. Each is made small first.
 fn letters_in(x: u64) -> u64
     ensures { λ r. ⌜ r ≡ lettersIn eightOnes x ⌝ }
 {
     bytes_within((x & eights::LOW) | SMALL, b'a', b'z')
 }
 
-// Which bytes are one of `first` to `last`: whether each reaches the one and not what is behind the other.
-// All are below 128, so that no sum carries into the next byte.
+// Tells which bytes are one of `first` to `last`: those that reach `first` and not the byte after `last`. All
+// bytes of `low` are below 128, so that no sum carries into the next byte.
 fn bytes_within(low: u64, first: u8, last: u8) -> u64
-    requires { ⌜ (low ≤ 0x7f7f_7f7f_7f7f_7f7f) × (first ≤ 128) × (last ≤ 127) ⌝ }
+    requires { ⌜ (low ≤ eightLows) × (first ≤ 128) × (last ≤ 127) ⌝ }
     ensures { λ r. ⌜ r ≡ bytesWithin eightOnes low first last ⌝ }
 {
     (low + (128 - first as u64) * eights::ONES) ^ (low + (127 - last as u64) * eights::ONES)
@@ -239,35 +231,22 @@ fn bytes_within(low: u64, first: u8, last: u8) -> u64
 
 // ---- one byte
 
-// The word bytes below 64, and those of 64–127, as bits.
-const WORD_LOW: u64 = 0x03ff_0000_0000_0000;
-
-const WORD_HIGH: u64 = 0x07ff_fffe_87ff_fffe;
-
-// Whether it is a word byte. Most are small letters: these are asked for first.
+// Whether the byte is a word byte. Most are small letters, so that these are tested first.
 fn is_word(b: u8) -> bool
     ensures { λ r. ⌜ r ≡ isWordByte b ⌝ }
 {
     if is_small(b) {
         return true;
     }
-    let k = b as u32;
-    if k < 64 {
-        return (WORD_LOW >> k) % 2 == 1;
-    }
-    if k < 128 {
-        let j = k - 64;
-        return (WORD_HIGH >> j) % 2 == 1;
-    }
-    true
+    bytes::is_word(b)
 }
 
-// Whether it is a small letter.
+// Whether the byte is one of a to z.
 fn is_small(b: u8) -> bool
-    ensures { λ r. ⌜ r ≡ within 97 122 b ⌝ }
+    ensures { λ r. ⌜ r ≡ within (byte "a") (byte "z") b ⌝ }
 {
-    if 97 <= b {
-        return b <= 122;
+    if b'a' <= b {
+        return b <= b'z';
     }
     false
 }

@@ -10,6 +10,7 @@ fn main() {
     replay(&input[..size]);
 }
 
+// Replays the cases one by one, up to the first that is not whole.
 fn replay(input: &[u8]) {
     let mut at = 0;
     while at < input.len() {
@@ -21,8 +22,8 @@ fn replay(input: &[u8]) {
     }
 }
 
-// A case is how many numbers the slice has and how many bytes the text, three digits each, then the text, each
-// of the two lines with a line feed. Answers where the next case stands, or 0 where no whole case stands at `at`.
+// A case is two lines: how many numbers the slice has and how many bytes the text, three digits each; then the
+// text. Reads the case at `at`, and answers where the next one stands, or 0 where no whole case stands there.
 fn replay_case(input: &[u8], at: usize) -> usize {
     if input.len() < at {
         return 0;
@@ -41,12 +42,14 @@ fn replay_case(input: &[u8], at: usize) -> usize {
     at + end + 1
 }
 
+// The number of three digits.
 fn number(a: u8, b: u8, c: u8) -> usize
     ensures { λ r. ⌜ r < 1000 ⌝ }
 {
     100 * digit(a) + 10 * digit(b) + digit(c)
 }
 
+// The value of a digit, and some number below 10 for any other byte.
 fn digit(b: u8) -> usize
     ensures { λ r. ⌜ r < 10 ⌝ }
 {
@@ -56,7 +59,8 @@ fn digit(b: u8) -> usize
     ((b - 48) % 10) as usize
 }
 
-// The slice is filled with 7 before the call, so that what is unchanged can be told from what is zeroed.
+// Reads the text into a slice of so many numbers, at most 64. It is filled with 7 before the call, so that what
+// is unchanged can be told from what is zeroed.
 fn read_back(text: &[u8], slots: usize) {
     let mut numbers = [7u32; 64];
     let space: &mut [u32] = &mut numbers;
@@ -65,6 +69,7 @@ fn read_back(text: &[u8], slots: usize) {
     }
 }
 
+// Writes a line: the answer of `read_pieces`, that of `count_pieces`, and the slice after the call.
 fn read_into(text: &[u8], numbers: &mut [u32]) {
     print_answer(pieces::read_pieces(text, numbers));
     io::write_all(STDOUT_FILENO, b", ");
@@ -74,30 +79,35 @@ fn read_into(text: &[u8], numbers: &mut [u32]) {
     io::write_all(STDOUT_FILENO, b"\n");
 }
 
+// Writes an answer as its refusal, or 0, and its number.
 fn print_answer(answer: pieces::Answer) {
     match answer {
-        pieces::Answer::Pieces(n) => print_pair(0, n as u64),
-        pieces::Answer::Unreadable(i) => print_pair(9, i as u64),
-        pieces::Answer::PiecesFull(s) => print_pair(10, s as u64),
+        pieces::Answer::Pieces { count } => print_pair(0, count as u64),
+        pieces::Answer::Unreadable { index } => print_pair(9, index as u64),
+        pieces::Answer::PiecesFull { start } => print_pair(10, start as u64),
     }
 }
 
+// Writes two numbers with a space between.
 fn print_pair(refusal: u64, value: u64) {
     io::print_decimal(STDOUT_FILENO, refusal);
     print_number(value);
 }
 
+// Writes each number of the slice after a space.
 fn print_slots(numbers: &[u32]) {
     for i in 0..numbers.len() {
         print_number(wide(numbers[i]));
     }
 }
 
+// Writes a space and the number.
 fn print_number(n: u64) {
     io::write_all(STDOUT_FILENO, b" ");
     io::print_decimal(STDOUT_FILENO, n);
 }
 
+// The same number in 64 bits.
 fn wide(n: u32) -> u64 {
     n as u64
 }

@@ -163,8 +163,8 @@ module _ {M : Type 1} (𝓤 : URA M) (H : Heap 𝓤) (A : Atoms 𝓤) (mem : Mem
       number : {i n : ℕ} → Counts text i n → n < 2 ^ 64
       number σ = omega (arith, σ .few, σ .within, size)
 
-      behind : {i n : ℕ} → Counts text i n → end i < 2 ^ 64
-      behind {i} {n} σ = omega (arith, end-within text i n σ, size)
+      after-piece : {i n : ℕ} → Counts text i n → end i < 2 ^ 64
+      after-piece {i} {n} σ = omega (arith, end-within text i n σ, size)
 
       turned : (i n : ℕ) → Counts text i n → T (ltb i (end i)) → Counts text (end i) (n + 1)
       turned i n σ holds = more text i n σ (ltb→lt i (end i) holds)
@@ -223,14 +223,14 @@ module _ {M : Type 1} (𝓤 : URA M) (H : Heap 𝓤) (A : Atoms 𝓤) (mem : Mem
         unfolding afterTurn
         turn (i, n, σ) =
             assigns ! (of-opd ! (load ! (from ! (fld ! refl (stop !))) (look-in ! 20 (sub ! 1 refl (whole !))))) (from ! (stop !)) (init ! 12 refl (tt, record { fits = index σ })) $
-            assigns ! (of-opd ! (load ! (from ! (fld ! refl (stop !))) (look-in ! 18 (sub ! 1 refl (whole !))))) (from ! (stop !)) (init ! 10 refl (tt, record { fits = behind σ })) $
+            assigns ! (of-opd ! (load ! (from ! (fld ! refl (stop !))) (look-in ! 18 (sub ! 1 refl (whole !))))) (from ! (stop !)) (init ! 10 refl (tt, record { fits = after-piece σ })) $
             assigns ! (bin ! (load ! (from ! (stop !)) (look ! 12 refl)) (load ! (from ! (stop !)) (look ! 10 refl)) tt) (from ! (stop !)) (init ! 8 refl (tt, tt)) $
             tests ! (load ! (from ! (stop !)) (look ! 8 refl))
             (λ holds.
-            assigns ! (of-opd ! (load ! (from ! (stop !)) (look ! 18 refl))) (from ! (stop !)) (store ! 20 refl (typed (end i) (behind σ))) $
+            assigns ! (of-opd ! (load ! (from ! (stop !)) (look ! 18 refl))) (from ! (stop !)) (store ! 20 refl (typed (end i) (after-piece σ))) $
             assigns ! (bin ! (load ! (from ! (stop !)) (look ! 16 refl)) (lit ! tt) (record { fits = number (turned i n σ holds) })) (from ! (stop !)) (store ! 16 refl (tt, record { fits = number (turned i n σ holds) })) $
-            assigns ! (of-opd ! (load ! (from ! (stop !)) (look ! 20 refl))) (from ! (stop !)) (init ! 6 refl (typed (end i) (behind σ))) $
-            use2 W (raw (Advance .pre (passed (end i))) ⊛ ‵ Own) (asked (end i) (behind σ)) $ split ! $
+            assigns ! (of-opd ! (load ! (from ! (stop !)) (look ! 20 refl))) (from ! (stop !)) (init ! 6 refl (typed (end i) (after-piece σ))) $
+            use2 W (raw (Advance .pre (passed (end i))) ⊛ ‵ Own) (asked (end i) (after-piece σ)) $ split ! $
             calls-at-last ! (fmOf 𝓤 H (W .laws) 𝓣) Advance advances (passed (end i)) (and-then ! (load ! (from ! (stop !)) (look ! 6 refl)) (no-more !)) (λ u.
             told ! tt advance.ended (advance.clauses 𝓤 H A mem run) (passed (end i)) u (λ r. r ≡ advanced (reads (end i))) (λ r h. id⊢ 𝓤 _) (λ r h rs. drop ! $
             -- [the token; the text; _11; …]

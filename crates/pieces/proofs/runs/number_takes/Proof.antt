@@ -17,8 +17,8 @@ returns c = number-word (c .before .before .before .before .args .text .now) (c 
 returns-2 : tie.Need-returns-2
 returns-2 c = number-other (c .before .before .before .before .before .args .text .now) (c .before .before .before .before .before .args .i) (sym (c .before .before .is-word .ensures) ∙ c .before .if1 .left) (c .if2 .taken)
 
-add-behind : tie.Need-add-behind
-add-behind c = search needs
+add-after : tie.Need-add-after
+add-after c = search needs
 
 shared-slice-read-is-digit : tie.Need-shared-slice-read-is-digit
 shared-slice-read-is-digit c = search needs
@@ -40,7 +40,7 @@ number-takes-spec =
     is-word-requires
     returns
     returns-2
-    add-behind
+    add-after
     shared-slice-read-is-digit
     is-digit-requires
     returns-3

@@ -15,6 +15,17 @@ Inv-loop rows at i₀ i = (i ≤ at) × ((text : List ℕ) → factsAt rows text
 abbrev μ-loop : tie.MeasureT-loop
 μ-loop rows at i₀ i = i
 
+-- ---- the way back, from each place that the answers start at to the one before it
+
+-- the function's entry, from the loop's head, and that from where the kind is known
+abbrev entry : tie.At-loop Inv-loop μ-loop → tie.Start Inv-loop μ-loop
+entry c = c .before .before
+
+abbrev head : tie.After-number-at Inv-loop μ-loop → tie.At-loop Inv-loop μ-loop
+head c = c .before .before
+
+-- ---- the answers
+
 loop-holds : tie.Need-loop-holds Inv-loop μ-loop
 loop-holds c = (omega arith, λ text. refl)
 
@@ -25,19 +36,34 @@ number-at-requires : tie.Need-number-at-requires Inv-loop μ-loop
 number-at-requires c κs = omega (arith, c .before .loop .inv .0)
 
 returns : tie.Need-returns Inv-loop μ-loop
-returns c = λ text. armed-record (c .before .before .before .before .before .args .rows .now) text (c .before .before .before .loop .i) (search needs) (c .before .number-at .ensures) (c .if1 .taken) ∙ sym (c .before .before .before .loop .inv .1 text)
+returns c =
+    let k = c .before in
+    let l = head k in
+    λ text. armed-record (entry l .args .rows .now) text (l .loop .i) (search needs) (k .number-at .ensures) (c .if1 .taken) ∙ sym (l .loop .inv .1 text)
 
 returns-2 : tie.Need-returns-2 Inv-loop μ-loop
-returns-2 c = λ text. armed-brace (c .before .before .before .before .before .before .args .rows .now) text (c .before .before .before .before .loop .i) (search needs) (c .before .before .number-at .ensures) (c .if2 .taken) ∙ sym (c .before .before .before .before .loop .inv .1 text)
+returns-2 c =
+    let k = c .before .before in
+    let l = head k in
+    λ text. armed-brace (entry l .args .rows .now) text (l .loop .i) (search needs) (k .number-at .ensures) (c .if2 .taken) ∙ sym (l .loop .inv .1 text)
 
 loop-less : tie.Need-loop-less Inv-loop μ-loop
 loop-less c = search needs
 
 loop-again : tie.Need-loop-again Inv-loop μ-loop
-loop-again c = (omega (arith, c .before .before .before .before .loop .inv .0), λ text. c .before .before .before .before .loop .inv .1 text ∙ armed-other (c .before .before .before .before .before .before .args .rows .now) text (c .before .before .before .before .loop .i) (search needs) (c .before .before .number-at .ensures) (c .before .if1 .left) (c .if2 .left))
+loop-again c =
+    let k = c .before .before in
+    let l = head k in (
+      omega (arith, l .loop .inv .0),
+      λ text.
+          l .loop .inv .1 text
+          ∙ armed-other (entry l .args .rows .now) text (l .loop .i) (search needs) (k .number-at .ensures) (c .before .if1 .left) (c .if2 .left),
+    )
 
 returns-3 : tie.Need-returns-3 Inv-loop μ-loop
-returns-3 c = λ text. sym (c .before .loop .inv .1 text ∙ ap (λ q. q .armed) (facts-none (c .before .before .before .args .rows .now) text (c .before .loop .i) (search needs)))
+returns-3 c =
+    let l = c .before in
+    λ text. sym (l .loop .inv .1 text ∙ ap (λ q. q .armed) (facts-none (entry l .args .rows .now) text (l .loop .i) (search needs)))
 
 pub is-armed-spec : {M : Type 1} → statement M
 is-armed-spec =

@@ -2,6 +2,7 @@
 use mathlib.Core.List.{[], _∷_}
 use mathlib.Core.Path.{refl, _∙_}
 use borrow.Author.Needs.{needs}
+use Rattle.shared.specs.Bytes.{elseWord}
 use Rattle.rows.specs.Kinds.{Colon, Semicolon, Question, Dot, DotDot, ColonColon, Hash, Bang, Minus, Else}
 use Rattle.pieces.specs.Class.{class}
 use Rattle.pieces.specs.Reading.{read}
@@ -84,7 +85,15 @@ returns-10 c = c .is-single7 .ensures ∙ itself-fixed Minus (c .before .before 
 
 returns-11 : tie.Need-returns-11
 unfolding hasItsLexeme readsWhole read class
-returns-11 c = c .is-else .ensures ∙ itself-fixed Else (c .before .before .before .args .lexeme .now) (101 ∷ 108 ∷ 115 ∷ 101 ∷ []) (only-else (c .before .before .before .args .kind) (c .before .before .before .pre .0) (c .before .before .before .pre .1) (c .before .match .rest .0 .0 .0 .0 .0 .0 .0 .0 .0 .1) (c .before .match .rest .0 .0 .0 .0 .0 .0 .0 .0 .1) (c .before .match .rest .0 .0 .0 .0 .0 .0 .0 .1) (c .before .match .rest .0 .0 .0 .0 .0 .0 .1) (c .before .match .rest .0 .0 .0 .0 .0 .1) (c .before .match .rest .0 .0 .0 .0 .1) (c .before .match .rest .0 .0 .0 .1) (c .before .match .rest .0 .0 .1) (c .before .match .rest .0 .1) (c .before .match .rest .1)) refl refl
+returns-11 c =
+    let e = c .before .before .before in
+    let others = c .before .match .rest in
+    c .is-else .ensures
+    ∙ itself-fixed Else (e .args .lexeme .now) elseWord
+    (only-else (e .args .kind) (e .pre .0) (e .pre .1) (others .0 .0 .0 .0 .0 .0 .0 .0 .0 .1) (others .0 .0 .0 .0 .0 .0 .0 .0 .1)
+    (others .0 .0 .0 .0 .0 .0 .0 .1) (others .0 .0 .0 .0 .0 .0 .1) (others .0 .0 .0 .0 .0 .1) (others .0 .0 .0 .0 .1) (others .0 .0 .0 .1)
+    (others .0 .0 .1) (others .0 .1) (others .1))
+    refl refl
 
 pub is-itself-spec : {M : Type 1} → statement M
 is-itself-spec =

@@ -35,7 +35,13 @@ sub-result : tie.Need-sub-result
 sub-result c = search needs
 
 returns-5 : tie.Need-returns-5
-returns-5 c = λ e. quote-value (c .before .before .before .before .before .before .before .before .args .lexeme .now) (c .before .before .before .before .before .before .before .before .pre .0) (c .before .before .before .before .before .before .before .before .pre .1) (sym (c .before .before .before .before .before .before .is-quote .ensures) ∙ not-false _ (c .before .before .before .before .before .if1 .left)) (c .before .before .before .ordinary-end .ensures) (search needs) (c .if4 .left) e
+returns-5 c =
+    let o = c .before .before .before in
+    let q = o .before .before in
+    let e = q .before .before .before in
+    λ yes.
+    quote-value (e .args .lexeme .now) (e .pre .0) (e .pre .1) (sym (q .before .is-quote .ensures) ∙ not-false _ (q .if1 .left))
+    (o .ordinary-end .ensures) (search needs) (c .if4 .left) yes
 
 pub is-quoted-spec : {M : Type 1} → statement M
 is-quoted-spec =

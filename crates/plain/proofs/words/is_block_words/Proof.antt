@@ -18,6 +18,17 @@ Inv-loop lexeme size last i₀ i = runOf isWordByte lexeme ≡ all isWordByte (d
 abbrev μ-loop : tie.MeasureT-loop
 μ-loop lexeme size last i₀ i = length lexeme - i
 
+-- ---- the way back, from each place that the answers start at to the one before it
+
+-- the function's entry, from the loop's head, and that from where the block's index is known
+abbrev entry : tie.At-loop Inv-loop μ-loop → tie.Start Inv-loop μ-loop
+entry c = c .before .before
+
+abbrev head : tie.After-smaller Inv-loop μ-loop → tie.At-loop Inv-loop μ-loop
+head c = c .before .before
+
+-- ---- the answers
+
 sub-last : tie.Need-sub-last Inv-loop μ-loop
 sub-last c = search needs
 
@@ -28,10 +39,17 @@ smaller-requires : tie.Need-smaller-requires Inv-loop μ-loop
 smaller-requires c κs = search needs
 
 block-words-requires : tie.Need-block-words-requires Inv-loop μ-loop
-block-words-requires c κs = let h = c .before .before .before .before .pre in omega (arith, min-le-right (c .before .before .loop .i) (length (c .before .before .before .before .args .lexeme .now) - 32))
+block-words-requires c κs =
+    let e = entry (head c) in
+    let h = e .pre in
+    omega (arith, min-le-right (head c .loop .i) (length (e .args .lexeme .now) - 32))
 
 returns : tie.Need-returns Inv-loop μ-loop
-returns c = eights-stop 32 isWordByte (c .before .before .before .before .before .before .args .lexeme .now) (c .before .before .before .before .before .before .pre) (omega arith) (c .before .before .smaller .result) (sym (c .before .block-words .ensures) ∙ not-true _ (c .if1 .taken))
+returns c =
+    let w = c .before in
+    let e = entry (head (w .before)) in
+    eights-stop 32 isWordByte (e .args .lexeme .now) (e .pre) (omega arith) (w .before .smaller .result)
+    (sym (w .block-words .ensures) ∙ not-true _ (c .if1 .taken))
 
 add-i : tie.Need-add-i Inv-loop μ-loop
 add-i c = search needs
@@ -40,10 +58,17 @@ loop-less : tie.Need-loop-less Inv-loop μ-loop
 loop-less c = search needs
 
 loop-again : tie.Need-loop-again Inv-loop μ-loop
-loop-again c = eights-more 32 isWordByte (c .before .before .before .before .before .before .args .lexeme .now) (c .before .before .before .before .before .before .pre) (omega arith) (c .before .before .before .before .loop .i) (c .before .before .smaller .ensures) (sym (c .before .block-words .ensures) ∙ not-false _ (c .if1 .left)) (c .before .before .before .before .loop .inv)
+loop-again c =
+    let w = c .before in
+    let l = head (w .before) in
+    let e = entry l in
+    eights-more 32 isWordByte (e .args .lexeme .now) (e .pre) (omega arith) (l .loop .i) (w .before .smaller .ensures)
+    (sym (w .block-words .ensures) ∙ not-false _ (c .if1 .left)) (l .loop .inv)
 
 returns-2 : tie.Need-returns-2 Inv-loop μ-loop
-returns-2 c = run-out isWordByte (c .before .before .before .args .lexeme .now) (c .before .loop .i) (c .before .loop .inv) (search needs)
+returns-2 c =
+    let l = c .before in
+    run-out isWordByte (entry l .args .lexeme .now) (l .loop .i) (l .loop .inv) (search needs)
 
 pub is-block-words-spec : {M : Type 1} → statement M
 is-block-words-spec =

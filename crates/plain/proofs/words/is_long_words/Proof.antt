@@ -18,6 +18,18 @@ Inv-loop lexeme size last i₀ i = runOf isWordByte lexeme ≡ all isWordByte (d
 abbrev μ-loop : tie.MeasureT-loop
 μ-loop lexeme size last i₀ i = length lexeme - i
 
+-- ---- the way back, from each place that the answers start at to the one before it
+
+-- the function's entry, from where there are less than thirty-two bytes
+abbrev entry : tie.Else2 Inv-loop μ-loop → tie.Start Inv-loop μ-loop
+entry c = c .before .before .before .before
+
+-- the loop's head, from where the eight's index is known
+abbrev head : tie.After-smaller Inv-loop μ-loop → tie.At-loop Inv-loop μ-loop
+head c = c .before .before
+
+-- ---- the answers
+
 shared-slice-read-if1 : tie.Need-shared-slice-read-if1 Inv-loop μ-loop
 shared-slice-read-if1 c = omega arith
 
@@ -31,19 +43,28 @@ returns-2 : tie.Need-returns-2 Inv-loop μ-loop
 returns-2 c = search needs
 
 sub-last : tie.Need-sub-last Inv-loop μ-loop
-sub-last c = let h = c .before .before .before .before .pre in omega arith
+sub-last c = let h = entry c .pre in omega arith
 
 loop-holds : tie.Need-loop-holds Inv-loop μ-loop
-loop-holds c = run-start isWordByte (c .before .before .before .before .args .lexeme .now) (λ z. let h = c .before .before .before .before .pre in omega arith)
+loop-holds c =
+    let e = entry c in
+    run-start isWordByte (e .args .lexeme .now) (λ z. let h = e .pre in omega arith)
 
 smaller-requires : tie.Need-smaller-requires Inv-loop μ-loop
 smaller-requires c κs = search needs
 
 eight-words-requires : tie.Need-eight-words-requires Inv-loop μ-loop
-eight-words-requires c κs = let h = c .before .before .before .before .before .before .before .pre in omega (arith, min-le-right (c .before .before .loop .i) (length (c .before .before .before .before .before .before .before .args .lexeme .now) - 8))
+eight-words-requires c κs =
+    let e = entry (head c .before) in
+    let h = e .pre in
+    omega (arith, min-le-right (head c .loop .i) (length (e .args .lexeme .now) - 8))
 
 returns-3 : tie.Need-returns-3 Inv-loop μ-loop
-returns-3 c = eights-stop 8 isWordByte (c .before .before .before .before .before .before .before .before .before .args .lexeme .now) (c .before .before .before .before .before .before .before .before .before .pre) (omega arith) (c .before .before .smaller .result) (sym (c .before .eight-words .ensures) ∙ not-true _ (c .if3 .taken))
+returns-3 c =
+    let w = c .before in
+    let e = entry (head (w .before) .before) in
+    eights-stop 8 isWordByte (e .args .lexeme .now) (e .pre) (omega arith) (w .before .smaller .result)
+    (sym (w .eight-words .ensures) ∙ not-true _ (c .if3 .taken))
 
 add-i : tie.Need-add-i Inv-loop μ-loop
 add-i c = search needs
@@ -52,10 +73,17 @@ loop-less : tie.Need-loop-less Inv-loop μ-loop
 loop-less c = search needs
 
 loop-again : tie.Need-loop-again Inv-loop μ-loop
-loop-again c = eights-more 8 isWordByte (c .before .before .before .before .before .before .before .before .before .args .lexeme .now) (c .before .before .before .before .before .before .before .before .before .pre) (omega arith) (c .before .before .before .before .loop .i) (c .before .before .smaller .ensures) (sym (c .before .eight-words .ensures) ∙ not-false _ (c .if3 .left)) (c .before .before .before .before .loop .inv)
+loop-again c =
+    let w = c .before in
+    let l = head (w .before) in
+    let e = entry (l .before) in
+    eights-more 8 isWordByte (e .args .lexeme .now) (e .pre) (omega arith) (l .loop .i) (w .before .smaller .ensures)
+    (sym (w .eight-words .ensures) ∙ not-false _ (c .if3 .left)) (l .loop .inv)
 
 returns-4 : tie.Need-returns-4 Inv-loop μ-loop
-returns-4 c = run-out isWordByte (c .before .before .before .before .before .before .args .lexeme .now) (c .before .loop .i) (c .before .loop .inv) (search needs)
+returns-4 c =
+    let l = c .before in
+    run-out isWordByte (entry (l .before) .args .lexeme .now) (l .loop .i) (l .loop .inv) (search needs)
 
 pub is-long-words-spec : {M : Type 1} → statement M
 is-long-words-spec =
