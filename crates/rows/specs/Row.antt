@@ -21,7 +21,8 @@ number bytes at =
 
 -- the row whose bytes start at an index
 abbrev pub rowAt : List ℕ → ℕ → Row
-rowAt bytes at = record { what = number bytes at; kind = number bytes (at + 4); start = number bytes (at + 8); end = number bytes (at + 12) }
+rowAt bytes at =
+    record { what = number bytes at; kind = number bytes (at + 4); start = number bytes (at + 8); end = number bytes (at + 12) }
 
 -- the first n rows
 unfoldable pub firstRows : ℕ → List ℕ → List Row

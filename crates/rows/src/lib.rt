@@ -47,7 +47,7 @@ pub fn check(
     )
 }
 
-// Answers what `check` answers. Where `good` is true, the caller knows that no row is bad, and none is looked at.
+// Answers what `check` answers. Where `good` is true, no row is bad, and none is looked at.
 pub fn check_unless_known(
     style: u32,
     indent_width: u32,
@@ -122,7 +122,7 @@ fn wide(b: u8) -> u32
     b as u32
 }
 
-// Looks for refusals 2 and 3 in that order, where the text has `size` bytes; where `good` is true, no row is bad.
+// Looks for refusals 2 and 3 in that order. The text has `size` bytes; where `good` is true, no row is bad.
 fn check_rows(rows: &[u8], size: usize, good: bool) -> Checked
     requires { ⌜ (good ≡ true → GoodRows (now rows) size) ⌝ }
     ensures { λ r. ⌜ reported r ≡ rowsReport (now (rows .entry)) size ⌝ }
