@@ -2,7 +2,7 @@
 use mathlib.Core.Path.{sym, _∙_}
 use lib.Seq.{length-take-le}
 use borrow.Author.Needs.{needs}
-use Rattle.format_source.proofs.Behind.{within-source, without-line, rows-refused, text-fits, with-line}
+use Rattle.format_source.proofs.AfterLine.{within-source, without-line, rows-refused, text-fits, with-line}
 use Rattle.format_source.proofs.format_source_with_shebang.Statement.{statement}
 use Rattle.format_source.proofs.format_source_with_shebang.Tie as tie
 
@@ -42,17 +42,17 @@ returns-2 c = let μ = rows-refused (c .before .before .before .before .before .
 sub-end : tie.Need-sub-end
 sub-end c = search needs
 
-slice-aggregate-put-first : tie.Need-slice-aggregate-put-first
-slice-aggregate-put-first c = sym (length-take-le _ _ (within-source (c .before .before .before .before .before .before .before .before .before .before .before .before .before .before .args .source .now) (c .before .before .before .before .before .before .before .before .before .shebang-len .ensures) (c .before .before .before .if1 .left)))
+slice-aggregate-with-line : tie.Need-slice-aggregate-with-line
+slice-aggregate-with-line c = sym (length-take-le _ _ (within-source (c .before .before .before .before .before .before .before .before .before .before .before .before .before .before .args .source .now) (c .before .before .before .before .before .before .before .before .before .shebang-len .ensures) (c .before .before .before .if1 .left)))
 
-put-first-requires : tie.Need-put-first-requires
-put-first-requires c κs = text-fits (c .before .before .before .before .before .before .before .before .before .before .before .before .before .before .before .args .source .now) (c .before .before .before .before .before .before .before .before .before .before .before .before .before .before .before .args .rows .now) (c .before .before .before .before .before .before .before .before .before .before .before .before .before .before .before .args .text .now) (c .before .before .before .before .before .before .before .before .before .before .before .before .before .before .before .args .out .now) (c .before .before .before .before .before .before .before .before .before .before .shebang-len .ensures) (c .before .before .before .before .before .before .before .before .before .smaller .ensures) (record { answer = c .before .before .before .before .before .before .before .format-tokens-with .ensures .0; output = c .before .before .before .before .before .before .before .format-tokens-with .ensures .1 }) (c .before .before .before .before .if1 .left)
+with-line-requires : tie.Need-with-line-requires
+with-line-requires c κs = text-fits (c .before .before .before .before .before .before .before .before .before .before .before .before .before .before .before .args .source .now) (c .before .before .before .before .before .before .before .before .before .before .before .before .before .before .before .args .rows .now) (c .before .before .before .before .before .before .before .before .before .before .before .before .before .before .before .args .text .now) (c .before .before .before .before .before .before .before .before .before .before .before .before .before .before .before .args .out .now) (c .before .before .before .before .before .before .before .before .before .before .shebang-len .ensures) (c .before .before .before .before .before .before .before .before .before .smaller .ensures) (record { answer = c .before .before .before .before .before .before .before .format-tokens-with .ensures .0; output = c .before .before .before .before .before .before .before .format-tokens-with .ensures .1 }) (c .before .before .before .before .if1 .left)
 
 same-length-3 : tie.Need-same-length-3
 same-length-3 c = search needs
 
 returns-3 : tie.Need-returns-3
-returns-3 c = let μ = with-line (c .before .before .before .before .before .before .before .before .before .before .before .before .before .before .before .before .before .before .args .source .now) (c .before .before .before .before .before .before .before .before .before .before .before .before .before .before .before .before .before .before .args .rows .now) (c .before .before .before .before .before .before .before .before .before .before .before .before .before .before .before .before .before .before .args .text .now) (c .before .before .before .before .before .before .before .before .before .before .before .before .before .before .before .before .before .before .args .out .now) (c .before .before .before .before .before .before .before .before .before .before .before .before .before .shebang-len .ensures) (c .before .before .before .before .before .before .before .before .before .before .before .before .smaller .ensures) (record { answer = c .before .before .before .before .before .before .before .before .before .before .format-tokens-with .ensures .0; output = c .before .before .before .before .before .before .before .before .before .before .format-tokens-with .ensures .1 }) (c .before .before .before .before .before .before .before .if1 .left) (sym (c .before .before .before .before .before .before .before-walk .ensures) ∙ c .before .before .before .before .before .if2 .left) (record { answer = c .before .before .put-first .ensures .0; output = c .before .before .put-first .ensures .1 }) in (μ .answer, μ .output)
+returns-3 c = let μ = with-line (c .before .before .before .before .before .before .before .before .before .before .before .before .before .before .before .before .before .before .args .source .now) (c .before .before .before .before .before .before .before .before .before .before .before .before .before .before .before .before .before .before .args .rows .now) (c .before .before .before .before .before .before .before .before .before .before .before .before .before .before .before .before .before .before .args .text .now) (c .before .before .before .before .before .before .before .before .before .before .before .before .before .before .before .before .before .before .args .out .now) (c .before .before .before .before .before .before .before .before .before .before .before .before .before .shebang-len .ensures) (c .before .before .before .before .before .before .before .before .before .before .before .before .smaller .ensures) (record { answer = c .before .before .before .before .before .before .before .before .before .before .format-tokens-with .ensures .0; output = c .before .before .before .before .before .before .before .before .before .before .format-tokens-with .ensures .1 }) (c .before .before .before .before .before .before .before .if1 .left) (sym (c .before .before .before .before .before .before .before-walk .ensures) ∙ c .before .before .before .before .before .if2 .left) (record { answer = c .before .before .with-line .ensures .0; output = c .before .before .with-line .ensures .1 }) in (μ .answer, μ .output)
 
 pub format-source-with-shebang-spec : {M : Type 1} → statement M
 format-source-with-shebang-spec =
@@ -70,7 +70,7 @@ format-source-with-shebang-spec =
     same-length-2
     returns-2
     sub-end
-    slice-aggregate-put-first
-    put-first-requires
+    slice-aggregate-with-line
+    with-line-requires
     same-length-3
     returns-3)

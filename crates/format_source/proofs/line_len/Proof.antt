@@ -4,12 +4,12 @@ use Prim.Native.Nat.{_-_, _≤_}
 use native.Mathlib.Omega.{arith}
 use lib.ListN.{length}
 use borrow.Author.Needs.{needs}
-use Rattle.format_source.proofs.Lines.{EndsBehind, ends-at, ends-later, ends-last}
+use Rattle.format_source.proofs.Lines.{EndsAfter, ends-at, ends-later, ends-last}
 use Rattle.format_source.proofs.line_len.Statement.{statement}
 use Rattle.format_source.proofs.line_len.Tie as tie
 
 abbrev Inv-loop : tie.InvT-loop
-Inv-loop source i₀ i-end i = (i-end ≡ length source) × (i ≤ length source) × EndsBehind source i
+Inv-loop source i₀ i-end i = (i-end ≡ length source) × (i ≤ length source) × EndsAfter source i
 
 abbrev μ-loop : tie.MeasureT-loop
 μ-loop source i₀ i-end i = i-end - i

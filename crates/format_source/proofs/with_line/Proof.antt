@@ -1,10 +1,10 @@
--- `format_source::put_first` meets its contract. Assumes nothing.
+-- `format_source::with_line` meets its contract. Assumes nothing.
 use mathlib.Core.Path.{ap}
 use borrow.Author.Needs.{needs}
 use Rattle.format_tokens.specs.Answer.{reported}
-use Rattle.format_source.proofs.Behind.{no-text, no-room, refused, text-behind}
-use Rattle.format_source.proofs.put_first.Statement.{statement}
-use Rattle.format_source.proofs.put_first.Tie as tie
+use Rattle.format_source.proofs.AfterLine.{no-text, no-room, refused, text-after}
+use Rattle.format_source.proofs.with_line.Statement.{statement}
+use Rattle.format_source.proofs.with_line.Tie as tie
 
 add-start : tie.Need-add-start
 add-start c = search needs
@@ -40,10 +40,10 @@ same-length-3 : tie.Need-same-length-3
 same-length-3 c = search needs
 
 returns-3 : tie.Need-returns-3
-returns-3 c = let μ = text-behind (c .before .before .before .before .before .before .before .before .before .before .args .line .now) (record { report = reported (c .before .before .before .before .before .before .before .before .before .before .args .answer); out = _ }) (c .before .before .before .before .before .before .before .before .before .before .args .out .now) (search needs) (ap reported (c .before .before .before .before .before .answer .given .1)) (c .before .before .put-line .ensures) in (μ .answer, μ .output)
+returns-3 c = let μ = text-after (c .before .before .before .before .before .before .before .before .before .before .args .line .now) (record { report = reported (c .before .before .before .before .before .before .before .before .before .before .args .answer); out = _ }) (c .before .before .before .before .before .before .before .before .before .before .args .out .now) (search needs) (ap reported (c .before .before .before .before .before .answer .given .1)) (c .before .before .put-line .ensures) in (μ .answer, μ .output)
 
-pub put-first-spec : {M : Type 1} → statement M
-put-first-spec =
+pub with-line-spec : {M : Type 1} → statement M
+with-line-spec =
     tie.close
     (tie.spec
     add-start
