@@ -16,7 +16,10 @@ same-length : tie.Need-same-length
 same-length c = search needs
 
 returns : tie.Need-returns
-returns c = let μ = no-room (c .before .before .before .before .before .before .before .args .line .now) (record { report = reported (c .before .before .before .before .before .before .before .args .answer); out = _ }) (c .before .before .before .before .before .before .before .args .out .now) (search needs) (c .before .before .clear-bytes .ensures) in (μ .answer, μ .output)
+returns c =
+    let a = c .before .before .before .before .before .before .before .args in
+    let μ = no-room (a .line .now) (record { report = reported (a .answer); out = _ }) (a .out .now) (search needs) (c .before .before .clear-bytes .ensures) in
+    (μ .answer, μ .output)
 
 enum-known-answer : tie.Need-enum-known-answer
 enum-known-answer c = search needs
@@ -28,19 +31,33 @@ same-length-2 : tie.Need-same-length-2
 same-length-2 c = search needs
 
 returns-2 : tie.Need-returns-2
-returns-2 c = let μ = refused (c .before .before .before .before .before .before .before .before .args .line .now) (record { report = reported (c .before .before .before .before .before .before .before .before .args .answer); out = _ }) (c .before .before .before .before .before .before .before .before .args .out .now) (search needs) (no-text (c .before .before .before .before .before .before .before .before .args .answer) (c .before .before .before .before .match .keys2)) (c .before .before .clear-bytes2 .ensures) in (μ .answer, μ .output)
+returns-2 c =
+    let a = c .before .before .before .before .before .before .before .before .args in
+    let μ =
+    refused (a .line .now) (record { report = reported (a .answer); out = _ }) (a .out .now) (search needs)
+    (no-text (a .answer) (c .before .before .before .before .match .keys2)) (c .before .before .clear-bytes2 .ensures) in
+    (μ .answer, μ .output)
 
 put-line-requires : tie.Need-put-line-requires
 put-line-requires c κs = search needs
 
 add-end : tie.Need-add-end
-add-end c = let e = ap reported (c .before .before .before .before .before .answer .given .1) in let w = c .before .before .before .before .before .before .before .before .before .before .pre (ap (λ r. r .refusal) e) in let q = ap (λ r. r .first) e in search needs
+add-end c =
+    let e = ap reported (c .before .before .before .before .before .answer .given .1) in
+    let w = c .before .before .before .before .before .before .before .before .before .before .pre (ap (λ r. r .refusal) e) in
+    let q = ap (λ r. r .first) e in
+    search needs
 
 same-length-3 : tie.Need-same-length-3
 same-length-3 c = search needs
 
 returns-3 : tie.Need-returns-3
-returns-3 c = let μ = text-after (c .before .before .before .before .before .before .before .before .before .before .args .line .now) (record { report = reported (c .before .before .before .before .before .before .before .before .before .before .args .answer); out = _ }) (c .before .before .before .before .before .before .before .before .before .before .args .out .now) (search needs) (ap reported (c .before .before .before .before .before .answer .given .1)) (c .before .before .put-line .ensures) in (μ .answer, μ .output)
+returns-3 c =
+    let a = c .before .before .before .before .before .before .before .before .before .before .args in
+    let μ =
+    text-after (a .line .now) (record { report = reported (a .answer); out = _ }) (a .out .now) (search needs)
+    (ap reported (c .before .before .before .before .before .answer .given .1)) (c .before .before .put-line .ensures) in
+    (μ .answer, μ .output)
 
 pub with-line-spec : {M : Type 1} → statement M
 with-line-spec =
