@@ -116,7 +116,9 @@ module _ (line rows text out : List ℕ) where
         let u = layout-unchanged defaultStyle defaultIndentWidth defaultWidth defaultWidth rows text (drop (length line) out) (w .0) (w .1) in
         rw (after-line line rest out h, ← β .answer, e) (record { answer = refl; output = β .output ∙ rw u (take-append-drop (length line) out) })
 
-    begun-put : 0 < length line → beforeWalk r ≡ false → {r′ : Report} {m′ : List ℕ} → Meets (withLine line (record { report = r; out = drop (length line) m }) m) r′ m′ → Meets (afterLine line rest out) r′ m′
+    begun-put : 0 < length line → beforeWalk r ≡ false → {r′ : Report} {m′ : List ℕ}
+        → Meets (withLine line (record { report = r; out = drop (length line) m }) m) r′ m′
+        → Meets (afterLine line rest out) r′ m′
     begun-put h e {r′} {m′} μ = subst (λ l. Meets l r′ m′) (put-same ∙ sym (after-line line rest out h ∙ rw (← β .answer, e))) μ
 
 -- ---- the output lent from a on, where the line ends or the output does

@@ -1,7 +1,7 @@
 -- The layout's answer, from the checks and the walk. Assumes nothing.
 use mathlib.Core.Bool.{Bool, true}
 use mathlib.Core.List.{List, _++_}
-use mathlib.Core.Path.{_≡_, refl, sym, ap, _∙_}
+use mathlib.Core.Path.{_≡_, refl, ap, _∙_}
 use Prim.Native.Nat.{ℕ, _≤_}
 use native.Mathlib.Omega.{arith}
 use lib.Dec.{eqb, ltb}
@@ -9,7 +9,7 @@ use lib.ListN.{length, drop, replicate}
 use borrow.Author.Tests.{eqb-true, ne-eqb, ltb-false}
 use Rattle.shared.specs.Report.{Report, zeroed, deep, full}
 use Rattle.shared.proofs.Logic.{split}
-use Rattle.rows.specs.Options.{Options, optionsOf, mostStyle, mostIndentWidth, badOption}
+use Rattle.rows.specs.Options.{optionsOf, mostStyle, mostIndentWidth, badOption}
 use Rattle.rows.specs.Answer.{eachRowReport, rowsReport, checkReport}
 use Rattle.rows.specs.Token.{tokensOf}
 use Rattle.rows.proofs.Passed.{Passed, whole-rows, few-rows}

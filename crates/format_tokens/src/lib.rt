@@ -26,28 +26,28 @@ ghost use Rattle.format_tokens.specs.Steps.{refusalOf, MarkIs, walkRepor
 
 // What a layout answers.
 pub enum Answer {
-    // The text stands first in the output: its length, the number of inserted commas, and whether it is
-    // plain.
+    // The text is laid out. Its length, the number of inserted commas, and the plain mark.
     Text {
         length: usize,
         commas: usize,
         plain: bool,
     },
-    // Refusal 1: the option at this position, 0 to 3, is out of bounds.
+    // Refusal 1: an option is out of bounds. Its position: 0 style, 1 indent width, 2 signature width, 3
+    // list width.
     BadOption {
         position: usize,
     },
-    // Refusal 2: the bytes are no whole rows, or there are more than `rows::MOST_ROWS`.
+    // Refusal 2: the rows are not of 16 bytes each, or more than 65,535.
     RaggedRows,
     // Refusal 3: this row is bad, or it is the last row and leads no token.
     BadRow {
         row: usize,
     },
-    // Refusal 4: the token at this index opens a list that is nested too deep.
+    // Refusal 4: at the token of this index the stack of broken groups would hold a 65th entry.
     Deep {
         index: usize,
     },
-    // Refusal 5: the bytes of the token at this index do not fit the output.
+    // Refusal 5: a byte of the token at this index does not fit the output.
     Full {
         index: usize,
     },
@@ -84,12 +84,15 @@ pub fn format_tokens_with(
     }
 }
 
-// What `check_and_mark` answers: refusals 1, 2 and 3 as `Answer` has them, or the plain mark.
+// What `check_and_mark` answers.
 pub enum Marked {
+    // Refusal 1, as `Answer` has it.
     BadOption { position: usize },
+    // Refusal 2, as `Answer` has it.
     RaggedRows,
+    // Refusal 3, as `Answer` has it.
     BadRow { row: usize },
-    // Nothing is refused, and this is the plain mark.
+    // Nothing is refused. The plain mark.
     Good { plain: bool },
 }
 
@@ -138,7 +141,7 @@ fn is_plain(rows: &[u8], text: &[u8]) -> bool
     plain_mark(rows, text)
 }
 
-// Takes the options as `format_tokens_with` has them into one value.
+// Returns the four options as the formatter has them.
 fn options_of(style: u32, indent_width: u32, signature_width: u32, list_width: u32) -> Options
     ensures options { λ r. ⌜ optionsOf r
         ≡ Rattle.rows.specs.Options.optionsOf style «indent_width» «signature_width» «list_width» ⌝ }
@@ -174,7 +177,7 @@ fn lay_out(options: Options, rows: &[u8], text: &[u8], out: &mut [u8], plain: bo
     formatter.format(options, out, &mut stack, rows, text, plain)
 }
 
-// The answer to a walk that ended so. After refusals 4 and 5 every place of the output is set to 0.
+// Returns the answer to a walk that ended so. After refusals 4 and 5 it sets every place of the output to 0.
 fn answer_of(walked: Formatted, plain: bool, out: &mut [u8]) -> Answer
     ensures answer { λ r. ⌜ reported r ≡ walkReport walked plain ⌝ }
     ensures output { λ r. ⌜ now (out .exit) ≡ walkOutput walked (now (out .entry)) ⌝ }

@@ -23,7 +23,9 @@ returns-3 : tie.Need-returns-3
 returns-3 c = sym (shebang-bytes _ ∙ rw (eq-eqb _ 35 (c .before .before .if2 .left), ne-eqb _ 33 (c .if3 .taken)))
 
 returns-4 : tie.Need-returns-4
-returns-4 c = let z = List·getD-eq-default (c .before .before .before .before .before .before .args .source .now) 0 {n = 2} (search needs) in sym (shebang-bytes _ ∙ rw (eq-eqb _ 35 (c .before .before .before .if2 .left), eq-eqb _ 33 (c .before .if3 .left), z))
+returns-4 c =
+    let z = List·getD-eq-default (c .before .before .before .before .before .before .args .source .now) 0 {n = 2} (search needs) in
+    sym (shebang-bytes _ ∙ rw (eq-eqb _ 35 (c .before .before .before .if2 .left), eq-eqb _ 33 (c .before .if3 .left), z))
 
 shared-slice-read-result : tie.Need-shared-slice-read-result
 shared-slice-read-result c = search needs

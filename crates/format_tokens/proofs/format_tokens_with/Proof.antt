@@ -16,7 +16,9 @@ use Rattle.format_tokens.proofs.format_tokens_with.Tie as tie
 refused : (c : tie.After-check-and-mark) {k : Marked} → c .check-and-mark .result ≡ k → (refusalOf k .refusal ≡ 0 → ⊥)
     → let a = c .before .before .before .before .args in
     Answers (a .style) (a .indent-width) (a .signature-width) (a .list-width) (a .rows .now) (a .text .now) (a .out .now) (refusalOf k) (a .out .now)
-refused c e n = refused-answers _ _ _ _ _ (c .before .before .before .before .args .text .now) (c .before .before .before .before .args .out .now) (sym (ap refusalOf e) ∙ c .check-and-mark .ensures .0) n
+refused c e n =
+    let a = c .before .before .before .before .args in
+    refused-answers _ _ _ _ _ (a .text .now) (a .out .now) (sym (ap refusalOf e) ∙ c .check-and-mark .ensures .0) n
 
 -- where they answer a mark, they refuse nothing
 good : (c : tie.After-check-and-mark) {mark : Bool} → c .check-and-mark .result ≡ Good mark
