@@ -51,12 +51,12 @@ line-first (b ∷ s) = split (eqb b (byte "\n")) (λ e. rw e) (λ e. rw e (ap (�
 
 -- ---- the shebang: its bytes are no line feeds, so the source's own bytes tell it
 
-third : (s : List ℕ) → eqb (getD (firstLine s) 0 0) 91 ≡ eqb (getD s 0 0) 91
+third : (s : List ℕ) → eqb (getD (firstLine s) 0 0) (byte "[") ≡ eqb (getD s 0 0) (byte "[")
 unfolding firstLine
 third [] = refl
 third (b ∷ s) = split (eqb b (byte "\n")) (λ e. rw (e, eqb-true b (byte "\n") e)) (λ e. rw e)
 
-second : (s : List ℕ) → (eqb (getD (firstLine s) 0 0) 33 && not (eqb (getD (firstLine s) 1 0) 91)) ≡ (eqb (getD s 0 0) 33 && not (eqb (getD s 1 0) 91))
+second : (s : List ℕ) → (eqb (getD (firstLine s) 0 0) (byte "!") && not (eqb (getD (firstLine s) 1 0) (byte "["))) ≡ (eqb (getD s 0 0) (byte "!") && not (eqb (getD s 1 0) (byte "[")))
 unfolding firstLine
 second [] = refl
 second (b ∷ s) = split (eqb b (byte "\n")) (λ e. rw (e, eqb-true b (byte "\n") e)) (λ e. rw (e, third s))
@@ -68,7 +68,7 @@ shebang-bytes (b ∷ s) = split (eqb b (byte "\n")) (λ e. rw (e, eqb-true b (by
 
 pub too-short : (s : List ℕ) → length s < 2 → isShebang s ≡ false
 too-short [] h = refl
-too-short (b ∷ []) h = split (eqb b 35) (λ e. rw e) (λ e. rw e)
+too-short (b ∷ []) h = split (eqb b (byte "#")) (λ e. rw e) (λ e. rw e)
 too-short (b ∷ c ∷ s) h = absurd (omega arith)
 
 -- ---- the copy
