@@ -1,3 +1,3 @@
 pub mod Lines
-pub mod Behind
+pub mod AfterLine
 pub mod Demand3

@@ -17,23 +17,23 @@ use Rattle.format_source.specs.Source.{firstLine, isShebang}
 -- ---- the line's end
 
 -- the first line's end, where no line feed stands before i
-abbrev pub EndsBehind : List ℕ → ℕ → Type 0
-EndsBehind s i = length (firstLine s) ≡ i + length (firstLine (drop i s))
+abbrev pub EndsAfter : List ℕ → ℕ → Type 0
+EndsAfter s i = length (firstLine s) ≡ i + length (firstLine (drop i s))
 
 module _ (s : List ℕ) (i : ℕ) where
-  pub ends-at : EndsBehind s i → i < length s → getD s i 0 ≡ byte "\n" → i ≡ length (firstLine s)
+  pub ends-at : EndsAfter s i → i < length s → getD s i 0 ≡ byte "\n" → i ≡ length (firstLine s)
   unfolding firstLine
   ends-at e h b =
       let q : length (firstLine (drop i s)) ≡ 0 = rw (drop-cons s i 0 h, eq-eqb (getD s i 0) (byte "\n") b) in
       omega arith
 
-  pub ends-later : EndsBehind s i → i < length s → (getD s i 0 ≡ byte "\n" → ⊥) → EndsBehind s (i + 1)
+  pub ends-later : EndsAfter s i → i < length s → (getD s i 0 ≡ byte "\n" → ⊥) → EndsAfter s (i + 1)
   unfolding firstLine
   ends-later e h b =
       let q : length (firstLine (drop i s)) ≡ suc (length (firstLine (drop (i + 1) s))) = rw (add-one i, drop-cons s i 0 h, ne-eqb (getD s i 0) (byte "\n") b) in
       omega arith
 
-  pub ends-last : EndsBehind s i → i ≡ length s → length s ≡ length (firstLine s)
+  pub ends-last : EndsAfter s i → i ≡ length s → length s ≡ length (firstLine s)
   unfolding firstLine
   ends-last e h =
       let q : length (firstLine (drop i s)) ≡ 0 = rw (drop-of-length-le s {i = i} (omega arith)) in
@@ -51,12 +51,12 @@ line-first (b ∷ s) = split (eqb b (byte "\n")) (λ e. rw e) (λ e. rw e (ap (�
 
 -- ---- the shebang: its bytes are no line feeds, so the source's own bytes tell it
 
-third : (s : List ℕ) → eqb (getD (firstLine s) 0 0) 91 ≡ eqb (getD s 0 0) 91
+third : (s : List ℕ) → eqb (getD (firstLine s) 0 0) (byte "[") ≡ eqb (getD s 0 0) (byte "[")
 unfolding firstLine
 third [] = refl
 third (b ∷ s) = split (eqb b (byte "\n")) (λ e. rw (e, eqb-true b (byte "\n") e)) (λ e. rw e)
 
-second : (s : List ℕ) → (eqb (getD (firstLine s) 0 0) 33 && not (eqb (getD (firstLine s) 1 0) 91)) ≡ (eqb (getD s 0 0) 33 && not (eqb (getD s 1 0) 91))
+second : (s : List ℕ) → (eqb (getD (firstLine s) 0 0) (byte "!") && not (eqb (getD (firstLine s) 1 0) (byte "["))) ≡ (eqb (getD s 0 0) (byte "!") && not (eqb (getD s 1 0) (byte "[")))
 unfolding firstLine
 second [] = refl
 second (b ∷ s) = split (eqb b (byte "\n")) (λ e. rw (e, eqb-true b (byte "\n") e)) (λ e. rw (e, third s))
@@ -68,7 +68,7 @@ shebang-bytes (b ∷ s) = split (eqb b (byte "\n")) (λ e. rw (e, eqb-true b (by
 
 pub too-short : (s : List ℕ) → length s < 2 → isShebang s ≡ false
 too-short [] h = refl
-too-short (b ∷ []) h = split (eqb b 35) (λ e. rw e) (λ e. rw e)
+too-short (b ∷ []) h = split (eqb b (byte "#")) (λ e. rw e) (λ e. rw e)
 too-short (b ∷ c ∷ s) h = absurd (omega arith)
 
 -- ---- the copy
@@ -91,7 +91,7 @@ copied-more {d} {s} {m} {i} κ h = record {
   copied = let r = κ .room in rw (κ .copied, add-one i) (simp zero-add at (paste-suc d 0 s i 0 (omega arith) h));
 }
 
--- and the line feed behind them
+-- and the line feed after them
 pub copied-line : {d s m : List ℕ} {i : ℕ} → Copied d s m i → i ≡ length s → set m (length s) (byte "\n") ≡ (s ++ lineFeed) ++ drop (length s + 1) d
 copied-line {d} {s} {m} {i} κ h =
     rw (κ .copied, h, take-length s, add-one (length s), drop-cons d (length s) 0 (κ .room), set-append-seam s (getD d (length s) 0) (drop (suc (length s)) d) (byte "\n"))

@@ -18,7 +18,8 @@ FirstHalfSource = (source rows text out space : List ℕ)
 -- The second half, for any two calls of the wrapper.
 abbrev pub SecondHalfSource : Type 0
 SecondHalfSource = (source rows text out source′ rows′ text′ out′ : List ℕ)
-    → SecondHalfOf (lexemes rows text) (layoutSource source rows text out) (lexemes rows′ text′) (layoutSource source′ rows′ text′ out′)
+    → SecondHalfOf (lexemes rows text) (layoutSource source rows text out)
+    (lexemes rows′ text′) (layoutSource source′ rows′ text′ out′)
 
 -- The second half, for any call of the wrapper and any layout call.
 abbrev pub SecondHalfBeside : Type 0

@@ -1,2 +1,3 @@
 pub mod Source
+pub mod Steps
 pub mod Demand3

@@ -1,5 +1,5 @@
--- The shebang wrapper (document 01, 'Around the call'): "layout with the default options; where the source's first line begins `#!` and not `#![`,
--- that line and a line feed come first, unseen by the walk, and count in the length, and plain is 0".
+-- The shebang wrapper (document 01, 'Around the call'): "layout with the default options; where the source's first line begins
+-- `#!` and not `#![`, that line and a line feed come first, unseen by the walk, and count in the length, and plain is 0".
 -- Assumes nothing.
 use mathlib.Core.Bool.{Bool, cond, not, _&&_, _||_}
 use mathlib.Core.List.{List, [], _∷_, _++_}
@@ -8,6 +8,7 @@ use lib.Dec.{eqb, ltb}
 use lib.ListN.{length, drop, getD}
 use Rattle.shared.specs.Bytes.{byte, lineFeed}
 use Rattle.shared.specs.Report.{Report, success, refuse, accepted, zeroed, option, raggedRows, badRow, full}
+use Rattle.rows.specs.Options.{defaultStyle, defaultIndentWidth, defaultWidth}
 use Rattle.definition.specs.Layout.{Layout, layout}
 
 -- the bytes before the first line feed, or all of them
@@ -17,7 +18,8 @@ firstLine (b ∷ bs) = cond (eqb b (byte "\n")) [] (b ∷ firstLine bs)
 
 -- It begins `#!` and not `#![`. (Past a line's end this reads 0.)
 abbrev pub isShebang : List ℕ → Bool
-isShebang line = eqb (getD line 0 0) (byte "#") && (eqb (getD line 1 0) (byte "!") && not (eqb (getD line 2 0) (byte "[")))
+isShebang line =
+    eqb (getD line 0 0) (byte "#") && (eqb (getD line 1 0) (byte "!") && not (eqb (getD line 2 0) (byte "[")))
 
 -- What comes first: that line and a line feed, or nothing.
 abbrev pub shebang : List ℕ → List ℕ
@@ -31,18 +33,26 @@ beforeWalk r = eqb (r .refusal) option || (eqb (r .refusal) raggedRows || eqb (r
 abbrev pub emptied : Report → List ℕ → Layout
 emptied r out = record { report = r; out = zeroed out }
 
--- The line, and behind it the layout l. "The shebang line counts as token 0 for 5."
-abbrev pub putFirst : List ℕ → Layout → List ℕ → Layout
-putFirst line l out =
+-- The line put first, and the layout l after it. "The shebang line counts as token 0 for 5."
+abbrev pub withLine : List ℕ → Layout → List ℕ → Layout
+withLine line l out =
     cond (ltb (length out) (length line)) (emptied (refuse full 0) out)
-    (cond (accepted (l .report)) (record { report = success (length line + l .report .first) (l .report .second) 0; out = line ++ l .out })
+    (cond (accepted (l .report))
+    (record { report = success (length line + l .report .first) (l .report .second) 0; out = line ++ l .out })
     (emptied (l .report) out))
 
--- Where nothing comes first, the layout as it is. Else 1, 2 and 3 come before the line's own 5, and leave the output unchanged.
-abbrev pub behind : List ℕ → Layout → List ℕ → Layout
-behind [] l out = l
-behind (b ∷ bs) l out = cond (beforeWalk (l .report)) (record { report = l .report; out = out }) (putFirst (b ∷ bs) l out)
+-- The layout l after a line. Where there is no line, it is the layout as it is. Else refusals 1, 2 and 3 come before the
+-- line's own 5, and leave the output unchanged.
+abbrev pub afterLine : List ℕ → Layout → List ℕ → Layout
+afterLine [] l out = l
+afterLine (b ∷ bs) l out =
+    cond (beforeWalk (l .report)) (record { report = l .report; out = out }) (withLine (b ∷ bs) l out)
 
--- The walk gets the output behind the line. "Defaults 1, 4, 40, 40."
+-- The layout with the default options.
+abbrev pub defaultLayout : List ℕ → List ℕ → List ℕ → Layout
+defaultLayout rows text out = layout defaultStyle defaultIndentWidth defaultWidth defaultWidth rows text out
+
+-- The walk gets the output after the line.
 unfoldable pub layoutSource : List ℕ → List ℕ → List ℕ → List ℕ → Layout
-layoutSource source rows text out = behind (shebang source) (layout 1 4 40 40 rows text (drop (length (shebang source)) out)) out
+layoutSource source rows text out =
+    afterLine (shebang source) (defaultLayout rows text (drop (length (shebang source)) out)) out

@@ -1,18 +1,21 @@
-// The layout of a source's tokens behind its shebang line (document 01, 'Around the call').
+// The layout of a source's tokens after its shebang line (document 01, 'Around the call').
 use format_tokens::Answer;
 use format_tokens::format_tokens_with;
+use rows::options;
 use shared::clear_bytes;
 ghost use mathlib.Core.List.{_++_};
 ghost use mathlib.Core.Path.{_≡_};
-ghost use Prim.Native.Nat.{_+_, _-_, _≤_, _<_, min};
+ghost use Prim.Native.Nat.{_+_, _<_, min};
 ghost use lib.ListN.{length, drop};
 ghost use Rattle.shared.specs.Bytes.{lineFeed};
 ghost use Rattle.format_tokens.specs.Answer.{reported};
-ghost use Rattle.format_source.specs.Source.{firstLine, isShebang, shebang, beforeWalk, putFirst, layoutSource};
+ghost use Rattle.format_source.specs.Source.{firstLine, isShebang, shebang, beforeWalk, layoutSource};
+ghost use Rattle.format_source.specs.Steps.{FitsAfter, lineFirst};
 
-// Lays out the tokens that `rows` name in `text` with the default options: Allman, 4, 40, 40. Where the first line of
-// `source` begins `#!` and not `#![`, that line and a line feed come first: they count in the length, and plain is false.
-// Where they don't fit `out`, the answer is Full(0); a Deep or Full of the layout has the token's index, as without them.
+// Lays out the tokens that `rows` name in `text` with the default options: Allman, 4, 40, 40. Where the
+// first line of `source` begins `#!` and not `#![`, that line and a line feed come first: they count in the
+// length, and plain is false. Where they do not fit `out`, the answer is Full at token 0. A Deep or Full of
+// the layout has the token's index, as without them.
 pub fn format_source_with_shebang(source: &[u8], rows: &[u8], text: &[u8], out: &mut [u8]) -> Answer
     ensures answer { λ r. ⌜ reported r
         ≡ layoutSource (now (source .entry)) (now (rows .entry)) (now (text .entry))
@@ -23,7 +26,15 @@ pub fn format_source_with_shebang(source: &[u8], rows: &[u8], text: &[u8], out: 
 {
     let line = shebang_len(source);
     let room = smaller(line, out.len());
-    let answer = format_tokens_with(1, 4, 40, 40, rows, text, &mut out[room..]);
+    let answer = format_tokens_with(
+        options::DEFAULT_STYLE,
+        options::DEFAULT_INDENT_WIDTH,
+        options::DEFAULT_WIDTH,
+        options::DEFAULT_WIDTH,
+        rows,
+        text,
+        &mut out[room..],
+    );
     if line == 0 {
         return answer;
     }
@@ -31,10 +42,10 @@ pub fn format_source_with_shebang(source: &[u8], rows: &[u8], text: &[u8], out: 
         return answer;
     }
     let end = line - 1;
-    put_first(&source[..end], answer, out)
+    with_line(&source[..end], answer, out)
 }
 
-// The length of the shebang line with its line feed; 0 where there is none.
+// Returns the length of the shebang line with its line feed, or 0 where there is none.
 fn shebang_len(source: &[u8]) -> usize
     ensures { λ r. ⌜ r ≡ length (shebang (now (source .entry))) ⌝ }
 {
@@ -44,7 +55,7 @@ fn shebang_len(source: &[u8]) -> usize
     0
 }
 
-// Whether the first line begins `#!` and not `#![`.
+// Tells whether the first line begins `#!` and not `#![`.
 fn is_shebang(source: &[u8]) -> bool
     ensures { λ r. ⌜ r ≡ isShebang (firstLine (now (source .entry))) ⌝ }
 {
@@ -63,7 +74,7 @@ fn is_shebang(source: &[u8]) -> bool
     source[2] != b'['
 }
 
-// The length of the first line without its line feed.
+// Returns the length of the first line without its line feed.
 fn line_len(source: &[u8]) -> usize
     ensures { λ r. ⌜ r ≡ length (firstLine (now (source .entry))) ⌝ }
 {
@@ -75,6 +86,7 @@ fn line_len(source: &[u8]) -> usize
     source.len()
 }
 
+// Returns the smaller of two numbers.
 fn smaller(a: usize, b: usize) -> usize
     ensures { λ r. ⌜ r ≡ min a b ⌝ }
 {
@@ -84,45 +96,45 @@ fn smaller(a: usize, b: usize) -> usize
     b
 }
 
-// Whether it is refusal 1, 2 or 3.
+// Tells whether an answer is refusal 1, 2 or 3.
 fn before_walk(answer: Answer) -> bool
     ensures { λ r. ⌜ r ≡ beforeWalk (reported answer) ⌝ }
 {
     match answer {
-        Answer::Text(_, _, _) => false,
-        Answer::BadOption(_) => true,
+        Answer::Text { .. } => false,
+        Answer::BadOption { .. } => true,
         Answer::RaggedRows => true,
-        Answer::BadRow(_) => true,
-        Answer::Deep(_) => false,
-        Answer::Full(_) => false,
+        Answer::BadRow { .. } => true,
+        Answer::Deep { .. } => false,
+        Answer::Full { .. } => false,
     }
 }
 
-// The line and a line feed put first into `out`, which has the layout behind them; `answer` is the layout's.
-fn put_first(line: &[u8], answer: Answer, out: &mut [u8]) -> Answer
-    requires { ⌜ (reported answer .refusal ≡ 0
-        → reported answer .first ≤ length (now out) - (length (now line) + 1)) ⌝ }
+// Puts the line and a line feed first into `out`, which has the layout after them, and answers for both.
+// `answer` is the layout's. After a refusal every place of `out` is set to 0.
+fn with_line(line: &[u8], answer: Answer, out: &mut [u8]) -> Answer
+    requires { ⌜ FitsAfter (now line) answer (now out) ⌝ }
     ensures answer { λ r. ⌜ reported r
-        ≡ putFirst (now (line .entry) ++ lineFeed)
-        (record { report = reported answer; out = drop (length (now (line .entry)) + 1) (now (out .entry)) })
-        (now (out .entry)) .report ⌝ }
+        ≡ lineFirst (now (line .entry)) answer (now (out .entry)) .report ⌝ }
     ensures output { λ r. ⌜ now (out .exit)
-        ≡ putFirst (now (line .entry) ++ lineFeed)
-        (record { report = reported answer; out = drop (length (now (line .entry)) + 1) (now (out .entry)) })
-        (now (out .entry)) .out ⌝ }
+        ≡ lineFirst (now (line .entry)) answer (now (out .entry)) .out ⌝ }
 {
     let start = line.len() + 1;
     if out.len() < start {
         clear_bytes(out);
-        return Answer::Full(0);
+        return Answer::Full { index: 0 };
     }
-    let Answer::Text(len, commas, _) = answer else {
+    let Answer::Text { length, commas, .. } = answer else {
         clear_bytes(out);
         return answer;
     };
     put_line(line, out);
-    let end = start + len;
-    Answer::Text(end, commas, false)
+    let end = start + length;
+    Answer::Text {
+        length: end,
+        commas,
+        plain: false,
+    }
 }
 
 // Writes the line and a line feed into the first places of `out`.

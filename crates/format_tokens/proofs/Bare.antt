@@ -1,7 +1,6 @@
 -- Plain tokens have no trivia, so their rows are token rows alone. Assumes nothing.
 use mathlib.Core.Bool.{true, _&&_}
 use mathlib.Core.List.{List, [], _∷_}
-use mathlib.Core.Option.{none}
 use mathlib.Core.Path.{_≡_, refl, sym, _∙_}
 use Prim.Native.Nat.{ℕ}
 use lib.Dec.{eqb}
@@ -9,7 +8,7 @@ use lib.ListN.{length}
 use Rattle.shared.proofs.Logic.{and-left, and-right}
 use Rattle.rows.specs.Kinds.{TokenRow}
 use Rattle.rows.specs.Row.{Row, rowsOf}
-use Rattle.rows.specs.Checks.{atStart, badFrom}
+use Rattle.rows.specs.Checks.{GoodRows}
 use Rattle.rows.specs.Token.{bytesOf, tokensOf}
 use Rattle.definition.specs.Plain.{plain}
 use Rattle.plain.specs.Scan.{Facts, unseen, fits, behind, plainRows}
@@ -25,5 +24,5 @@ only text q (r ∷ rs) e =
     rw (and-left (eqb (r .what) TokenRow) (fits q (r .kind) w && plainRows text (behind q (r .kind) w) rs) e)
     (only text (behind q (r .kind) w) rs (and-right (fits q (r .kind) w) (plainRows text (behind q (r .kind) w) rs) more))
 
-pub plain-bare : (rows text : List ℕ) → badFrom (length text) atStart 0 (rowsOf rows) ≡ none → plain (tokensOf rows text) ≡ true → onlyTokens (rowsOf rows) ≡ true
+pub plain-bare : (rows text : List ℕ) → GoodRows rows (length text) → plain (tokensOf rows text) ≡ true → onlyTokens (rowsOf rows) ≡ true
 plain-bare rows text g e = only text unseen (rowsOf rows) (sym (pass rows text g) ∙ e)

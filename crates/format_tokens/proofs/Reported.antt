@@ -19,13 +19,13 @@ answerOf r =
     (Text (r .first) (r .second) (eqb (r .third) 1))))))
 
 back : (a : Answer) → answerOf (reported a) ≡ a
-back (Text n k true) = refl
-back (Text n k false) = refl
-back (BadOption i) = refl
+back (Text length commas true) = refl
+back (Text length commas false) = refl
+back (BadOption position) = refl
 back RaggedRows = refl
-back (BadRow i) = refl
-back (Deep i) = refl
-back (Full i) = refl
+back (BadRow row) = refl
+back (Deep index) = refl
+back (Full index) = refl
 
 pub reported-injective : (a b : Answer) → reported a ≡ reported b → a ≡ b
 reported-injective = injective reported answerOf back

@@ -6,9 +6,9 @@ use Rattle.format_tokens.specs.declared.Answer.the-variants.{Text, BadOp
 
 -- Document 01's number and values for each answer.
 abbrev pub reported : Answer → Report
-reported (Text size commas mark) = success size commas (bit mark)
-reported (BadOption place) = refuse option place
+reported (Text length commas plain) = success length commas (bit plain)
+reported (BadOption position) = refuse option position
 reported RaggedRows = refuse raggedRows 0
-reported (BadRow place) = refuse badRow place
-reported (Deep place) = refuse deep place
-reported (Full place) = refuse full place
+reported (BadRow row) = refuse badRow row
+reported (Deep index) = refuse deep index
+reported (Full index) = refuse full index

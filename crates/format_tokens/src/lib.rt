@@ -7,35 +7,55 @@ use plain::plain_mark;
 use rows::Checked;
 use rows::MOST_ROWS;
 use rows::ROW_BYTES;
-use rows::check_unless;
+use rows::check_unless_known;
 use shared::clear_bytes;
 ghost use mathlib.Core.Bool.{true};
-ghost use mathlib.Core.Option.{none};
 ghost use mathlib.Core.Path.{_≡_};
 ghost use Prim.Native.Nat.{_≤_};
 ghost use lib.ListN.{length};
-ghost use Rattle.rows.specs.Row.{rowsOf};
 ghost use Rattle.rows.specs.Options;
-ghost use Rattle.rows.specs.Checks.{atStart, badFrom};
+ghost use Rattle.rows.specs.Checks.{mostRowBytes, GoodRows};
+ghost use Rattle.rows.specs.Answer.{checkReport};
 ghost use Rattle.rows.specs.Token.{tokensOf};
-ghost use Rattle.definition.specs.Plain.{plain};
+ghost use Rattle.definition.specs.Plain.{plain as plainMark};
 ghost use Rattle.definition.specs.Layout.{layout};
 ghost use Rattle.formatter.specs.Pen.{optionsOf};
-ghost use Rattle.formatter.specs.Format.{Walks};
+ghost use Rattle.formatter.specs.Format.{Walks, Laid};
 ghost use Rattle.format_tokens.specs.Answer.{reported};
-ghost use Rattle.format_tokens.specs.Steps.{walkedLayout};
+ghost use Rattle.format_tokens.specs.Steps.{refusalOf, MarkIs, walkReport, walkOutput};
 
-// What a layout answers: length, inserted commas and plain, or a refusal with its place.
+// What a layout answers.
 pub enum Answer {
-    Text(usize, usize, bool),
-    BadOption(usize),
+    // The text is laid out. Its length, the number of inserted commas, and the plain mark.
+    Text {
+        length: usize,
+        commas: usize,
+        plain: bool,
+    },
+    // Refusal 1: an option is out of bounds. Its position: 0 style, 1 indent width, 2 signature width, 3
+    // list width.
+    BadOption {
+        position: usize,
+    },
+    // Refusal 2: the rows are not of 16 bytes each, or more than 65,535.
     RaggedRows,
-    BadRow(usize),
-    Deep(usize),
-    Full(usize),
+    // Refusal 3: this row is bad, or it is the last row and leads no token.
+    BadRow {
+        row: usize,
+    },
+    // Refusal 4: at the token of this index the stack of broken groups would hold a 65th entry.
+    Deep {
+        index: usize,
+    },
+    // Refusal 5: a byte of the token at this index does not fit the output.
+    Full {
+        index: usize,
+    },
 }
 
-// Lays out the tokens that `rows` name in `text`; the text goes first into `out`. Style 0 is SameLine, 1 Allman.
+// Lays out the tokens that `rows` name in `text`, and writes their text into the first places of `out`. The
+// rest of `out` is unchanged. After refusals 1, 2 and 3 all of it is unchanged; after 4 and 5 every place
+// is 0. Style 0 is SameLine, 1 Allman.
 pub fn format_tokens_with(
     style: u32,
     indent_width: u32,
@@ -52,36 +72,68 @@ pub fn format_tokens_with(
         ≡ layout style «indent_width» «signature_width» «list_width» (now (rows .entry)) (now (text .entry))
         (now (out .entry)) .out ⌝ }
 {
-    let mark = is_plain(rows, text);
-    match check_unless(
+    match check_and_mark(style, indent_width, signature_width, list_width, rows, text) {
+        Marked::BadOption { position } => Answer::BadOption { position },
+        Marked::RaggedRows => Answer::RaggedRows,
+        Marked::BadRow { row } => Answer::BadRow { row },
+        Marked::Good { plain } => {
+            let options = options_of(style, indent_width, signature_width, list_width);
+            let walked = lay_out(options, rows, text, out, plain);
+            answer_of(walked, plain, out)
+        }
+    }
+}
+
+// What `check_and_mark` answers.
+pub enum Marked {
+    // Refusal 1, as `Answer` has it.
+    BadOption { position: usize },
+    // Refusal 2, as `Answer` has it.
+    RaggedRows,
+    // Refusal 3, as `Answer` has it.
+    BadRow { row: usize },
+    // Nothing is refused. The plain mark.
+    Good { plain: bool },
+}
+
+// Looks for refusals 1, 2 and 3 in that order, and answers the plain mark where there is none. The mark is
+// told first: its pass finds bad rows too, so that plain rows are passed over once.
+fn check_and_mark(
+    style: u32,
+    indent_width: u32,
+    signature_width: u32,
+    list_width: u32,
+    rows: &[u8],
+    text: &[u8],
+) -> Marked
+    ensures refusal { λ r. ⌜ refusalOf r
+        ≡ checkReport style «indent_width» «signature_width» «list_width» (now (rows .entry))
+        (length (now (text .entry))) ⌝ }
+    ensures mark { λ r. ⌜ MarkIs r (plainMark (tokensOf (now (rows .entry)) (now (text .entry)))) ⌝ }
+{
+    let plain = is_plain(rows, text);
+    match check_unless_known(
         style,
         indent_width,
         signature_width,
         list_width,
         rows,
         text,
-        mark,
+        plain,
     ) {
-        Checked::BadOption(place) => Answer::BadOption(place),
-        Checked::Ragged => Answer::RaggedRows,
-        Checked::BadRow(place) => Answer::BadRow(place),
-        Checked::Good => lay_out(
-            options_of(style, indent_width, signature_width, list_width),
-            rows,
-            text,
-            out,
-            mark,
-        ),
+        Checked::Good => Marked::Good { plain },
+        Checked::BadOption { position } => Marked::BadOption { position },
+        Checked::RaggedRows => Marked::RaggedRows,
+        Checked::BadRow { row } => Marked::BadRow { row },
     }
 }
 
-// The plain mark of good rows, no for bad ones; too many rows are not looked at.
+// Returns the plain mark of good rows, and false where a row is bad. Too many rows are not looked at.
 fn is_plain(rows: &[u8], text: &[u8]) -> bool
-    ensures good { λ r. ⌜
-        (r ≡ true → badFrom (length (now (text .entry))) atStart 0 (rowsOf (now (rows .entry))) ≡ none) ⌝ }
-    ensures mark { λ r. ⌜ (length (now (rows .entry)) ≤ 1048560
-        → badFrom (length (now (text .entry))) atStart 0 (rowsOf (now (rows .entry))) ≡ none
-        → r ≡ plain (tokensOf (now (rows .entry)) (now (text .entry)))) ⌝ }
+    ensures good { λ r. ⌜ (r ≡ true → GoodRows (now (rows .entry)) (length (now (text .entry)))) ⌝ }
+    ensures mark { λ r. ⌜ (length (now (rows .entry)) ≤ mostRowBytes
+        → GoodRows (now (rows .entry)) (length (now (text .entry)))
+        → r ≡ plainMark (tokensOf (now (rows .entry)) (now (text .entry)))) ⌝ }
 {
     if MOST_ROWS < rows.len() / ROW_BYTES {
         return false;
@@ -89,32 +141,7 @@ fn is_plain(rows: &[u8], text: &[u8]) -> bool
     plain_mark(rows, text)
 }
 
-// The walk over checked rows: where the plain mark is given there is no trivia to look for. After refusals 4
-// and 5 every place of the output is 0.
-fn lay_out(options: Options, rows: &[u8], text: &[u8], out: &mut [u8], mark: bool) -> Answer
-    requires { ⌜ Walks (now rows) (now text) × (options .«indent_width» ≤ 16) ⌝ }
-    requires { ⌜ mark ≡ plain (tokensOf (now rows) (now text)) ⌝ }
-    ensures answer { λ r. ⌜ reported r
-        ≡ walkedLayout (optionsOf options) (now (rows .entry)) (now (text .entry))
-        (now (out .entry)) .report ⌝ }
-    ensures output { λ r. ⌜ now (out .exit)
-        ≡ walkedLayout (optionsOf options) (now (rows .entry)) (now (text .entry)) (now (out .entry)) .out ⌝ }
-{
-    let mut stack = [0; 64];
-    let formatter = Formatter::new();
-    match formatter.format(options, out, &mut stack, rows, text, mark) {
-        Formatted::Finished(len, commas) => Answer::Text(len, commas, mark),
-        Formatted::Deep(index) => {
-            clear_bytes(out);
-            Answer::Deep(index)
-        }
-        Formatted::Full(index) => {
-            clear_bytes(out);
-            Answer::Full(index)
-        }
-    }
-}
-
+// Returns the four options as the formatter has them.
 fn options_of(style: u32, indent_width: u32, signature_width: u32, list_width: u32) -> Options
     ensures options { λ r. ⌜ optionsOf r
         ≡ Rattle.rows.specs.Options.optionsOf style «indent_width» «signature_width» «list_width» ⌝ }
@@ -133,5 +160,41 @@ fn options_of(style: u32, indent_width: u32, signature_width: u32, list_width: u
         fn_sig_width: signature_width,
         list_width,
         brace_style: BraceStyle::Allman,
+    }
+}
+
+// The walk over checked rows. It writes the text into `out`, and answers how it ended. Where the tokens are
+// plain there is no trivia, and it looks for none.
+fn lay_out(options: Options, rows: &[u8], text: &[u8], out: &mut [u8], plain: bool) -> Formatted
+    requires { ⌜ Walks (now rows) (now text) ⌝ }
+    requires { ⌜ options .«indent_width» ≤ Rattle.rows.specs.Options.mostIndentWidth ⌝ }
+    requires { ⌜ plain ≡ plainMark (tokensOf (now rows) (now text)) ⌝ }
+    ensures { λ r. ⌜ Laid (now (rows .entry)) (now (text .entry)) (optionsOf options) (now (out .entry)) r
+        (now (out .exit)) ⌝ }
+{
+    let mut stack = [0; 64];
+    let formatter = Formatter::new();
+    formatter.format(options, out, &mut stack, rows, text, plain)
+}
+
+// Returns the answer to a walk that ended so. After refusals 4 and 5 it sets every place of the output to 0.
+fn answer_of(walked: Formatted, plain: bool, out: &mut [u8]) -> Answer
+    ensures answer { λ r. ⌜ reported r ≡ walkReport walked plain ⌝ }
+    ensures output { λ r. ⌜ now (out .exit) ≡ walkOutput walked (now (out .entry)) ⌝ }
+{
+    match walked {
+        Formatted::Finished(length, commas) => Answer::Text {
+            length,
+            commas,
+            plain,
+        },
+        Formatted::Deep(index) => {
+            clear_bytes(out);
+            Answer::Deep { index }
+        }
+        Formatted::Full(index) => {
+            clear_bytes(out);
+            Answer::Full { index }
+        }
     }
 }

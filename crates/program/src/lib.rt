@@ -3,6 +3,8 @@ use format_tokens::Answer;
 use format_tokens::format_tokens_with;
 use libc::STDIN_FILENO;
 use libc::STDOUT_FILENO;
+use rows::ROW_BYTES;
+use rows::options;
 
 // Reads a sheet, lays it out with the default options and writes the answer and the text.
 pub fn lay_out_sheet() {
@@ -13,6 +15,7 @@ pub fn lay_out_sheet() {
     run(&mut sheet, &mut rows, &mut text, &mut out);
 }
 
+// Reads standard input into `sheet`, and the sheet into `rows` and `text`; their layout goes into `out`.
 fn run(sheet: &mut [u8], rows: &mut [u8], text: &mut [u8], out: &mut [u8]) {
     let size = io::read_full(STDIN_FILENO, sheet);
     if sheet.len() < size {
@@ -26,26 +29,40 @@ fn run(sheet: &mut [u8], rows: &mut [u8], text: &mut [u8], out: &mut [u8]) {
     }
 }
 
-// The sheet's rows and text, by the default options: Allman, 4, 40, 40. The sheet reader's counts lie in its slices.
+// Lays out the first `count` rows with the first `text_bytes` of `text`, by the default options, and writes
+// the answer and the text. The sheet reader's counts lie in its slices.
 fn lay_out(rows: &[u8], count: usize, text: &[u8], text_bytes: usize, out: &mut [u8]) {
-    if rows.len() / 16 < count {
+    if rows.len() / ROW_BYTES < count {
         return;
     }
     if text.len() < text_bytes {
         return;
     }
-    let answer = format_tokens_with(1, 4, 40, 40, &rows[..16 * count], &text[..text_bytes], out);
+    let answer = format_tokens_with(
+        options::DEFAULT_STYLE,
+        options::DEFAULT_INDENT_WIDTH,
+        options::DEFAULT_WIDTH,
+        options::DEFAULT_WIDTH,
+        &rows[..ROW_BYTES * count],
+        &text[..text_bytes],
+        out,
+    );
     print_answer(answer, out);
 }
 
+// Writes the text that stands first in `out`, with what the answer tells of it, or the refusal and its place.
 fn print_answer(answer: Answer, out: &[u8]) {
     match answer {
-        Answer::Text(length, commas, plain) => print_text(length, commas, plain, out),
-        Answer::BadOption(place) => print_refusal(1, place as u64),
+        Answer::Text {
+            length,
+            commas,
+            plain,
+        } => print_text(length, commas, plain, out),
+        Answer::BadOption { position } => print_refusal(1, position as u64),
         Answer::RaggedRows => print_refusal(2, 0),
-        Answer::BadRow(place) => print_refusal(3, place as u64),
-        Answer::Deep(place) => print_refusal(4, place as u64),
-        Answer::Full(place) => print_refusal(5, place as u64),
+        Answer::BadRow { row } => print_refusal(3, row as u64),
+        Answer::Deep { index } => print_refusal(4, index as u64),
+        Answer::Full { index } => print_refusal(5, index as u64),
     }
 }
 

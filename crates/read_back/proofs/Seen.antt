@@ -23,12 +23,12 @@ use Rattle.read_back.specs.Steps.{Fits}
 
 -- every variant but the first is a refusal
 pub refused : (laid : Answer) → OneOf (1 ∷ 2 ∷ 3 ∷ 4 ∷ 5 ∷ []) (tagOf the-type laid) → accepted (reported laid) ≡ false
-refused (Text n c b) h = absurd (miss (1 ∷ 2 ∷ 3 ∷ 4 ∷ 5 ∷ []) 0 tt h)
-refused (BadOption i) h = refl
+refused (Text length commas plain) h = absurd (miss (1 ∷ 2 ∷ 3 ∷ 4 ∷ 5 ∷ []) 0 tt h)
+refused (BadOption position) h = refl
 refused RaggedRows h = refl
-refused (BadRow i) h = refl
-refused (Deep i) h = refl
-refused (Full i) h = refl
+refused (BadRow row) h = refl
+refused (Deep index) h = refl
+refused (Full index) h = refl
 
 pub fits-text : {laid : Answer} {n c : ℕ} {b : Bool} (out : List ℕ) → laid ≡ Text n c b → Fits (seen laid out) → n ≤ length out
 fits-text out e φ = (rw e at φ) refl
@@ -44,12 +44,15 @@ module _ (l : Layout) (e : l .report .refusal ≡ 0) where
   unfolding readBackSlots
   text-slots space = rw e
 
-  came-back : {xs : List (List ℕ)} {read : Report} (space : List ℕ) {slots : List ℕ} → read ≡ readBackAnswer l (length space) → slots ≡ readBackSlots l space → ReadsBack xs l (readAnswer (textOf l) (length space)) (readSlots (textOf l) space) → ReadsBack xs l read slots
+  came-back : {xs : List (List ℕ)} {read : Report} (space : List ℕ) {slots : List ℕ}
+      → read ≡ readBackAnswer l (length space) → slots ≡ readBackSlots l space
+      → ReadsBack xs l (readAnswer (textOf l) (length space)) (readSlots (textOf l) space) → ReadsBack xs l read slots
   came-back space a s β = record { answer = a ∙ text-answer (length space) ∙ β .answer; pieces = rw (s ∙ text-slots space) (β .pieces) }
 
 -- ---- the call: its answer and its output are the layout's
 
-module _ (style indent signature list : ℕ) (rows text out : List ℕ) (laid : Answer) {after : List ℕ} (e : reported laid ≡ layout style indent signature list rows text out .report) (f : after ≡ layout style indent signature list rows text out .out) where
+module _ (style indent signature list : ℕ) (rows text out : List ℕ) (laid : Answer) {after : List ℕ}
+    (e : reported laid ≡ layout style indent signature list rows text out .report) (f : after ≡ layout style indent signature list rows text out .out) where
   seen-is : seen laid after ≡ layout style indent signature list rows text out
   seen-is = rw (e, f)
 

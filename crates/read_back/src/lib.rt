@@ -10,13 +10,15 @@ ghost use Rattle.pieces.specs.Answer as Read;
 ghost use Rattle.read_back.specs.ReadBack.{seen, readBackAnswer, readBackSlots};
 ghost use Rattle.read_back.specs.Steps.{Fits};
 
-// What the layout answers, and what reading its text answers: after a refusal nothing is read, and `read` is `Pieces(0)`.
+// What the layout answers, and what reading its text answers. After a refusal nothing is read, and `read`
+// tells of 0 pieces.
 pub struct ReadBack {
     pub laid: format_tokens::Answer,
     pub read: pieces::Answer,
 }
 
-// Lays out the tokens that `rows` name in `text`, then reads the laid-out text into pieces: the start and the end of each go into `pieces`.
+// Lays out the tokens that `rows` name in `text`, then reads the text that was laid out: the start and the
+// end of each piece go into `pieces`.
 pub fn format_and_read_back(
     style: u32,
     indent_width: u32,
@@ -56,7 +58,7 @@ pub fn format_and_read_back(
     ReadBack { laid, read }
 }
 
-// Reads the text that a layout left in `out`; after a refusal, nothing.
+// Reads the text that a layout left in `out` into `pieces`. After a refusal it reads nothing.
 fn read_laid(laid: format_tokens::Answer, out: &[u8], pieces: &mut [u32]) -> pieces::Answer
     requires { ⌜ Fits (seen laid (now out)) ⌝ }
     ensures answer { λ r. ⌜ Read.reported r
@@ -64,8 +66,8 @@ fn read_laid(laid: format_tokens::Answer, out: &[u8], pieces: &mut [u32]) -> pie
     ensures slice { λ r. ⌜ now (pieces .exit)
         ≡ readBackSlots (seen laid (now (out .entry))) (now (pieces .entry)) ⌝ }
 {
-    let format_tokens::Answer::Text(len, _, _) = laid else {
+    let format_tokens::Answer::Text { length, .. } = laid else {
         return pieces::Answer::Pieces(0);
     };
-    read_pieces(&out[..len], pieces)
+    read_pieces(&out[..length], pieces)
 }

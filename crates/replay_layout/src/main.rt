@@ -5,6 +5,7 @@ use format_tokens::Answer;
 use format_tokens::format_tokens_with;
 use libc::STDIN_FILENO;
 use libc::STDOUT_FILENO;
+use rows::ROW_BYTES;
 ghost use mathlib.Core.Path.{_≡_};
 ghost use Prim.Native.Nat.{_+_, _≤_};
 ghost use lib.ListN.{length};
@@ -17,7 +18,7 @@ fn main() {
     replay(&input[..size], &mut rows, &mut out);
 }
 
-// 65,536 rows: one more than a layout takes.
+// Room for 65,536 rows, one more than a layout takes.
 fn buffer() -> [u8; 1048576]
     ensures { λ r. ⌜ 1048576 ≡ length r ⌝ }
 {
@@ -35,9 +36,10 @@ fn replay(input: &[u8], rows: &mut [u8], out: &mut [u8]) {
     }
 }
 
-// A case is a letter for the call (L `format_tokens_with`, S `format_source_with_shebang`), the numbers of its head, its
-// rows, its text, its source and a line feed. Numbers are decimal, each with one byte behind it. Answers where the next
-// case stands, or 0 where no whole case stands at `at`.
+// Replays the case at `at`, and returns where the next case stands, or 0 where no whole case stands at
+// `at`. A case is a letter for the call (L `format_tokens_with`, S `format_source_with_shebang`), the
+// numbers of its head, its rows, its text, its source and a line feed. Numbers are decimal, each with one
+// byte after it.
 fn replay_case(input: &[u8], at: usize, rows: &mut [u8], out: &mut [u8]) -> usize {
     if input.len() < at {
         return 0;
@@ -50,8 +52,9 @@ fn replay_case(input: &[u8], at: usize, rows: &mut [u8], out: &mut [u8]) -> usiz
     replay_list(input, text_at, head, rows, out)
 }
 
-// The call; the options; the sizes of the output and of the rows, in bytes; how many rows stand in the case, which are
-// repeated until their size is reached; the sizes of the text and of the source; and where the rows stand.
+// The call; the options; the sizes of the output and of the rows, in bytes; how many rows stand in the
+// case, which are repeated until their size is reached; the sizes of the text and of the source; and where
+// the rows stand.
 struct Head {
     call: u8,
     style: u32,
@@ -123,23 +126,24 @@ fn digit(b: u8) -> u64
     ((b - 48) % 10) as u64
 }
 
-// Reads a case's rows and answers where they end, or the input's end where there is no room for them.
+// Reads a case's rows into `rows`, and returns where they end, or the input's end where there is no room
+// for them.
 fn read_rows(input: &[u8], head: Head, rows: &mut [u8]) -> usize {
     let row_count = head.row_count;
     let row_bytes = head.row_bytes;
-    if rows.len() / 16 < row_count {
+    if rows.len() / ROW_BYTES < row_count {
         return input.len();
     }
     if rows.len() < row_bytes {
         return input.len();
     }
-    let written = 16 * row_count;
+    let written = ROW_BYTES * row_count;
     let end = read_numbers(input, head.next, &mut rows[..written]);
     repeat(&mut rows[..row_bytes], written);
     end
 }
 
-// Reads numbers until `bytes` is full, four bytes each, and answers where they end.
+// Reads numbers until `bytes` is full, four bytes each, and returns where they end.
 fn read_numbers(input: &[u8], at: usize, bytes: &mut [u8]) -> usize {
     let mut from = at;
     for i in 0..bytes.len() / 4 {
@@ -159,14 +163,14 @@ fn write_number(bytes: &mut [u8], at: usize, x: u32)
     bytes[at + 3] = (x / 16777216 % 256) as u8;
 }
 
-// Repeats the first `period` bytes.
+// Repeats the first `period` bytes until `bytes` is full.
 fn repeat(bytes: &mut [u8], period: usize) {
     for i in period..bytes.len() {
         bytes[i] = bytes[i - period];
     }
 }
 
-// Lays out the rows with the text and the source that stand at `at`, and answers where the next case stands.
+// Lays out the rows with the text and the source that stand at `at`, and returns where the next case stands.
 fn replay_list(input: &[u8], at: usize, head: Head, rows: &[u8], out: &mut [u8]) -> usize {
     let text_size = head.text_size;
     let source_size = head.source_size;
@@ -231,21 +235,20 @@ fn fill(a: &mut [u8]) {
 
 fn print_answer(answer: Answer) {
     match answer {
-        Answer::Text(length, commas, plain) => print_report(
-            0,
-            length as u64,
-            commas as u64,
-            plain as u64,
-        ),
-        Answer::BadOption(place) => print_report(1, place as u64, 0, 0),
+        Answer::Text {
+            length,
+            commas,
+            plain,
+        } => print_report(0, length as u64, commas as u64, plain as u64),
+        Answer::BadOption { position } => print_report(1, position as u64, 0, 0),
         Answer::RaggedRows => print_report(2, 0, 0, 0),
-        Answer::BadRow(place) => print_report(3, place as u64, 0, 0),
-        Answer::Deep(place) => print_report(4, place as u64, 0, 0),
-        Answer::Full(place) => print_report(5, place as u64, 0, 0),
+        Answer::BadRow { row } => print_report(3, row as u64, 0, 0),
+        Answer::Deep { index } => print_report(4, index as u64, 0, 0),
+        Answer::Full { index } => print_report(5, index as u64, 0, 0),
     }
 }
 
-// The refusal and the report's three numbers.
+// Writes the refusal and the report's three numbers.
 fn print_report(refusal: u64, first: u64, second: u64, third: u64) {
     io::print_decimal(STDOUT_FILENO, refusal);
     print_number(first);

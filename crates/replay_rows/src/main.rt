@@ -1,5 +1,6 @@
 // Runs the checks, the decision on a space and the lookaheads on stored rows, and writes each answer.
-// tests/make_replay_rows.py makes the rows and, by its own reading of format.rs and document 01, what is expected.
+// tests/make_replay_rows.py makes the rows and, by its own reading of format.rs and document 01, what is
+// expected.
 use libc::STDIN_FILENO;
 use libc::STDOUT_FILENO;
 ghost use mathlib.Core.Path.{_≡_};
@@ -19,7 +20,7 @@ fn buffer() -> [u8; 262144]
     [0; 262144]
 }
 
-// Every pair of the kinds 0 to 36: a space, none, or the place of an unknown kind.
+// Writes for every pair of the kinds 0 to 36 whether a space is needed, or the place of an unknown kind.
 fn print_spaces() {
     for first in 0..37 {
         print_row_of_spaces(first);
@@ -51,11 +52,12 @@ fn replay(input: &[u8]) {
     }
 }
 
-// The numbers before a case's rows: the four options, the text's size, the rows' size and how many lookaheads.
+// The bytes before a case's rows: the four options, the text's size, the rows' size and the number of
+// lookaheads.
 const HEADER: usize = 28;
 
-// A case is its numbers, the rows, and two numbers for each lookahead. Answers where the next case stands, or 0
-// where no whole case stands at `at`.
+// Replays the case at `at`, and returns where the next case stands, or 0 where no whole case stands at
+// `at`. A case is its numbers, the rows, and two numbers for each lookahead.
 fn replay_case(input: &[u8], at: usize) -> usize {
     if input.len() < at {
         return 0;
@@ -107,19 +109,19 @@ fn print_check(header: &[u8], rows: &[u8])
 fn print_checked(checked: rows::Checked) {
     match checked {
         rows::Checked::Good => print_pair(0, 0),
-        rows::Checked::BadOption(position) => print_pair(1, position as u64),
-        rows::Checked::Ragged => print_pair(2, 0),
-        rows::Checked::BadRow(row) => print_pair(3, row as u64),
+        rows::Checked::BadOption { position } => print_pair(1, position as u64),
+        rows::Checked::RaggedRows => print_pair(2, 0),
+        rows::Checked::BadRow { row } => print_pair(3, row as u64),
     }
 }
 
-// The lookahead `i`: which one, and the row from which the rest is given to it.
+// Runs the lookahead `i` of the case: which one it is, and the row from which on the rows are given to it.
 fn print_lookahead(calls: &[u8], i: usize, rows: &[u8], signature_width: u32, list_width: u32) {
     if calls.len() / 8 <= i {
         return;
     }
     let which = rows::number_at(calls, 8 * i);
-    let at = 16 * (rows::number_at(calls, 8 * i + 4) as usize);
+    let at = rows::ROW_BYTES * (rows::number_at(calls, 8 * i + 4) as usize);
     if rows.len() < at {
         return;
     }

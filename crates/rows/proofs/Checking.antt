@@ -1,7 +1,6 @@
 -- The loop of `check_each_row`: what is left to look at completes the answer. Assumes nothing.
 use mathlib.Core.Bool.{true, false}
 use mathlib.Core.List.{List, [], _∷_}
-use mathlib.Core.Option.{none}
 use mathlib.Core.Path.{_≡_, refl, sym, _∙_}
 use Prim.Native.Nat.{ℕ, _+_, _-_, _*_, _≤_, _<_}
 use native.Mathlib.Omega.{arith}
@@ -16,20 +15,24 @@ use Rattle.rows.specs.Answer.{reported, refuseOr, eachRowReport}
 use Rattle.rows.proofs.RowList.{part-cons, part-none}
 use Rattle.rows.specs.Checks
 
--- at the loop's head: i rows of `at` bytes are good, and the last of them was of the what `before`, which is 3 where there is none
+-- the code's what of the row before the first, which no row has
+abbrev noRow : ℕ
+noRow = 3
+
+-- at the loop's head: i rows of `at` bytes are good, and the last of them was of the what `before`, or there was none
 pub record State (rows : List ℕ) (size before at i : ℕ) : Type 0 where
   pub place : at ≡ 16 * i
   pub within : at ≤ length rows
   pub some-row : before ≡ Leading → 0 < i
   pub left : eachRowReport rows size ≡ refuseOr badRow (badFrom size (after before) i (rowsOf (drop at rows))) (success 0 0 0)
 
--- no row stands before the first: a row of the what 3 is as good as none
-no-row : (size : ℕ) (rs : List Row) → badFrom size atStart 0 rs ≡ badFrom size (after 3) 0 rs
+-- no row stands before the first: a row of the what that no row has is as good as none
+no-row : (size : ℕ) (rs : List Row) → badFrom size atStart 0 rs ≡ badFrom size (after noRow) 0 rs
 unfolding badFrom
 no-row size [] = refl
 no-row size (r ∷ rs) = refl
 
-pub start : (rows : List ℕ) (size : ℕ) → State rows size 3 0 0
+pub start : (rows : List ℕ) (size : ℕ) → State rows size noRow 0 0
 unfolding eachRowReport
 start rows size = record { place = refl; within = omega arith; some-row = λ e. absurd (omega arith); left = rw (no-row size (rowsOf rows)) }
 

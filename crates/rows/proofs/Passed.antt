@@ -10,18 +10,16 @@ use lib.ListN.{length}
 use borrow.Author.Tests.{eqb-true, ltb-false, not-false}
 use Rattle.shared.specs.Report.{Report, success, option, raggedRows, badRow}
 use Rattle.shared.proofs.Logic.{or-left, or-right, split}
-use Rattle.rows.specs.Row.{rowsOf}
+use Rattle.rows.specs.Row.{rowSize, rowsOf}
 use Rattle.rows.specs.Options.{badOption}
-use Rattle.rows.specs.Bounds.{InBounds}
-use Rattle.rows.specs.Checks.{ragged, atStart, badFrom}
+use Rattle.rows.specs.Checks.{mostRows, mostRowBytes, ragged, atStart, badFrom, GoodRows}
 use Rattle.rows.specs.Answer.{refuseOr, eachRowReport, rowsReport, checkReport}
-use Rattle.rows.proofs.Sound.{in-bounds}
 
 -- none of the refusals 1, 2 and 3
 pub record Passed (style indent signature list : ℕ) (rows : List ℕ) (size : ℕ) : Type 0 where
   pub options : badOption style indent signature list ≡ none
   pub even : ragged rows ≡ false
-  pub each : badFrom size atStart 0 (rowsOf rows) ≡ none
+  pub each : GoodRows rows size
 
 -- a refusal is no success
 no-refusal : (number : ℕ) (o : Option ℕ) (r : Report) → refuseOr number o r ≡ success 0 0 0 → (number ≡ 0 → ⊥) → (o ≡ none) × (r ≡ success 0 0 0)
@@ -37,16 +35,12 @@ passed style indent signature list rows size e =
     (λ r. record { options = f .0; even = r; each = no-refusal badRow (badFrom size atStart 0 (rowsOf rows)) (success 0 0 0) (rw r at (f .1)) (λ z. omega arith) .0 })
 
 module _ {style indent signature list : ℕ} {rows : List ℕ} {size : ℕ} (π : Passed style indent signature list rows size) where
-  pub whole-rows : length rows ≡ 16 * (length rows / 16)
+  pub whole-rows : length rows ≡ rowSize * (length rows / rowSize)
   whole-rows =
-      let z : length rows % 16 ≡ 0 = eqb-true (length rows % 16) 0 (not-false _ (or-left (not (eqb (length rows % 16) 0)) (ltb 65535 (length rows / 16)) (π .even))) in
+      let z : length rows % rowSize ≡ 0 = eqb-true (length rows % rowSize) 0 (not-false _ (or-left (not (eqb (length rows % rowSize) 0)) (ltb mostRows (length rows / rowSize)) (π .even))) in
       omega arith
 
-  pub few-rows : length rows ≤ 1048560
+  pub few-rows : length rows ≤ mostRowBytes
   few-rows =
-      let m : length rows / 16 ≤ 65535 = ltb-false 65535 (length rows / 16) (or-right (not (eqb (length rows % 16) 0)) (ltb 65535 (length rows / 16)) (π .even)) in
+      let m : length rows / rowSize ≤ mostRows = ltb-false mostRows (length rows / rowSize) (or-right (not (eqb (length rows % rowSize) 0)) (ltb mostRows (length rows / rowSize)) (π .even)) in
       omega (arith, whole-rows)
-
--- the rows lie in the text
-pub passed-bounds : (text : List ℕ) {style indent signature list : ℕ} {rows : List ℕ} → Passed style indent signature list rows (length text) → InBounds text (rowsOf rows)
-passed-bounds text {rows = rows} π = in-bounds text atStart 0 (rowsOf rows) (π .each)

@@ -56,7 +56,7 @@ rows-length bytes = go (length bytes / 16) bytes
     go zero bytes = refl
     go (suc n) bytes = ap suc (go n (drop 16 bytes))
 
--- the row i, and those behind it
+-- the row i, and those after it
 pub row-here : (bytes : List ℕ) (i : ℕ) → 16 * i + 16 ≤ length bytes → drop i (rowsOf bytes) ≡ rowAt bytes (16 * i) ∷ drop (i + 1) (rowsOf bytes)
 row-here bytes i h =
     let m : 16 * i + 16 ≡ 16 * (i + 1) = omega arith in

@@ -15,6 +15,7 @@ use Rattle.rows.specs.Row.{Row}
 use Rattle.rows.specs.Token.{bytesOf}
 use Rattle.rows.specs.Bounds.{Inside, InBounds}
 use Rattle.rows.specs.Checks.{Before, after, mayTrail, topKind, badRow, badFrom}
+pub use Rattle.rows.specs.Checks.{misnamed}
 
 -- a row that is not bad, where the text has `size` bytes
 pub record Sound (size : ℕ) (before : Before) (r : Row) : Type 0 where
@@ -48,9 +49,6 @@ or-none : (a : Bool) → a || false ≡ a
 or-none true = refl
 or-none false = refl
 
-abbrev pub misnamed : ℕ → ℕ → Row → Bool
-misnamed top size r = ltb top (r .kind) || ltb (r .end) (r .start) || ltb size (r .end)
-
 pub token-bad : (size : ℕ) (before : Before) (r : Row) → r .what ≡ TokenRow → badRow size before r ≡ misnamed Other size r
 token-bad size before r w = rw w (or-none (misnamed Other size r))
 
@@ -79,13 +77,13 @@ in-bounds text before i (r ∷ rs) e =
     (record { ordered = σ .ordered; within = σ .within }, in-bounds text (after (r .what)) (i + 1) rs (rest-good (length text) before i r rs e))
 
 -- every row by its index, whatever stands before it
-pub sound-at : (size : ℕ) (before : Before) (i : ℕ) (rs : List Row) → badFrom size before i rs ≡ none → (j : ℕ) (d : Row) → j < length rs → (b : Before) × Sound size b (getD rs j d)
+sound-at : (size : ℕ) (before : Before) (i : ℕ) (rs : List Row) → badFrom size before i rs ≡ none → (j : ℕ) (d : Row) → j < length rs → (b : Before) × Sound size b (getD rs j d)
 sound-at size before i [] e j d h = absurd (omega arith)
 sound-at size before i (r ∷ rs) e zero d h = (before, first-sound size before i r rs e)
 sound-at size before i (r ∷ rs) e (suc j) d h = sound-at size (after (r .what)) (i + 1) rs (rest-good size before i r rs e) j d (omega arith)
 
 -- a token's row names one of the 35 kinds
-pub known-kinds : (size : ℕ) (before : Before) (i : ℕ) (rs : List Row) → badFrom size before i rs ≡ none → (k : ℕ) (d : Row) → k < length rs → getD rs k d .what ≡ TokenRow → getD rs k d .kind ≤ 34
+pub known-kinds : (size : ℕ) (before : Before) (i : ℕ) (rs : List Row) → badFrom size before i rs ≡ none → (k : ℕ) (d : Row) → k < length rs → getD rs k d .what ≡ TokenRow → getD rs k d .kind ≤ Other
 known-kinds size before i rs e k d h w = rw w at (sound-at size before i rs e k d h .1 .known-kind)
 
 -- ---- the bytes of a row

@@ -6,7 +6,7 @@ use mathlib.Core.Option.{Option, none, some}
 use Prim.Native.Nat.{ℕ}
 use Rattle.shared.specs.Report.{Report, success, refuse, option, raggedRows, badRow}
 use Rattle.rows.specs.declared.Checked.{Checked}
-use Rattle.rows.specs.declared.Checked.the-variants.{Good, BadOption, Ragged, BadRow}
+use Rattle.rows.specs.declared.Checked.the-variants.{Good, BadOption, RaggedRows, BadRow}
 use Rattle.rows.specs.Row.{rowsOf}
 use Rattle.rows.specs.Options.{badOption}
 use Rattle.rows.specs.Checks.{ragged, atStart, badFrom}
@@ -14,11 +14,11 @@ use Rattle.rows.specs.Checks.{ragged, atStart, badFrom}
 -- Document 01's number and values for each answer of `check`.
 abbrev pub reported : Checked → Report
 reported Good = success 0 0 0
-reported (BadOption i) = refuse option i
-reported Ragged = refuse raggedRows 0
-reported (BadRow i) = refuse badRow i
+reported (BadOption position) = refuse option position
+reported RaggedRows = refuse raggedRows 0
+reported (BadRow row) = refuse badRow row
 
--- the refusal at a place, or what comes behind it
+-- the refusal of this number, where there is a place for it; else the report r, of what is looked for after it
 abbrev pub refuseOr : ℕ → Option ℕ → Report → Report
 refuseOr number none r = r
 refuseOr number (some place) r = refuse number place

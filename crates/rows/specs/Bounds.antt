@@ -10,6 +10,7 @@ use Rattle.rows.specs.Row.{Row}
 abbrev pub rowOf : Rattle.rows.specs.declared.Row.Row → Row
 rowOf r = record { what = r .what; kind = r .kind; start = r .start; end = r .end }
 
+-- a row whose bytes lie in the text
 pub record Inside (text : List ℕ) (r : Row) : Type 0 where
   pub ordered : r .start ≤ r .end
   pub within : r .end ≤ length text

@@ -16,9 +16,13 @@ pub record Options : Type 0 where
 
 -- style 0 is SameLine, 1 Allman
 abbrev pub optionsOf : ℕ → ℕ → ℕ → ℕ → Options
-optionsOf style indent signature list = record { braceStyle = cond (eqb style 0) SameLine Allman; indentWidth = indent; fnSigWidth = signature; listWidth = list }
+optionsOf style indent signature list =
+    record { braceStyle = cond (eqb style 0) SameLine Allman; indentWidth = indent; fnSigWidth = signature; listWidth = list }
 
 -- the bounds: style 0 or 1, indent width at most 16, both other widths at most 65,535
+abbrev pub mostStyle : ℕ
+mostStyle = 1
+
 abbrev pub mostIndentWidth : ℕ
 mostIndentWidth = 16
 
@@ -38,7 +42,7 @@ defaultWidth = 40
 -- Refusal 1: the position of the first option out of bounds.
 unfoldable pub badOption : ℕ → ℕ → ℕ → ℕ → Option ℕ
 badOption style indent signature list =
-    cond (ltb 1 style) (some 0)
+    cond (ltb mostStyle style) (some 0)
     (cond (ltb mostIndentWidth indent) (some 1)
     (cond (ltb mostWidth signature) (some 2)
     (cond (ltb mostWidth list) (some 3) none)))

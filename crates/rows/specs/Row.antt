@@ -14,12 +14,15 @@ pub record Row : Type 0 where
   pub start : ℕ
   pub end : ℕ
 
--- the 32-bit number at an index, little-endian
+-- the 32-bit number at an index, lowest byte first
 abbrev pub number : List ℕ → ℕ → ℕ
-number bytes at = getD bytes at 0 + 256 * getD bytes (at + 1) 0 + 65536 * getD bytes (at + 2) 0 + 16777216 * getD bytes (at + 3) 0
+number bytes at =
+    getD bytes at 0 + 256 * getD bytes (at + 1) 0 + 65536 * getD bytes (at + 2) 0 + 16777216 * getD bytes (at + 3) 0
 
+-- the row whose bytes start at an index
 abbrev pub rowAt : List ℕ → ℕ → Row
-rowAt bytes at = record { what = number bytes at; kind = number bytes (at + 4); start = number bytes (at + 8); end = number bytes (at + 12) }
+rowAt bytes at =
+    record { what = number bytes at; kind = number bytes (at + 4); start = number bytes (at + 8); end = number bytes (at + 12) }
 
 -- the first n rows
 unfoldable pub firstRows : ℕ → List ℕ → List Row

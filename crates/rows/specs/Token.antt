@@ -36,7 +36,7 @@ trailingOf text (r ∷ rs) = cond (eqb (r .what) Trailing) (triviaOf text r ∷ 
 abbrev pub tokenOf : List ℕ → List Trivia → Row → List Row → Token
 tokenOf text leading r rs = record { kind = r .kind; lexeme = bytesOf text r; leading = leading; trailing = trailingOf text rs }
 
--- the tokens of the rows, behind leading rows that stood before them
+-- the tokens of the rows, where the leading rows given stood before them
 unfoldable pub tokensFrom : List ℕ → List Trivia → List Row → List Token
 tokensFrom text leading [] = []
 tokensFrom text leading (r ∷ rs) =

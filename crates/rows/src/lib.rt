@@ -1,26 +1,29 @@
-// The rows that the lexer sends, and what is looked at before a layout (document 01, 'The rows arrive').
-ghost use mathlib.Core.Bool.{true, _||_};
-ghost use mathlib.Core.Option.{none};
+// The rows that the lexer sends, and the checks that come before a layout (document 01, 'The rows arrive').
+ghost use mathlib.Core.Bool.{true};
 ghost use mathlib.Core.Path.{_≡_};
 ghost use Prim.Native.Nat.{_+_, _≤_, _<_};
-ghost use lib.Dec.{ltb};
 ghost use lib.ListN.{length};
-ghost use Rattle.rows.specs.Row.{number, rowAt, rowsOf};
-ghost use Rattle.rows.specs.Checks.{mayTrail, badRow, atStart, after, badFrom};
+ghost use Rattle.rows.specs.Row.{rowSize, number, rowAt};
+ghost use Rattle.rows.specs.Checks.{mayTrail, misnamed, badRow, after, GoodRows};
 ghost use Rattle.rows.specs.Bounds.{rowOf};
 ghost use Rattle.rows.specs.Answer.{reported, checkReport, rowsReport, eachRowReport};
 
 pub mod kinds;
+pub mod options;
 
-// What looking at the options and the rows answers: refusals 1, 2 and 3, or none of them.
+// What the checks of the options and the rows answer.
 pub enum Checked {
+    // Nothing is refused.
     Good,
-    BadOption(usize),
-    Ragged,
-    BadRow(usize),
+    // Refusal 1: the option at this position, 0 to 3, is out of bounds.
+    BadOption { position: usize },
+    // Refusal 2: the bytes are no whole rows, or there are more than `MOST_ROWS`.
+    RaggedRows,
+    // Refusal 3: this row is bad, or it is the last row and leads no token.
+    BadRow { row: usize },
 }
 
-// Looks for refusals 1, 2 and 3 in that order; the place of refusal 1 is the option's position.
+// Looks for refusals 1, 2 and 3 in that order, and answers the first that it finds.
 pub fn check(
     style: u32,
     indent_width: u32,
@@ -33,7 +36,7 @@ pub fn check(
         ≡ checkReport style «indent_width» «signature_width» «list_width» (now (rows .entry))
         (length (now (text .entry))) ⌝ }
 {
-    check_unless(
+    check_unless_known(
         style,
         indent_width,
         signature_width,
@@ -44,8 +47,8 @@ pub fn check(
     )
 }
 
-// The same for a caller who may know that no row is bad: `good` tells so, and none is looked at.
-pub fn check_unless(
+// Answers what `check` answers. Where `good` is true, no row is bad, and none is looked at.
+pub fn check_unless_known(
     style: u32,
     indent_width: u32,
     signature_width: u32,
@@ -54,31 +57,33 @@ pub fn check_unless(
     text: &[u8],
     good: bool,
 ) -> Checked
-    requires { ⌜ (good ≡ true → badFrom (length (now text)) atStart 0 (rowsOf (now rows)) ≡ none) ⌝ }
+    requires { ⌜ (good ≡ true → GoodRows (now rows) (length (now text))) ⌝ }
     ensures { λ r. ⌜ reported r
         ≡ checkReport style «indent_width» «signature_width» «list_width» (now (rows .entry))
         (length (now (text .entry))) ⌝ }
 {
-    if 1 < style {
-        return Checked::BadOption(0);
+    if options::MOST_STYLE < style {
+        return Checked::BadOption { position: 0 };
     }
-    if 16 < indent_width {
-        return Checked::BadOption(1);
+    if options::MOST_INDENT_WIDTH < indent_width {
+        return Checked::BadOption { position: 1 };
     }
-    if 65535 < signature_width {
-        return Checked::BadOption(2);
+    if options::MOST_WIDTH < signature_width {
+        return Checked::BadOption { position: 2 };
     }
-    if 65535 < list_width {
-        return Checked::BadOption(3);
+    if options::MOST_WIDTH < list_width {
+        return Checked::BadOption { position: 3 };
     }
     check_rows(rows, text.len(), good)
 }
 
-// The bytes of a row.
+// A row has 16 bytes.
 pub const ROW_BYTES: usize = 16;
 
+// A call takes at most 65,535 rows.
 pub const MOST_ROWS: usize = 65535;
 
+// What a row is (`kinds::LEADING` ..), its kind, and where its bytes start and end in the text.
 pub struct Row {
     pub what: u32,
     pub kind: u32,
@@ -86,9 +91,9 @@ pub struct Row {
     pub end: u32,
 }
 
-// The row whose bytes start at `at`.
+// Returns the row whose bytes start at index `at`.
 pub fn row_at(rows: &[u8], at: usize) -> Row
-    requires { ⌜ at + 16 ≤ length (now rows) ⌝ }
+    requires { ⌜ at + rowSize ≤ length (now rows) ⌝ }
     ensures { λ r. ⌜ rowOf r ≡ rowAt (now (rows .entry)) at ⌝ }
 {
     Row {
@@ -99,7 +104,7 @@ pub fn row_at(rows: &[u8], at: usize) -> Row
     }
 }
 
-// The 32-bit number at an index, little-endian; the sum compiles to one load.
+// Returns the 32-bit number, lowest byte first, at index `at`. The sum compiles to one load.
 pub fn number_at(bytes: &[u8], at: usize) -> u32
     requires { ⌜ at + 4 ≤ length (now bytes) ⌝ }
     ensures { λ r. ⌜ r ≡ number (now (bytes .entry)) at ⌝ }
@@ -117,16 +122,16 @@ fn wide(b: u8) -> u32
     b as u32
 }
 
-// Refusals 2 and 3, where the text has `size` bytes.
+// Looks for refusals 2 and 3 in that order. The text has `size` bytes; where `good` is true, no row is bad.
 fn check_rows(rows: &[u8], size: usize, good: bool) -> Checked
-    requires { ⌜ (good ≡ true → badFrom size atStart 0 (rowsOf (now rows)) ≡ none) ⌝ }
+    requires { ⌜ (good ≡ true → GoodRows (now rows) size) ⌝ }
     ensures { λ r. ⌜ reported r ≡ rowsReport (now (rows .entry)) size ⌝ }
 {
     if rows.len() % ROW_BYTES != 0 {
-        return Checked::Ragged;
+        return Checked::RaggedRows;
     }
     if MOST_ROWS < rows.len() / ROW_BYTES {
-        return Checked::Ragged;
+        return Checked::RaggedRows;
     }
     if good {
         return Checked::Good;
@@ -134,10 +139,10 @@ fn check_rows(rows: &[u8], size: usize, good: bool) -> Checked
     check_each_row(rows, size)
 }
 
-// Stands for the row before the first: no what has this number.
+// Stands for the what of the row before the first: no row has this what.
 const NO_ROW: u32 = 3;
 
-// Refusal 3: the first bad row, or the last row where it is an orphan lead.
+// Looks for refusal 3: the first bad row, or else the last row where it is a leading row.
 fn check_each_row(rows: &[u8], size: usize) -> Checked
     ensures { λ r. ⌜ reported r ≡ eachRowReport (now (rows .entry)) size ⌝ }
 {
@@ -147,19 +152,19 @@ fn check_each_row(rows: &[u8], size: usize) -> Checked
     while ROW_BYTES <= rows.len() - at {
         let row = row_at(rows, at);
         if is_bad(row, before, size) {
-            return Checked::BadRow(i);
+            return Checked::BadRow { row: i };
         }
         before = row.what;
         at += ROW_BYTES;
         i += 1;
     }
     if before == kinds::LEADING {
-        return Checked::BadRow(i - 1);
+        return Checked::BadRow { row: i - 1 };
     }
     Checked::Good
 }
 
-// Whether a row behind one of the what `before` is bad, where the text has `size` bytes.
+// Tells whether a row that follows one of the what `before` is bad, where the text has `size` bytes.
 fn is_bad(row: Row, before: u32, size: usize) -> bool
     ensures { λ r. ⌜ r ≡ badRow size (after before) (rowOf row) ⌝ }
 {
@@ -178,9 +183,9 @@ fn is_bad(row: Row, before: u32, size: usize) -> bool
     !may_trail(before)
 }
 
-// Whether a row has a kind above the highest of its what, or names no bytes of the text.
+// Tells whether a row has a kind above `top`, or names no bytes of a text of `size` bytes.
 pub fn misnames(row: Row, top: u32, size: usize) -> bool
-    ensures { λ r. ⌜ r ≡ (ltb top (row .kind) || ltb (row .end) (row .start) || ltb size (row .end)) ⌝ }
+    ensures { λ r. ⌜ r ≡ misnamed top size (rowOf row) ⌝ }
 {
     if top < row.kind {
         return true;
@@ -191,7 +196,7 @@ pub fn misnames(row: Row, top: u32, size: usize) -> bool
     size < row.end as usize
 }
 
-// Whether a trailing row may follow a row of the what `before`.
+// Tells whether a trailing row may follow a row of the what `before`.
 fn may_trail(before: u32) -> bool
     ensures { λ r. ⌜ r ≡ mayTrail (after before) ⌝ }
 {

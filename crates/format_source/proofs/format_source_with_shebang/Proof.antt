@@ -2,9 +2,25 @@
 use mathlib.Core.Path.{sym, _∙_}
 use lib.Seq.{length-take-le}
 use borrow.Author.Needs.{needs}
-use Rattle.format_source.proofs.Behind.{within-source, without-line, rows-refused, text-fits, with-line}
+use Rattle.format_source.proofs.AfterLine.{within-source, without-line, rows-refused, text-fits, with-line}
 use Rattle.format_source.proofs.format_source_with_shebang.Statement.{statement}
 use Rattle.format_source.proofs.format_source_with_shebang.Tie as tie
+
+-- ---- the places that the answers name, from where the layout is done
+
+-- the call's entry
+abbrev begun : tie.After-format-tokens-with → tie.Start
+begun c = c .before .before .before .before .before .before .before .before
+
+-- where the line's length is known
+abbrev lined : tie.After-format-tokens-with → tie.After-shebang-len
+lined c = c .before .before .before
+
+-- where the start of the rest of the output is known
+abbrev roomed : tie.After-format-tokens-with → tie.After-smaller
+roomed c = c .before .before
+
+-- ---- the answers
 
 shebang-len-requires : tie.Need-shebang-len-requires
 shebang-len-requires c κs = search needs
@@ -28,7 +44,14 @@ same-length : tie.Need-same-length
 same-length c = search needs
 
 returns : tie.Need-returns
-returns c = let μ = without-line (c .before .before .before .before .before .before .before .before .before .before .before .args .source .now) (c .before .before .before .before .before .before .before .before .before .before .before .args .rows .now) (c .before .before .before .before .before .before .before .before .before .before .before .args .text .now) (c .before .before .before .before .before .before .before .before .before .before .before .args .out .now) (c .before .before .before .before .before .before .shebang-len .ensures) (c .before .before .before .before .before .smaller .ensures) (record { answer = c .before .before .before .format-tokens-with .ensures .0; output = c .before .before .before .format-tokens-with .ensures .1 }) (c .if1 .taken) in (μ .answer, μ .output)
+returns c =
+    let laid = c .before .before .before in
+    let a = begun laid .args in
+    let μ =
+    without-line (a .source .now) (a .rows .now) (a .text .now) (a .out .now) (lined laid .shebang-len .ensures) (roomed laid .smaller .ensures)
+    (record { answer = laid .format-tokens-with .ensures .0; output = laid .format-tokens-with .ensures .1 })
+    (c .if1 .taken) in
+    (μ .answer, μ .output)
 
 before-walk-requires : tie.Need-before-walk-requires
 before-walk-requires c κs = search needs
@@ -37,22 +60,46 @@ same-length-2 : tie.Need-same-length-2
 same-length-2 c = search needs
 
 returns-2 : tie.Need-returns-2
-returns-2 c = let μ = rows-refused (c .before .before .before .before .before .before .before .before .before .before .before .before .before .args .source .now) (c .before .before .before .before .before .before .before .before .before .before .before .before .before .args .rows .now) (c .before .before .before .before .before .before .before .before .before .before .before .before .before .args .text .now) (c .before .before .before .before .before .before .before .before .before .before .before .before .before .args .out .now) (c .before .before .before .before .before .before .before .before .shebang-len .ensures) (c .before .before .before .before .before .before .before .smaller .ensures) (record { answer = c .before .before .before .before .before .format-tokens-with .ensures .0; output = c .before .before .before .before .before .format-tokens-with .ensures .1 }) (c .before .before .if1 .left) (sym (c .before .before-walk .ensures) ∙ c .if2 .taken) in (μ .answer, μ .output)
+returns-2 c =
+    let laid = c .before .before .before .before .before in
+    let a = begun laid .args in
+    let μ =
+    rows-refused (a .source .now) (a .rows .now) (a .text .now) (a .out .now) (lined laid .shebang-len .ensures) (roomed laid .smaller .ensures)
+    (record { answer = laid .format-tokens-with .ensures .0; output = laid .format-tokens-with .ensures .1 })
+    (c .before .before .if1 .left) (sym (c .before .before-walk .ensures) ∙ c .if2 .taken) in
+    (μ .answer, μ .output)
 
 sub-end : tie.Need-sub-end
 sub-end c = search needs
 
-slice-aggregate-put-first : tie.Need-slice-aggregate-put-first
-slice-aggregate-put-first c = sym (length-take-le _ _ (within-source (c .before .before .before .before .before .before .before .before .before .before .before .before .before .before .args .source .now) (c .before .before .before .before .before .before .before .before .before .shebang-len .ensures) (c .before .before .before .if1 .left)))
+slice-aggregate-with-line : tie.Need-slice-aggregate-with-line
+slice-aggregate-with-line c =
+    let laid = c .before .before .before .before .before .before in
+    sym (length-take-le _ _ (within-source (begun laid .args .source .now) (lined laid .shebang-len .ensures) (c .before .before .before .if1 .left)))
 
-put-first-requires : tie.Need-put-first-requires
-put-first-requires c κs = text-fits (c .before .before .before .before .before .before .before .before .before .before .before .before .before .before .before .args .source .now) (c .before .before .before .before .before .before .before .before .before .before .before .before .before .before .before .args .rows .now) (c .before .before .before .before .before .before .before .before .before .before .before .before .before .before .before .args .text .now) (c .before .before .before .before .before .before .before .before .before .before .before .before .before .before .before .args .out .now) (c .before .before .before .before .before .before .before .before .before .before .shebang-len .ensures) (c .before .before .before .before .before .before .before .before .before .smaller .ensures) (record { answer = c .before .before .before .before .before .before .before .format-tokens-with .ensures .0; output = c .before .before .before .before .before .before .before .format-tokens-with .ensures .1 }) (c .before .before .before .before .if1 .left)
+with-line-requires : tie.Need-with-line-requires
+with-line-requires c κs =
+    let laid = c .before .before .before .before .before .before .before in
+    let a = begun laid .args in
+    text-fits (a .source .now) (a .rows .now) (a .text .now) (a .out .now) (lined laid .shebang-len .ensures) (roomed laid .smaller .ensures)
+    (record { answer = laid .format-tokens-with .ensures .0; output = laid .format-tokens-with .ensures .1 })
+    (c .before .before .before .before .if1 .left)
 
 same-length-3 : tie.Need-same-length-3
 same-length-3 c = search needs
 
 returns-3 : tie.Need-returns-3
-returns-3 c = let μ = with-line (c .before .before .before .before .before .before .before .before .before .before .before .before .before .before .before .before .before .before .args .source .now) (c .before .before .before .before .before .before .before .before .before .before .before .before .before .before .before .before .before .before .args .rows .now) (c .before .before .before .before .before .before .before .before .before .before .before .before .before .before .before .before .before .before .args .text .now) (c .before .before .before .before .before .before .before .before .before .before .before .before .before .before .before .before .before .before .args .out .now) (c .before .before .before .before .before .before .before .before .before .before .before .before .before .shebang-len .ensures) (c .before .before .before .before .before .before .before .before .before .before .before .before .smaller .ensures) (record { answer = c .before .before .before .before .before .before .before .before .before .before .format-tokens-with .ensures .0; output = c .before .before .before .before .before .before .before .before .before .before .format-tokens-with .ensures .1 }) (c .before .before .before .before .before .before .before .if1 .left) (sym (c .before .before .before .before .before .before .before-walk .ensures) ∙ c .before .before .before .before .before .if2 .left) (record { answer = c .before .before .put-first .ensures .0; output = c .before .before .put-first .ensures .1 }) in (μ .answer, μ .output)
+returns-3 c =
+    let placed = c .before .before in
+    let walked = placed .before .before .before in
+    let laid = walked .before .before .before .before .before in
+    let a = begun laid .args in
+    let μ =
+    with-line (a .source .now) (a .rows .now) (a .text .now) (a .out .now) (lined laid .shebang-len .ensures) (roomed laid .smaller .ensures)
+    (record { answer = laid .format-tokens-with .ensures .0; output = laid .format-tokens-with .ensures .1 })
+    (walked .before .before .if1 .left) (sym (walked .before .before-walk .ensures) ∙ walked .if2 .left)
+    (record { answer = placed .with-line .ensures .0; output = placed .with-line .ensures .1 }) in
+    (μ .answer, μ .output)
 
 pub format-source-with-shebang-spec : {M : Type 1} → statement M
 format-source-with-shebang-spec =
@@ -70,7 +117,7 @@ format-source-with-shebang-spec =
     same-length-2
     returns-2
     sub-end
-    slice-aggregate-put-first
-    put-first-requires
+    slice-aggregate-with-line
+    with-line-requires
     same-length-3
     returns-3)

@@ -4,12 +4,12 @@ use Prim.Native.Nat.{_-_, _≤_}
 use native.Mathlib.Omega.{arith}
 use lib.ListN.{length}
 use borrow.Author.Needs.{needs}
-use Rattle.format_source.proofs.Lines.{EndsBehind, ends-at, ends-later, ends-last}
+use Rattle.format_source.proofs.Lines.{EndsAfter, ends-at, ends-later, ends-last}
 use Rattle.format_source.proofs.line_len.Statement.{statement}
 use Rattle.format_source.proofs.line_len.Tie as tie
 
 abbrev Inv-loop : tie.InvT-loop
-Inv-loop source i₀ i-end i = (i-end ≡ length source) × (i ≤ length source) × EndsBehind source i
+Inv-loop source i₀ i-end i = (i-end ≡ length source) × (i ≤ length source) × EndsAfter source i
 
 abbrev μ-loop : tie.MeasureT-loop
 μ-loop source i₀ i-end i = i-end - i
@@ -30,7 +30,9 @@ loop-less : tie.Need-loop-less Inv-loop μ-loop
 loop-less c = search needs
 
 loop-again : tie.Need-loop-again Inv-loop μ-loop
-loop-again c = (c .before .before .before .loop .inv .0, search needs, ends-later (c .before .before .before .before .args .source .now) (c .before .before .before .loop .i) (c .before .before .before .loop .inv .2) (search needs) (c .if1 .left))
+loop-again c =
+    let loop = c .before .before .before in
+    (loop .loop .inv .0, search needs, ends-later (loop .before .args .source .now) (loop .loop .i) (loop .loop .inv .2) (search needs) (c .if1 .left))
 
 returns-2 : tie.Need-returns-2 Inv-loop μ-loop
 returns-2 c = ends-last (c .before .before .args .source .now) (c .before .loop .i) (c .before .loop .inv .2) (search needs)

@@ -1,4 +1,4 @@
--- `paper::lay_out` meets its contract. Assumes nothing.
+-- `program::lay_out` meets its contract. Assumes nothing.
 use mathlib.Core.Path.{sym}
 use lib.Seq.{length-take-le}
 use borrow.Author.Needs.{needs}

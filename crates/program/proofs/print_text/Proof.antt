@@ -1,4 +1,4 @@
--- `paper::print_text` meets its contract. Assumes nothing.
+-- `program::print_text` meets its contract. Assumes nothing.
 use mathlib.Core.Path.{sym}
 use lib.Seq.{length-take-le}
 use borrow.Author.Needs.{needs}

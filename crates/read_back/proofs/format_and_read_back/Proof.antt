@@ -17,7 +17,19 @@ same-length-2 : tie.Need-same-length-2
 same-length-2 c = search needs
 
 returns : tie.Need-returns
-returns c = let a = c .before .before .before .before .before .before .before .before .before .before .before .before .before .args in let e = c .before .before .before .before .before .before .before .format-tokens-with .ensures in let f = c .before .before .read-laid .ensures in (e .0, (e .1, returned (a .style) (a .indent-width) (a .signature-width) (a .list-width) (a .rows .now) (a .text .now) (a .out .now) (c .before .before .before .before .before .before .before .format-tokens-with .result) (e .0) (e .1) (a .pieces .now) (f .0) (f .1)))
+returns c =
+    let read = c .before .before in
+    let laid = read .before .before .before .before .before in
+    let a = laid .before .before .before .before .before .before .args in
+    let e = laid .format-tokens-with .ensures in
+    let f = read .read-laid .ensures in (
+      e .0,
+      (
+        e .1,
+        returned (a .style) (a .indent-width) (a .signature-width) (a .list-width) (a .rows .now) (a .text .now) (a .out .now)
+            (laid .format-tokens-with .result) (e .0) (e .1) (a .pieces .now) (f .0) (f .1),
+      ),
+    )
 
 pub format-and-read-back-spec : {M : Type 1} → statement M
 format-and-read-back-spec =

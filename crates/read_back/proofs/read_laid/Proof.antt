@@ -24,7 +24,9 @@ same-length c = search needs
 
 returns-2 : tie.Need-returns-2
 unfolding readBackAnswer readBackSlots
-returns-2 c = (rw (c .before .before .before .before .before .before .laid .given .1) (c .before .before .read-pieces .ensures .0), rw (c .before .before .before .before .before .before .laid .given .1) (c .before .before .read-pieces .ensures .1))
+returns-2 c =
+    let e = c .before .before .before .before .before .before .laid .given .1 in
+    (rw e (c .before .before .read-pieces .ensures .0), rw e (c .before .before .read-pieces .ensures .1))
 
 pub read-laid-spec : {M : Type 1} → statement M
 read-laid-spec =

@@ -1,8 +1,9 @@
 -- `rows::check_each_row` meets its contract. Assumes nothing.
-use mathlib.Core.Path.{sym, _∙_, ap}
+use mathlib.Core.Path.{_≡_, sym, _∙_, ap}
 use Prim.Native.Nat.{_-_}
 use lib.ListN.{length}
 use borrow.Author.Needs.{needs}
+use Rattle.rows.specs.Row.{rowAt}
 use Rattle.rows.specs.Checks.{badRow, after}
 use Rattle.rows.proofs.Checking.{State, start, bad, more, orphaned, good}
 use Rattle.rows.proofs.check_each_row.Statement.{statement}
@@ -26,8 +27,17 @@ row-at-requires c κs = search needs
 is-bad-requires : tie.Need-is-bad-requires Inv-loop μ-loop
 is-bad-requires c κs = search needs
 
+-- what `is_bad` says is what the definition says of the row at `at`
+is-bad-told : (c : tie.After-is-bad Inv-loop μ-loop)
+    → let loop = c .before .before .before .loop in
+    let a = c .before .before .before .before .before .args in
+    badRow (a .size) (after (loop .before)) (rowAt (a .rows .now) (loop .at)) ≡ c .is-bad .result
+is-bad-told c =
+    ap (badRow (c .before .before .before .before .before .args .size) (after (c .before .before .before .loop .before))) (sym (c .before .row-at .ensures))
+    ∙ sym (c .is-bad .ensures)
+
 returns : tie.Need-returns Inv-loop μ-loop
-returns c = bad (c .before .before .before .before .loop .inv) (search needs) (ap (badRow (c .before .before .before .before .before .before .args .size) (after (c .before .before .before .before .loop .before))) (sym (c .before .before .row-at .ensures)) ∙ sym (c .before .is-bad .ensures) ∙ c .if1 .taken)
+returns c = bad (c .before .before .before .before .loop .inv) (search needs) (is-bad-told (c .before) ∙ c .if1 .taken)
 
 add-at : tie.Need-add-at Inv-loop μ-loop
 add-at c = search needs
@@ -39,7 +49,7 @@ loop-less : tie.Need-loop-less Inv-loop μ-loop
 loop-less c = search needs
 
 loop-again : tie.Need-loop-again Inv-loop μ-loop
-loop-again c = more (c .before .before .before .before .loop .inv) (search needs) (ap (badRow (c .before .before .before .before .before .before .args .size) (after (c .before .before .before .before .loop .before))) (sym (c .before .before .row-at .ensures)) ∙ sym (c .before .is-bad .ensures) ∙ c .if1 .left) (ap (λ r. r .what) (c .before .before .row-at .ensures))
+loop-again c = more (c .before .before .before .before .loop .inv) (search needs) (is-bad-told (c .before) ∙ c .if1 .left) (ap (λ r. r .what) (c .before .before .row-at .ensures))
 
 sub-t12 : tie.Need-sub-t12 Inv-loop μ-loop
 sub-t12 c = c .before .before .loop .inv .some-row (c .if2 .taken)

@@ -8,9 +8,9 @@ use borrow.Author.Tests.{ne-eqb, lt-ltb, le-ltb}
 use borrow.Author.Needs.{needs}
 use Rattle.rows.specs.Kinds.{Leading, TokenRow, Trailing, BlankLine}
 use Rattle.rows.specs.Row.{Row}
-use Rattle.rows.specs.Checks.{topKind, mayTrail, after}
+use Rattle.rows.specs.Checks.{topKind, mayTrail, misnamed, after}
 use Rattle.rows.specs.Bounds.{rowOf}
-use Rattle.rows.proofs.Sound.{misnamed, token-bad}
+use Rattle.rows.proofs.Sound.{token-bad}
 use Rattle.rows.proofs.is_bad.Statement.{statement}
 use Rattle.rows.proofs.is_bad.Tie as tie
 
@@ -35,7 +35,9 @@ misnames-requires : tie.Need-misnames-requires
 misnames-requires c κs = search needs
 
 returns : tie.Need-returns
-returns c = c .misnames .ensures ∙ sym (token-bad (c .before .before .before .args .size) (after (c .before .before .before .args .before)) (rowOf (c .before .before .before .args .row)) (c .before .if1 .taken))
+returns c =
+    let a = c .before .before .before .args in
+    c .misnames .ensures ∙ sym (token-bad (a .size) (after (a .before)) (rowOf (a .row)) (c .before .if1 .taken))
 
 returns-2 : tie.Need-returns-2
 returns-2 c = rw (lt-ltb _ _ (c .if2 .taken))
@@ -44,16 +46,22 @@ misnames-requires-2 : tie.Need-misnames-requires-2
 misnames-requires-2 c κs = search needs
 
 returns-3 : tie.Need-returns-3
-returns-3 c = trivia-bad (c .before .before .before .before .before .before .args .size) (mayTrail (after (c .before .before .before .before .before .before .args .before))) (rowOf (c .before .before .before .before .before .before .args .row)) (c .before .before .before .before .if1 .left) (c .before .before .if2 .left) (c .before .misnames2 .ensures) (c .if3 .taken)
+returns-3 c =
+    let a = c .before .before .before .before .before .before .args in
+    trivia-bad (a .size) (mayTrail (after (a .before))) (rowOf (a .row)) (c .before .before .before .before .if1 .left) (c .before .before .if2 .left) (c .before .misnames2 .ensures) (c .if3 .taken)
 
 returns-4 : tie.Need-returns-4
-returns-4 c = leading-good (c .before .before .before .before .before .before .before .before .args .size) (mayTrail (after (c .before .before .before .before .before .before .before .before .args .before))) (rowOf (c .before .before .before .before .before .before .before .before .args .row)) (c .before .before .before .before .before .before .if1 .left) (c .before .before .before .before .if2 .left) (c .before .before .before .misnames2 .ensures) (c .before .before .if3 .left) (c .if4 .taken)
+returns-4 c =
+    let a = c .before .before .before .before .before .before .before .before .args in
+    leading-good (a .size) (mayTrail (after (a .before))) (rowOf (a .row)) (c .before .before .before .before .before .before .if1 .left) (c .before .before .before .before .if2 .left) (c .before .before .before .misnames2 .ensures) (c .before .before .if3 .left) (c .if4 .taken)
 
 may-trail-requires : tie.Need-may-trail-requires
 may-trail-requires c κs = search needs
 
 returns-5 : tie.Need-returns-5
-returns-5 c = trailing-bad (c .before .before .before .before .before .before .before .before .before .args .size) (mayTrail (after (c .before .before .before .before .before .before .before .before .before .args .before))) (rowOf (c .before .before .before .before .before .before .before .before .before .args .row)) (c .before .before .before .before .before .before .before .if1 .left) (c .before .before .before .before .before .if2 .left) (c .before .before .before .before .misnames2 .ensures) (c .before .before .before .if3 .left) (c .before .if4 .left) (c .may-trail .ensures)
+returns-5 c =
+    let a = c .before .before .before .before .before .before .before .before .before .args in
+    trailing-bad (a .size) (mayTrail (after (a .before))) (rowOf (a .row)) (c .before .before .before .before .before .before .before .if1 .left) (c .before .before .before .before .before .if2 .left) (c .before .before .before .before .misnames2 .ensures) (c .before .before .before .if3 .left) (c .before .if4 .left) (c .may-trail .ensures)
 
 pub is-bad-spec : {M : Type 1} → statement M
 is-bad-spec =

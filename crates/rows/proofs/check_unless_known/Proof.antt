@@ -1,9 +1,9 @@
--- `rows::check_unless` meets its contract. Assumes nothing.
+-- `rows::check_unless_known` meets its contract. Assumes nothing.
 use borrow.Author.Tests.{lt-ltb, le-ltb}
 use Rattle.rows.specs.Options.{badOption}
 use Rattle.rows.specs.Answer.{checkReport}
-use Rattle.rows.proofs.check_unless.Statement.{statement}
-use Rattle.rows.proofs.check_unless.Tie as tie
+use Rattle.rows.proofs.check_unless_known.Statement.{statement}
+use Rattle.rows.proofs.check_unless_known.Tie as tie
 
 returns : tie.Need-returns
 unfolding checkReport badOption
@@ -28,6 +28,6 @@ returns-5 : tie.Need-returns-5
 unfolding checkReport badOption
 returns-5 c = rw (le-ltb _ _ (c .before .before .before .before .if1 .left), le-ltb _ _ (c .before .before .before .if2 .left), le-ltb _ _ (c .before .before .if3 .left), le-ltb _ _ (c .before .if4 .left)) (c .check-rows .ensures)
 
-pub check-unless-spec : {M : Type 1} → statement M
-check-unless-spec =
+pub check-unless-known-spec : {M : Type 1} → statement M
+check-unless-known-spec =
     tie.close (tie.spec returns returns-2 returns-3 returns-4 check-rows-requires returns-5)
