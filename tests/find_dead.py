@@ -186,7 +186,7 @@ def declarations(file):
 # ---- who needs whom
 
 def link(files):
-    """Gives each file its scope, and each declaration those that its text names."""
+    """Gives each file its scope, and each declaration those that its text names. Returns what a path means in a file."""
     homes = {(file.crate, file.place, file.module): file for file in files}
 
     def at(module):
@@ -282,10 +282,14 @@ def lost_promises(files):
                 yield module.split(".")[0], "tests/find_dead.py", 0, "`%s` of %s is not there" % (name, module)
 
 
-def main():
+def all_files():
     crates = pathlib.Path(ROOT, "crates")
     found = [*crates.glob("*/src/**/*.rt"), *crates.glob("*/specs/**/*.antt"), *crates.glob("*/proofs/**/*.antt")]
-    files = [File(path.relative_to(ROOT).as_posix()) for path in sorted(found)]
+    return [File(path.relative_to(ROOT).as_posix()) for path in sorted(found)]
+
+
+def main():
+    files = all_files()
     meant = link(files)
     sorts = {
         "imports": [find for file in files for find in idle_imports(file)],
