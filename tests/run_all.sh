@@ -18,7 +18,6 @@ whole=${1:-}
 case $whole in '' | whole) ;; *) sed -n '2,14s/^# \{0,1\}//p' "${BASH_SOURCE[0]}"; exit 2 ;; esac
 logs=target/run_all
 rm -rf "$logs" && mkdir -p "$logs"
-library=$PWD/target/staticlib/libdoors.a
 usual=harness/beside/$(sed -n 's/.*join("\(.*format\.rs\)").*/\1/p' harness/beside/build.rs)
 rows=() failed=0
 
@@ -80,9 +79,10 @@ part find_dead 'python3' python3 tests/find_dead.py
 part lines_to_believe 'python3' python3 tests/lines_to_believe.py
 part gate_table 'python3 gate-log' python3 tests/gate_table.py "${GATE_LOG:-}"
 part library 'x86-64 rt' rt staticlib doors
-part run_doors 'library gcc' env LIBDOORS="$library" tests/run_doors.sh
-part symbols 'library nm' env LIBDOORS="$library" tests/symbols.sh
-part run_bindings 'library cargo' env LIBDOORS="$library" tests/run_bindings.sh
+export LIBDOORS=$PWD/target/staticlib/libdoors.a
+part run_doors 'library gcc' tests/run_doors.sh
+part symbols 'library nm' tests/symbols.sh
+part run_bindings 'library cargo' tests/run_bindings.sh
 part harness 'library cargo format.rs' harness/run.sh "${cases[@]}"
 part count 'whole library cargo format.rs valgrind' count
 part definition_beside_rust 'x86-64 rt python3 cargo format.rs' python3 tests/definition_beside_rust.py "${lists[@]}"
