@@ -142,12 +142,19 @@ def module(lists, expected):
     return uses.replace("Rattle.definition.specs", "Rattle.definition.specs") + "\n\n" + "".join(theorems)
 
 
+def reached(crate, listed):
+    """The crates that a crate depends on, and itself, by the lines of crates.txt."""
+    below = [name for dep in listed[crate].split(":")[1].split() for name in reached(dep, listed)]
+    return dict.fromkeys(below + [crate])
+
+
 def main():
     rng = random.Random(SEED)
     lists = [make(rng) for _ in range(LISTS)]
     expected = list(answers(rng, lists))
     scratch = os.path.join(ROOT, "target", "definition")
-    names = ["shared", "rows", "lookahead", "pieces", "definition"]
+    listed = {line.split(":")[0]: line for line in open(os.path.join(ROOT, "crates.txt")) if ":" in line and not line.startswith("#")}
+    names = list(reached("definition", listed))
     shutil.rmtree(os.path.join(scratch, "crates"), ignore_errors=True)
     os.makedirs(os.path.join(scratch, "target"), exist_ok=True)
     for name in names:
@@ -155,8 +162,7 @@ def main():
     proved = [os.path.join(ROOT, "target", kept) for kept in ("rlib", "stamp")]
     if all(map(os.path.isdir, proved)):  # what is proved there and has not changed is not proved again
         subprocess.run(["cp", "-au", *proved, os.path.join(scratch, "target")], check=True)
-    listed = [line for line in open(os.path.join(ROOT, "crates.txt")) if line.split(":")[0] in names]
-    open(os.path.join(scratch, "crates.txt"), "w").write("".join(listed) + "run: " + " ".join(names) + "\n")
+    open(os.path.join(scratch, "crates.txt"), "w").write("".join(listed[name] for name in names) + "run: " + " ".join(names) + "\n")
     folder = os.path.join(scratch, "crates", "run")
     os.makedirs(os.path.join(folder, "src"), exist_ok=True)
     os.makedirs(os.path.join(folder, "specs"), exist_ok=True)

@@ -7,12 +7,12 @@
 #
 # The whole of it needs x86-64, python3, rt, gcc, nm, cargo (nothing is fetched), valgrind, and
 #   - format.rs, which FORMAT_RS names unless it is where harness/beside/build.rs looks for it;
-#   - the crates proved, by `rt check`: else the first part that needs the doors proves them, which takes many minutes;
+#   - the crates proved, by `rt check`: else the part `library` proves them, which takes many minutes;
 #   - the program, target/bin/layout, by `rt check layout`;
 #   - what the gate printed, in a file that GATE_LOG names.
 # What a part prints is kept under target/run_all/.
-if [ -n "${FORMAT_RS:-}" ]; then FORMAT_RS=$(realpath "$FORMAT_RS"); fi
-if [ -n "${GATE_LOG:-}" ]; then GATE_LOG=$(realpath "$GATE_LOG"); fi
+if [ -n "${FORMAT_RS:-}" ]; then FORMAT_RS=$(realpath -m "$FORMAT_RS"); fi
+if [ -n "${GATE_LOG:-}" ]; then GATE_LOG=$(realpath -m "$GATE_LOG"); fi
 cd "$(dirname "${BASH_SOURCE[0]}")/.." || exit 1
 whole=${1:-}
 case $whole in '' | whole) ;; *) sed -n '2,14s/^# \{0,1\}//p' "${BASH_SOURCE[0]}"; exit 2 ;; esac

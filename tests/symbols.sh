@@ -16,7 +16,7 @@ if [ -n "$fallen" ]; then
     printf 'these are not compiled into the loop:\n%s\n' "$fallen"
     exit 1
 fi
-if ! grep -q '^sink::write::write_token$' <<< "$symbols"; then
+if ! grep -q '::write_token$' <<< "$symbols"; then
     echo "write_token is compiled into its callers"
     exit 1
 fi
