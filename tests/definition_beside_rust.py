@@ -7,7 +7,7 @@ Builds format.rs (harness/, FORMAT_RS names the file if it is elsewhere), lays o
 given), and has the checker compute `layout` on the same lists: options, row bytes, text bytes and an output go in; report
 and output come out. Texts, commas and the places of refusals 4 and 5 are the Rust's, stepped token by token; the plain mark
 is the model's below, which is written from document 01. It writes a scratch crate under target/ and proves nothing of the
-repository.
+repository anew where target/ has it proved. Needs rt, cargo and format.rs.
 """
 import os
 import random
@@ -130,7 +130,7 @@ def answers(rng, lists):
 
 
 def module(lists, expected):
-    head = open(os.path.join(ROOT, "crates", "push_token", "proofs", "Cases.antt")).read()
+    head = open(os.path.join(ROOT, "crates", "definition", "proofs", "Cases.antt")).read()
     unfolding = next(line for line in head.split("\n") if line.startswith("unfolding "))
     uses = "\n".join(line for line in head.split("\n") if line.startswith("use "))
     theorems = []
@@ -139,7 +139,13 @@ def module(lists, expected):
         call = "layout %d %d %d %d %s %s (replicate %d %d)" % (options + (antt_bytes(rows), antt_bytes(text), size, UNTOUCHED))
         answer = "success %d %d %d" % report[1:] if report[0] == 0 else "refuse %d %d" % report[:2]
         theorems.append("same%d : %s ≡ record { report = %s; out = %s }\n%s\nsame%d = refl\n\n" % (n, call, answer, antt_bytes(out), unfolding, n))
-    return uses.replace("Rattle.push_token.specs", "Rattle.push_token.specs") + "\n\n" + "".join(theorems)
+    return uses.replace("Rattle.definition.specs", "Rattle.definition.specs") + "\n\n" + "".join(theorems)
+
+
+def reached(crate, listed):
+    """The crates that a crate depends on, and itself, by the lines of crates.txt."""
+    below = [name for dep in listed[crate].split(":")[1].split() for name in reached(dep, listed)]
+    return dict.fromkeys(below + [crate])
 
 
 def main():
@@ -147,11 +153,16 @@ def main():
     lists = [make(rng) for _ in range(LISTS)]
     expected = list(answers(rng, lists))
     scratch = os.path.join(ROOT, "target", "definition")
-    names = ["report", "rows", "lookahead", "pieces", "push_token"]
+    listed = {line.split(":")[0]: line for line in open(os.path.join(ROOT, "crates.txt")) if ":" in line and not line.startswith("#")}
+    names = list(reached("definition", listed))
+    shutil.rmtree(os.path.join(scratch, "crates"), ignore_errors=True)
+    os.makedirs(os.path.join(scratch, "target"), exist_ok=True)
     for name in names:
-        shutil.copytree(os.path.join(ROOT, "crates", name), os.path.join(scratch, "crates", name), dirs_exist_ok=True)
-    listed = [line for line in open(os.path.join(ROOT, "crates.txt")) if line.split(":")[0] in names]
-    open(os.path.join(scratch, "crates.txt"), "w").write("".join(listed) + "run: " + " ".join(names) + "\n")
+        shutil.copytree(os.path.join(ROOT, "crates", name), os.path.join(scratch, "crates", name))
+    proved = [os.path.join(ROOT, "target", kept) for kept in ("rlib", "stamp")]
+    if all(map(os.path.isdir, proved)):  # what is proved there and has not changed is not proved again
+        subprocess.run(["cp", "-au", *proved, os.path.join(scratch, "target")], check=True)
+    open(os.path.join(scratch, "crates.txt"), "w").write("".join(listed[name] for name in names) + "run: " + " ".join(names) + "\n")
     folder = os.path.join(scratch, "crates", "run")
     os.makedirs(os.path.join(folder, "src"), exist_ok=True)
     os.makedirs(os.path.join(folder, "specs"), exist_ok=True)

@@ -20,7 +20,7 @@ uint32_t rl_layout(uint32_t style, uint32_t indent_width, uint32_t signature_wid
                    const uint8_t *rows, size_t rows_len, const uint8_t *text, size_t text_len, uint8_t *out,
                    size_t out_len, uint8_t *report, size_t report_len);
 
-/* the same, by the default options 1, 4, 40, 40 and behind the shebang line of `source`, where it has one */
+/* the same, by the default options 1, 4, 40, 40 and after the shebang line of `source`, where it has one */
 uint32_t rl_layout_source(const uint8_t *source, size_t source_len, const uint8_t *rows, size_t rows_len,
                           const uint8_t *text, size_t text_len, uint8_t *out, size_t out_len, uint8_t *report,
                           size_t report_len);

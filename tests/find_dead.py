@@ -27,7 +27,7 @@ PROMISES = {
     "format_source.Demand3": "first-half-source second-half-source second-half-beside",  # the same of the shebang wrapper
     "definition.Cases": "paper more",  # worked cases, by computation
     "definition.Setters": "sets-*",  # a setter changes its field and no other
-    "doors.Value": "littleEndian-value",  # four bytes tell their number
+    "*.Value": "littleEndian-value",  # four bytes tell their number
     "piece_reader.Counting": "counted-fit",  # a slice for as many pieces as were counted has room for them
     "sheet.Written": "written-reads line-written",  # a line of a sheet and its row
     "*.Reported": "reported-injective",  # no two answers have the same report
@@ -39,7 +39,7 @@ MARKS = r"(?:(?:unfoldable|abbrev|pub|axiom) )*"
 SIGNATURE = re.compile(r"%s(%s)(?: \{[^}:]*\})?(?: :(?:\s|$)|$)" % (MARKS, NAME))
 TYPE = re.compile(r"%s(?:data|record) (%s)" % (MARKS, NAME))
 LINE = re.compile(r"^( *)(?:module \S+(.*?)\bwhere[ \t]*|(\S[^\n]*))$", re.M | re.S)
-USE = re.compile(r"^(?:(?:unfoldable|pub|ghost) )*use\s+([^\s{;]+?)(?:\.\{([^}]*)\})?(?:\s+as\s+([^\s;]+))?;?[ \t]*$", re.M)
+USE = re.compile(r"^(?:(?:unfoldable|pub|ghost) )*use\s+([^\s{;]+?)(?:(?:\.|::)\{([^}]*)\})?(?:\s+as\s+([^\s;]+))?;?[ \t]*$", re.M)
 CONTRACT = re.compile(r"\b(?:requires|ensures)\b(?:\s+\w+)?\s*\{")
 HOME = re.compile(r"Rattle·(\w+?)(?:·specs|·proofs)?\.(specs|proofs)\.(.+)")
 BRACKETS = list("(){};,@")
@@ -76,7 +76,7 @@ def uses(text):
     skipped = set()
     for i, atom in enumerate(atoms):
         first_in_line = text[text.rfind("\n", 0, atom.start()) + 1:atom.start()].strip() in ("", "pub")
-        label = words[i + 1] == ["="] and i > 0 and words[i - 1][0] in "{;"
+        label = words[i + 1] == ["="] and i > 0 and words[i - 1][0] in ("{", ";")
         if atom[1] or words[i][0] in BRACKETS or label or (words[i + 1] == [":"] and first_in_line):
             skipped.add(i)
         if words[i][0] in ("(", "{"):

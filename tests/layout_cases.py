@@ -173,7 +173,7 @@ def programs():
 # ---- short lists, all of them
 
 def all_lists(alphabet, lengths, before=""):
-    """All lists of the given lengths over some words, behind a beginning that each has."""
+    """All lists of the given lengths over some words, after a beginning that each has."""
     for n in lengths:
         for words in itertools.product(alphabet.split(), repeat=n):
             yield tokens_of_words(before + " " + " ".join(words))
@@ -280,8 +280,8 @@ HOSTILE = [b"", b"a b", b'"', b'"s', b"'c\\'", b"\\", b"\n", b"x\n", b"x\n\n", b
 def hostile():
     for kind in range(35):
         for n, lexeme in enumerate(HOSTILE):
-            before, behind = [("x [ a ,", "b ]"), ("a NL", "NL NL")][n % 2]
-            yield of_tokens(tokens_of_words(before) + [(kind, lexeme, [], [])] + tokens_of_words(behind), WIDTHS_0)
+            before, after = [("x [ a ,", "b ]"), ("a NL", "NL NL")][n % 2]
+            yield of_tokens(tokens_of_words(before) + [(kind, lexeme, [], [])] + tokens_of_words(after), WIDTHS_0)
     for lexeme in HOSTILE:
         yield of_tokens([(22, lexeme, [], [])] + tokens_of_words("NL L0:c a"))
         yield of_tokens([(22, lexeme, [], [(0, lexeme)])] + tokens_of_words("NL NL"))

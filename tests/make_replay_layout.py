@@ -7,11 +7,11 @@ It needs cargo and format.rs, as tests/definition_beside_rust.py does. Where eac
 
 - refusals 1, 2 and 3 and their places: `check` of make_replay_rows.py, a model of document 01's table;
 - the text and its length: format.rs;
-- refusal 5: the first token behind which the text of format.rs is longer than the output. Its `push_token` is stepped, and the length
-  noted behind each step (harness/beside/src/format/steps.rs);
-- refusal 4: the first step behind which the stack of format.rs has more than 64 entries, unless that token's leading trivia does not fit the
+- refusal 5: the first token after which the text of format.rs is longer than the output. Its `push_token` is stepped, and the length
+  noted after each step (harness/beside/src/format/steps.rs);
+- refusal 4: the first step after which the stack of format.rs has more than 64 entries, unless that token's leading trivia does not fit the
   output: its length is what an Eof with the same leading trivia writes;
-- the commas: the steps at which `]` or `}` takes a byte more than it would behind a Comma. Where only Comma tokens have a comma byte,
+- the commas: the steps at which `]` or `}` takes a byte more than it would after a Comma. Where only Comma tokens have a comma byte,
   this is compared with the text's commas less the Comma tokens;
 - the plain mark: `plain` of definition_beside_rust.py, a model of document 01's list;
 - the shebang line: what the text of `format_source_with_shebang` has more than its walk wrote; where it does not fit, refusal 5 at 0, and where
@@ -35,11 +35,11 @@ COUNTS = {
     "readings_that_fail": 11,  # that part's last sentence: a list for each wrong reading, whose text is not the wrong one
     "differences": 82,  # the lists of docs/DIFFERENCES.md
     "programs": 96,  # as engineers write them
-    "brackets": 1770,  # all lists of up to four of ( ) [ ] , and a name, widths 0; and behind an open bracket
-    "braces": 2192,  # all lists of up to three of { } record fn else , a name and a Newline, in both styles; and behind two openers
+    "brackets": 1770,  # all lists of up to four of ( ) [ ] , and a name, widths 0; and after an open bracket
+    "braces": 2192,  # all lists of up to three of { } record fn else , a name and a Newline, in both styles; and after two openers
     "signatures": 1389,  # all short ends of a signature: broken by width, in a broken list, broken by its parameters alone
     "pairs": 1225,  # every two kinds
-    "operators": 547,  # every three of minus, dots, colons, =, a number and a name; minus behind every kind
+    "operators": 547,  # every three of minus, dots, colons, =, a number and a name; minus after every kind
     "eofs": 399,  # all lists of up to three with Eof, braces, a comma, a name, record, a Newline
     "plain_mark": 402,  # its clauses, each at and around its edge
     "trivia": 936,  # every kind, leading and trailing, at every token of 17 lists

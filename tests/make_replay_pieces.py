@@ -48,7 +48,7 @@ def count(text):
 
 def texts():
     yield b""
-    # every class beside every class, and each again behind a gap or with a third byte
+    # every class beside every class, and each again after a gap or with a third byte
     sorts = [b"\n", b" ", b"(", b"]", b"}", b",", b";", b"?", b'"', b"'", b"A", b"z", b"_", b"0", b"9", b"\x80", b"\xff",
              b".", b"-", b"+", b"!", b"~", b"\\", b"/", b"e", b"x", b"\x00", b"\t", b"\r", b"\x7f"]
     for a in sorts:

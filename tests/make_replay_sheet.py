@@ -52,7 +52,7 @@ def form_errors():
         yield b"T 1" + c + b" x\n"  # the second digit, or the second space
         yield b"T 12" + c + b"x\n"  # the second space
         yield b"T 5 a" + c + b"b\n"  # a byte of the text
-        yield b"T 5 a\\" + c + b"b\n"  # behind a backslash
+        yield b"T 5 a\\" + c + b"b\n"  # after a backslash
     for kind in range(121):
         yield b"L %d k\n" % kind
         yield b"R 0%d k\n" % kind
@@ -89,7 +89,7 @@ def cases():
     paper = named(b"T 22 log\n", b"T 4 (\n", b"T 22 a\n", b"T 8 ,\n", b"T 22 b\n", b"T 5 )\n")  # 'Sheets on paper'
     yield paper, 96, 8
     yield paper, 100, 10
-    # a bad line behind good ones, and before one that doesn't fit
+    # a bad line after good ones, and before one that doesn't fit
     for line in [b"T 35 x\n", b"T 5 \\q\n", b"T 5 x", b"\n"]:
         for row_space in [0, 15, 16, 31, 32, 48]:
             yield named(b"T 1 a\n", line, b"T 1 b\n"), row_space, 9

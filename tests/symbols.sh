@@ -1,7 +1,8 @@
 #!/usr/bin/env bash
 # No method of the formatter may fall out of the layout's loop: a method that the compiler does not compile into it takes
 # the state by a copy, and costs two to three times. So the archive has no symbol of one, and `write_token`, which is
-# compiled by itself so that the methods stay small, is there. Needs rt and nm; it is not part of the gate.
+# compiled by itself so that the methods stay small, is there. Builds the archive first, unless LIBDOORS names one. Needs rt
+# and nm; it is not part of the gate.
 set -e
 cd "$(dirname "${BASH_SOURCE[0]}")/.."
 library=${LIBDOORS:-target/staticlib/libdoors.a}
@@ -15,7 +16,7 @@ if [ -n "$fallen" ]; then
     printf 'these are not compiled into the loop:\n%s\n' "$fallen"
     exit 1
 fi
-if ! grep -q '^sink::write::write_token$' <<< "$symbols"; then
+if ! grep -q '::write_token$' <<< "$symbols"; then
     echo "write_token is compiled into its callers"
     exit 1
 fi
