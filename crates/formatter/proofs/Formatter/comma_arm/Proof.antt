@@ -14,8 +14,8 @@ breaks-comma-requires c κs = search needs
 write-comma-line-requires : tie.Need-write-comma-line-requires
 write-comma-line-requires c κs = search needs
 
-suppressed-behind-requires : tie.Need-suppressed-behind-requires
-suppressed-behind-requires c κs = search needs
+suppressed-after-requires : tie.Need-suppressed-after-requires
+suppressed-after-requires c κs = search needs
 
 ended-by-requires : tie.Need-ended-by-requires
 ended-by-requires c κs = search needs
@@ -28,14 +28,28 @@ same-length c = search needs
 
 returns : tie.Need-returns
 unfolding commaArm run said
-returns c = λ t ts σ x. yes (λ n. told (c .before .before .before .before .before .before .before .breaks-comma .ensures) (c .before .before .before .before .before .before .if1 .taken)) (does (sym (rw (c .ended-by .ensures, c .before .suppressed-behind .ensures))) refl (c .before .before .before .before .write-comma-line .ensures))
+returns c =
+    let at-write-comma-line = c .before .before .before .before in
+    let at-if1 = at-write-comma-line .before .before in
+    let at-breaks-comma = at-if1 .before in
+    λ t ts σ x.
+    yes
+    (λ n. told (at-breaks-comma .breaks-comma .ensures) (at-if1 .if1 .taken))
+    (does (sym (rw (c .ended-by .ensures, c .before .suppressed-after .ensures))) refl (at-write-comma-line .write-comma-line .ensures))
 
 same-length-2 : tie.Need-same-length-2
 same-length-2 c = search needs
 
 returns-2 : tie.Need-returns-2
 unfolding commaArm
-returns-2 c = λ t ts σ x. no (λ n. told (c .before .before .before .before .before .breaks-comma .ensures) (c .before .before .before .before .if1 .left)) (rw (σ .kind, σ .lexeme, c .before .before .before .before .before .before .before .before .before .before .pre .1 .1) (c .before .before .push-lexeme .ensures .0 _ x))
+returns-2 c =
+    let at-if1 = c .before .before .before .before in
+    let at-breaks-comma = at-if1 .before in
+    let entry = at-breaks-comma .before .before .before .before .before in
+    λ t ts σ x.
+    no
+    (λ n. told (at-breaks-comma .breaks-comma .ensures) (at-if1 .if1 .left))
+    (rw (σ .kind, σ .lexeme, entry .pre .1 .1) (c .before .before .push-lexeme .ensures .0 _ x))
 
 pub comma-arm-spec : {M : Type 1} → statement M
 comma-arm-spec =
@@ -43,7 +57,7 @@ comma-arm-spec =
     (tie.spec
     breaks-comma-requires
     write-comma-line-requires
-    suppressed-behind-requires
+    suppressed-after-requires
     ended-by-requires
     push-lexeme-requires
     same-length

@@ -1,7 +1,7 @@
 -- `formatter::Formatter::open_one_line` meets its contract. Assumes nothing.
 use mathlib.Core.Path.{refl, sym}
 use borrow.Author.Needs.{needs}
-use Rattle.formatter.specs.Pen.{optionsOf}
+use Rattle.formatter.specs.CodeState.{optionsOf}
 use Rattle.formatter.proofs.Blocks.{one-line}
 use Rattle.formatter.proofs.Formatter.open_one_line.Statement.{statement}
 use Rattle.formatter.proofs.Formatter.open_one_line.Tie as tie
@@ -19,7 +19,10 @@ same-length : tie.Need-same-length
 same-length c = search needs
 
 returns : tie.Need-returns
-returns c = λ s x. one-line (optionsOf (c .before .before .before .before .before .before .before .before .args .options)) (sym (rw (c .ended-by .ensures))) refl (c .before .before .before .before .write-inline-opener .ensures)
+returns c =
+    let at-write-inline-opener = c .before .before .before .before in
+    let entry = at-write-inline-opener .before .before .before .before in
+    λ s x. one-line (optionsOf (entry .args .options)) (sym (rw (c .ended-by .ensures))) refl (at-write-inline-opener .write-inline-opener .ensures)
 
 pub open-one-line-spec : {M : Type 1} → statement M
 open-one-line-spec =
