@@ -8,21 +8,23 @@ ghost use Rattle.shared.specs.Report.{reportOf};
 ghost use Rattle.format_tokens.specs.Answer.{reported as layoutReported};
 ghost use Rattle.sheet.specs.Answer.{reported as sheetReported};
 ghost use Rattle.pieces.specs.Answer.{reported as piecesReported};
-ghost use Rattle.lookahead.specs.Answer.{reported as spaceReported};
+ghost use Rattle.spaces.specs.Answer.{reported as spaceReported};
 
 // Returns the report of a layout: its length, its inserted commas and plain, or a refusal.
 pub fn of_layout(answer: format_tokens::Answer) -> Report
     ensures { λ r. ⌜ reportOf r ≡ layoutReported answer ⌝ }
 {
     match answer {
-        format_tokens::Answer::Text(len, commas, plain) => {
-            success(len as u64, commas as u64, plain as u64)
-        }
-        format_tokens::Answer::BadOption(place) => refuse(refusals::OPTION, place),
+        format_tokens::Answer::Text {
+            length,
+            commas,
+            plain,
+        } => success(length as u64, commas as u64, plain as u64),
+        format_tokens::Answer::BadOption { position } => refuse(refusals::OPTION, position),
         format_tokens::Answer::RaggedRows => refuse(refusals::RAGGED_ROWS, 0),
-        format_tokens::Answer::BadRow(row) => refuse(refusals::BAD_ROW, row),
-        format_tokens::Answer::Deep(index) => refuse(refusals::DEEP, index),
-        format_tokens::Answer::Full(index) => refuse(refusals::FULL, index),
+        format_tokens::Answer::BadRow { row } => refuse(refusals::BAD_ROW, row),
+        format_tokens::Answer::Deep { index } => refuse(refusals::DEEP, index),
+        format_tokens::Answer::Full { index } => refuse(refusals::FULL, index),
     }
 }
 
@@ -43,18 +45,18 @@ pub fn of_pieces(answer: pieces::Answer) -> Report
     ensures { λ r. ⌜ reportOf r ≡ piecesReported answer ⌝ }
 {
     match answer {
-        pieces::Answer::Pieces(n) => success(n as u64, 0, 0),
-        pieces::Answer::Unreadable(i) => refuse(refusals::UNREADABLE, i),
-        pieces::Answer::PiecesFull(s) => refuse(refusals::PIECES_FULL, s),
+        pieces::Answer::Pieces { count } => success(count as u64, 0, 0),
+        pieces::Answer::Unreadable { index } => refuse(refusals::UNREADABLE, index),
+        pieces::Answer::PiecesFull { start } => refuse(refusals::PIECES_FULL, start),
     }
 }
 
 // Returns the report of a space: 1 or 0, 0 and 0, or a refusal.
-pub fn of_space(answer: lookahead::Space) -> Report
+pub fn of_space(answer: spaces::Space) -> Report
     ensures { λ r. ⌜ reportOf r ≡ spaceReported answer ⌝ }
 {
     match answer {
-        lookahead::Space::Needed(b) => success(b as u64, 0, 0),
-        lookahead::Space::BadRow(place) => refuse(refusals::BAD_ROW, place),
+        spaces::Space::Needed { needed } => success(needed as u64, 0, 0),
+        spaces::Space::BadRow { position } => refuse(refusals::BAD_ROW, position),
     }
 }

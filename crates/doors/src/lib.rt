@@ -2,19 +2,19 @@
 // `report` has another length, the refusal is 11, and nothing is changed.
 use format_source::format_source_with_shebang;
 use format_tokens::format_tokens_with;
-use lookahead::needs_space;
 use pieces::read_pieces;
 use shared::refusals;
 use shared::report::REPORT_BYTES;
 use shared::report::put_report;
 use sheet::read_sheet;
+use spaces::needs_space;
 ghost use mathlib.Core.Path.{_≡_};
 ghost use lib.ListN.{length};
 ghost use Rattle.definition.specs.Layout.{layout};
 ghost use Rattle.format_source.specs.Source.{layoutSource};
 ghost use Rattle.sheet.specs.Answer.{sheetAnswer, sheetRows, sheetText};
 ghost use Rattle.pieces.specs.Answer.{readAnswer, readSlots};
-ghost use Rattle.lookahead.specs.Answer.{spaceReport};
+ghost use Rattle.spaces.specs.Answer.{spaceReport};
 ghost use Rattle.doors.specs.Door.{doorRefusal, doorReport, doorSlice};
 
 mod answers;

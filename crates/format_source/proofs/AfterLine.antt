@@ -12,6 +12,7 @@ use lib.ListN.{length, take, drop, length-append, length-take, length-drop, take
 use lib.Seq.{take-all, drop-at}
 use borrow.Author.Tests.{eqb-true, leb-true, leb-false, lt-ltb, le-ltb, ltb-false}
 use Rattle.shared.specs.Bytes.{lineFeed}
+use Rattle.shared.specs.Lines.{firstLine}
 use Rattle.shared.specs.Report.{Report, success, refuse, accepted, zeroed, option, raggedRows, badRow, deep, full}
 use Rattle.shared.proofs.Logic.{split, or-cases}
 use Rattle.rows.specs.Options.{defaultStyle, defaultIndentWidth, defaultWidth}
@@ -21,7 +22,7 @@ use Rattle.format_tokens.specs.declared.Answer.{Answer}
 use Rattle.format_tokens.specs.declared.Answer.the-variants.{Text, BadOption, RaggedRows, BadRow, Deep, Full}
 use Rattle.format_tokens.specs.Answer.{reported}
 use Rattle.format_tokens.proofs.Answer.{the-type}
-use Rattle.format_source.specs.Source.{firstLine, isShebang, shebang, beforeWalk, withLine, afterLine, defaultLayout, layoutSource}
+use Rattle.format_source.specs.Source.{isShebang, shebang, beforeWalk, withLine, afterLine, defaultLayout, layoutSource}
 use Rattle.format_source.proofs.Lines.{line-first}
 
 -- an answer and an output, as a definition has them
@@ -149,8 +150,8 @@ lent-begun line rows text out {a} {r} {ys} e μ =
 module _ (source : List ℕ) {n : ℕ} (e : n ≡ length (shebang source)) (some : n ≡ 0 → ⊥) where
   from-source : take (n - 1) source ++ lineFeed ≡ shebang source
   from-source =
-      split (isShebang (firstLine source))
-      (λ t. let q : n - 1 ≡ length (firstLine source) = let w = rw (t, length-append) at e in omega arith in rw (q, t, line-first source))
+      split (isShebang (firstLine [] source))
+      (λ t. let q : n - 1 ≡ length (firstLine [] source) = let w = rw (t, length-append) at e in omega arith in rw (q, t, line-first source))
       (λ t. absurd (some (rw t at e)))
 
   length-from-source : length (take (n - 1) source) + 1 ≡ n

@@ -12,56 +12,52 @@ use lib.Seq.{drop-cons, take-length, append-snoc, set-append-seam, paste-suc}
 use borrow.Author.Tests.{eq-eqb, ne-eqb, eqb-true}
 use Rattle.shared.proofs.Logic.{split}
 use Rattle.shared.specs.Bytes.{byte, lineFeed}
-use Rattle.format_source.specs.Source.{firstLine, isShebang}
+use Rattle.shared.specs.Lines.{firstLine}
+use Rattle.format_source.specs.Source.{isShebang}
 
 -- ---- the line's end
 
 -- the first line's end, where no line feed stands before i
 abbrev pub EndsAfter : List ℕ → ℕ → Type 0
-EndsAfter s i = length (firstLine s) ≡ i + length (firstLine (drop i s))
+EndsAfter s i = length (firstLine [] s) ≡ i + length (firstLine [] (drop i s))
 
 module _ (s : List ℕ) (i : ℕ) where
-  pub ends-at : EndsAfter s i → i < length s → getD s i 0 ≡ byte "\n" → i ≡ length (firstLine s)
+  pub ends-at : EndsAfter s i → i < length s → getD s i 0 ≡ byte "\n" → i ≡ length (firstLine [] s)
   unfolding firstLine
   ends-at e h b =
-      let q : length (firstLine (drop i s)) ≡ 0 = rw (drop-cons s i 0 h, eq-eqb (getD s i 0) (byte "\n") b) in
+      let q : length (firstLine [] (drop i s)) ≡ 0 = rw (drop-cons s i 0 h, eq-eqb (getD s i 0) (byte "\n") b) in
       omega arith
 
   pub ends-later : EndsAfter s i → i < length s → (getD s i 0 ≡ byte "\n" → ⊥) → EndsAfter s (i + 1)
   unfolding firstLine
   ends-later e h b =
-      let q : length (firstLine (drop i s)) ≡ suc (length (firstLine (drop (i + 1) s))) = rw (add-one i, drop-cons s i 0 h, ne-eqb (getD s i 0) (byte "\n") b) in
+      let q : length (firstLine [] (drop i s)) ≡ suc (length (firstLine [] (drop (i + 1) s))) = rw (add-one i, drop-cons s i 0 h, ne-eqb (getD s i 0) (byte "\n") b) in
       omega arith
 
-  pub ends-last : EndsAfter s i → i ≡ length s → length s ≡ length (firstLine s)
+  pub ends-last : EndsAfter s i → i ≡ length s → length s ≡ length (firstLine [] s)
   unfolding firstLine
   ends-last e h =
-      let q : length (firstLine (drop i s)) ≡ 0 = rw (drop-of-length-le s {i = i} (omega arith)) in
+      let q : length (firstLine [] (drop i s)) ≡ 0 = rw (drop-of-length-le s {i = i} (omega arith)) in
       omega arith
 
-pub line-within : (s : List ℕ) → length (firstLine s) ≤ length s
-unfolding firstLine
-line-within [] = omega arith
-line-within (b ∷ s) = split (eqb b (byte "\n")) (λ e. rw e (omega arith)) (λ e. let h = line-within s in rw e (omega arith))
-
-pub line-first : (s : List ℕ) → take (length (firstLine s)) s ≡ firstLine s
+pub line-first : (s : List ℕ) → take (length (firstLine [] s)) s ≡ firstLine [] s
 unfolding firstLine
 line-first [] = refl
 line-first (b ∷ s) = split (eqb b (byte "\n")) (λ e. rw e) (λ e. rw e (ap (λ t. b ∷ t) (line-first s)))
 
 -- ---- the shebang: its bytes are no line feeds, so the source's own bytes tell it
 
-third : (s : List ℕ) → eqb (getD (firstLine s) 0 0) (byte "[") ≡ eqb (getD s 0 0) (byte "[")
+third : (s : List ℕ) → eqb (getD (firstLine [] s) 0 0) (byte "[") ≡ eqb (getD s 0 0) (byte "[")
 unfolding firstLine
 third [] = refl
 third (b ∷ s) = split (eqb b (byte "\n")) (λ e. rw (e, eqb-true b (byte "\n") e)) (λ e. rw e)
 
-second : (s : List ℕ) → (eqb (getD (firstLine s) 0 0) (byte "!") && not (eqb (getD (firstLine s) 1 0) (byte "["))) ≡ (eqb (getD s 0 0) (byte "!") && not (eqb (getD s 1 0) (byte "[")))
+second : (s : List ℕ) → (eqb (getD (firstLine [] s) 0 0) (byte "!") && not (eqb (getD (firstLine [] s) 1 0) (byte "["))) ≡ (eqb (getD s 0 0) (byte "!") && not (eqb (getD s 1 0) (byte "[")))
 unfolding firstLine
 second [] = refl
 second (b ∷ s) = split (eqb b (byte "\n")) (λ e. rw (e, eqb-true b (byte "\n") e)) (λ e. rw (e, third s))
 
-pub shebang-bytes : (s : List ℕ) → isShebang (firstLine s) ≡ isShebang s
+pub shebang-bytes : (s : List ℕ) → isShebang (firstLine [] s) ≡ isShebang s
 unfolding firstLine
 shebang-bytes [] = refl
 shebang-bytes (b ∷ s) = split (eqb b (byte "\n")) (λ e. rw (e, eqb-true b (byte "\n") e)) (λ e. rw (e, second s))

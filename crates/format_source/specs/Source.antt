@@ -7,14 +7,10 @@ use Prim.Native.Nat.{ℕ, _+_}
 use lib.Dec.{eqb, ltb}
 use lib.ListN.{length, drop, getD}
 use Rattle.shared.specs.Bytes.{byte, lineFeed}
+use Rattle.shared.specs.Lines.{firstLine}
 use Rattle.shared.specs.Report.{Report, success, refuse, accepted, zeroed, option, raggedRows, badRow, full}
 use Rattle.rows.specs.Options.{defaultStyle, defaultIndentWidth, defaultWidth}
 use Rattle.definition.specs.Layout.{Layout, layout}
-
--- the bytes before the first line feed, or all of them
-unfoldable pub firstLine : List ℕ → List ℕ
-firstLine [] = []
-firstLine (b ∷ bs) = cond (eqb b (byte "\n")) [] (b ∷ firstLine bs)
 
 -- It begins `#!` and not `#![`. (Past a line's end this reads 0.)
 abbrev pub isShebang : List ℕ → Bool
@@ -23,7 +19,7 @@ isShebang line =
 
 -- What comes first: that line and a line feed, or nothing.
 abbrev pub shebang : List ℕ → List ℕ
-shebang source = cond (isShebang (firstLine source)) (firstLine source ++ lineFeed) []
+shebang source = cond (isShebang (firstLine [] source)) (firstLine [] source ++ lineFeed) []
 
 -- "Layout looks for 1, 2, 3 in that order and then writes nothing."
 abbrev pub beforeWalk : Report → Bool

@@ -3,13 +3,15 @@ use format_tokens::Answer;
 use format_tokens::format_tokens_with;
 use rows::options;
 use shared::clear_bytes;
-ghost use mathlib.Core.List.{_++_};
+use shared::numbers::smaller;
+ghost use mathlib.Core.List.{[], _++_};
 ghost use mathlib.Core.Path.{_≡_};
-ghost use Prim.Native.Nat.{_+_, _<_, min};
+ghost use Prim.Native.Nat.{_+_, _<_};
 ghost use lib.ListN.{length, drop};
 ghost use Rattle.shared.specs.Bytes.{lineFeed};
+ghost use Rattle.shared.specs.Lines.{firstLine};
 ghost use Rattle.format_tokens.specs.Answer.{reported};
-ghost use Rattle.format_source.specs.Source.{firstLine, isShebang, shebang, beforeWalk, layoutSource};
+ghost use Rattle.format_source.specs.Source.{isShebang, shebang, beforeWalk, layoutSource};
 ghost use Rattle.format_source.specs.Steps.{FitsAfter, lineFirst};
 
 // Lays out the tokens that `rows` name in `text` with the default options: Allman, 4, 40, 40. Where the
@@ -57,7 +59,7 @@ fn shebang_len(source: &[u8]) -> usize
 
 // Tells whether the first line begins `#!` and not `#![`.
 fn is_shebang(source: &[u8]) -> bool
-    ensures { λ r. ⌜ r ≡ isShebang (firstLine (now (source .entry))) ⌝ }
+    ensures { λ r. ⌜ r ≡ isShebang (firstLine [] (now (source .entry))) ⌝ }
 {
     if source.len() < 2 {
         return false;
@@ -76,7 +78,7 @@ fn is_shebang(source: &[u8]) -> bool
 
 // Returns the length of the first line without its line feed.
 fn line_len(source: &[u8]) -> usize
-    ensures { λ r. ⌜ r ≡ length (firstLine (now (source .entry))) ⌝ }
+    ensures { λ r. ⌜ r ≡ length (firstLine [] (now (source .entry))) ⌝ }
 {
     for i in 0..source.len() {
         if source[i] == b'\n' {
@@ -84,16 +86,6 @@ fn line_len(source: &[u8]) -> usize
         }
     }
     source.len()
-}
-
-// Returns the smaller of two numbers.
-fn smaller(a: usize, b: usize) -> usize
-    ensures { λ r. ⌜ r ≡ min a b ⌝ }
-{
-    if a < b {
-        return a;
-    }
-    b
 }
 
 // Tells whether an answer is refusal 1, 2 or 3.

@@ -183,16 +183,16 @@ fn answer_of(walked: Formatted, plain: bool, out: &mut [u8]) -> Answer
     ensures output { λ r. ⌜ now (out .exit) ≡ walkOutput walked (now (out .entry)) ⌝ }
 {
     match walked {
-        Formatted::Finished(length, commas) => Answer::Text {
+        Formatted::Finished { length, commas } => Answer::Text {
             length,
             commas,
             plain,
         },
-        Formatted::Deep(index) => {
+        Formatted::Deep { index } => {
             clear_bytes(out);
             Answer::Deep { index }
         }
-        Formatted::Full(index) => {
+        Formatted::Full { index } => {
             clear_bytes(out);
             Answer::Full { index }
         }

@@ -17,7 +17,7 @@ use Rattle.rows.proofs.RowList.{rows-drop, rows-length}
 use Rattle.definition.specs.Formatter as definition
 use Rattle.definition.specs.Act.{State, run, update}
 use Rattle.definition.specs.Emit.{isSome}
-use Rattle.definition.specs.Arms.{nextIs}
+use Rattle.lookahead.specs.Measure.{nextIs}
 use Rattle.definition.specs.PushToken.{pushToken, turn}
 use Rattle.definition.specs.Layout.{finished, layFrom}
 use Rattle.definition.proofs.Last.{Told}

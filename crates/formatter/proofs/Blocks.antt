@@ -14,7 +14,8 @@ use Rattle.lookahead.specs.Measure.{blockIsSingleLine}
 use Rattle.definition.specs.Formatter.{setInlineDepth, setRecordPending, setInRecord, setRecordDepth}
 use Rattle.definition.specs.Act.{State, Act, update, _⨾_, if, run}
 use Rattle.definition.specs.Emit.{endedBy, openBlockMultiline, openAllman, openSameLine}
-use Rattle.definition.specs.Arms.{inOneLineBlock, nextIs, emptyRecord, openBlock, leftBraceArm, openInnerInline, openInline}
+use Rattle.definition.specs.Arms.{inOneLineBlock, emptyRecord, openBlock, leftBraceArm, openInnerInline, openInline}
+use Rattle.lookahead.specs.Measure.{nextIs}
 use Rattle.definition.proofs.Said.{said}
 use Rattle.sink.specs.Sink.{Writes}
 use Rattle.formatter.specs.CodeState.{Locals, CodeState, stateOf, formatterOf}

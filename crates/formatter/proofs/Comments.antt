@@ -18,7 +18,7 @@ use Rattle.definition.specs.Act.{State, run}
 use Rattle.definition.specs.Emit.{indentOrSpace, leadingTrivia, trailingTrivia, leadAct}
 use Rattle.definition.proofs.Said.{said}
 use Rattle.sink.specs.Sink.{Writes}
-use Rattle.sink.specs.Comment.{commentHead, leadTail, trailHead, trailTail}
+use Rattle.row_writers.specs.Comment.{commentHead, leadTail, trailHead, trailTail}
 use Rattle.sink.proofs.Sink.{andThen, nothing}
 use Rattle.formatter.specs.declared.Formatter.{Formatter}
 use Rattle.formatter.specs.CodeState.{Locals, CodeState, codeState, formatterOf}

@@ -15,11 +15,12 @@ use Rattle.rows.specs.Options.{Options}
 use Rattle.rows.specs.Token.{Token}
 use Rattle.definition.specs.Formatter.{Formatter, setAtLineStart, setPrev, setPrevMinusIsUnary, setFnState, setRecordPending, setJustClosedInline, setGroupDepth, setSigBreakDepth, setInlineClose, setReturned}
 use Rattle.definition.specs.Act.{State, state, Act, if, run}
-use Rattle.definition.specs.Emit.{isSome, isAt, fnStateAfter, spaceAfter, endedBy, trackFnState, tokenGap, trackMinus, pushLexeme}
+use Rattle.definition.specs.Emit.{isSome, isAt, fnStateAfter, endedBy, trackFnState, tokenGap, trackMinus, pushLexeme}
+use Rattle.spaces.specs.Space.{spaceAfter}
 use Rattle.definition.specs.Arms.{atRecordFields, inBrokenList, elseOnNewLine, closeGroup, closeCall, closeSignature, rightParenArm, rightBracketArm, commaArm, elseArm, otherArm}
 use Rattle.definition.specs.PushToken.{arm, takeInlineClose, turn}
-use Rattle.sink.specs.Space.{looseBehind, bit, spaces}
-use Rattle.sink.proofs.Spaces.{spaces-are, loose-other}
+use Rattle.spaces.specs.Between.{looseAfter, bit, spaces}
+use Rattle.spaces.proofs.Pairs.{spaces-are, loose-other}
 use Rattle.formatter.specs.declared.fast_tokens.FastState.{FastState}
 use Rattle.formatter.specs.FastTokens.{FastKinds, isCloser, isFastKind, fastKindBits, spaceBefore, fnAfter, pendingAfter, groupAfter, fastStateFor, fastStateAfter, Consistent, BeforeFastTokens, afterFastTokens}
 use Rattle.formatter.proofs.Gaps.{token-gap}
@@ -63,7 +64,7 @@ never t k j w e = ne-eqb k j (λ x. impossible′ (sym e ∙ (rw x at w)))
 -- Before a fast token, the spaces that the code finds are the definition's.
 pub fast-spaces :
     (t : FastKinds) (unary : Bool) (p k : ℕ) → p ≤ Other → k ≤ Other → isFastKind t k ≡ true
-    → spaces (looseBehind Other unary) p k ≡ cond (spaceAfter (some p) unary k) 1 0
+    → spaces (looseAfter Other unary) p k ≡ cond (spaceAfter (some p) unary k) 1 0
 unfolding isFastKind
 fast-spaces t unary p k g h w =
     ap (λ loose. spaces loose p k) (loose-other k unary (λ e. impossible′ (rw e at w)) (λ e. impossible′ (rw e at w)) (λ e. impossible′ (rw e at w)))

@@ -20,12 +20,13 @@ use Rattle.rows.proofs.RowList.{part-cons}
 use Rattle.rows.proofs.Sound.{first-sound}
 use Rattle.definition.specs.Formatter.{Formatter}
 use Rattle.definition.specs.Act.{State, state, run}
-use Rattle.definition.specs.Emit.{isSome, isAt, spaceAfter}
+use Rattle.definition.specs.Emit.{isSome, isAt}
+use Rattle.spaces.specs.Space.{spaceAfter}
 use Rattle.definition.specs.Arms.{atRecordFields, inBrokenList}
 use Rattle.definition.specs.PushToken.{turn}
 use Rattle.definition.specs.Layout.{finished, layFrom}
 use Rattle.sink.specs.Sink.{Writes}
-use Rattle.sink.specs.Space.{bit, spaces}
+use Rattle.spaces.specs.Between.{bit, spaces}
 use Rattle.sink.proofs.Sink.{later}
 use Rattle.formatter.specs.declared.Formatter as code
 use Rattle.formatter.specs.declared.Broken.{Broken}

@@ -8,7 +8,8 @@ use Rattle.shared.specs.Bytes.{space}
 use Rattle.rows.specs.Kinds.{LeftBrace}
 use Rattle.rows.specs.Options.{Options}
 use Rattle.definition.specs.Formatter.{Formatter}
-use Rattle.definition.specs.Emit.{prevIs, tokenGap, spaceAfter, indentOrSpace}
+use Rattle.definition.specs.Emit.{prevIs, tokenGap, indentOrSpace}
+use Rattle.spaces.specs.Space.{spaceAfter}
 use Rattle.definition.specs.Arms.{inlineCloseGap}
 use Rattle.sink.specs.Sink.{Writes}
 use Rattle.sink.proofs.Sink.{same-bytes}

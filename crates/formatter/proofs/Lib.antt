@@ -23,3 +23,4 @@ pub mod FastBraces
 pub mod Going
 pub mod Ahead
 pub mod Loop
+pub mod Feeds

@@ -15,7 +15,7 @@ use Rattle.rows.specs.Token.{Token, Trivia}
 use Rattle.definition.specs.Formatter.{Formatter, setTooDeep}
 use Rattle.definition.specs.Act.{State, Act, run, update, _⨾_, choose, nothing, if}
 use Rattle.definition.specs.Emit.{isSome, isAt, trackFnState, trailingTrivia}
-use Rattle.definition.specs.Arms.{nextIs}
+use Rattle.lookahead.specs.Measure.{nextIs}
 use Rattle.definition.specs.PushToken.{arm, overflows, pushToken, turn}
 use Rattle.formatter.specs.CodeState.{Locals, CodeState, stateOf, localsOf}
 use Rattle.formatter.specs.Does.{Does}

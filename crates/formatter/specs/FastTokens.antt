@@ -13,14 +13,14 @@ use Rattle.rows.specs.Kinds.{Else, Fn, Record, Identifier, Other}
 use Rattle.rows.specs.Row.{rowSize, rowAt, rowsOf}
 use Rattle.rows.specs.Options.{Options}
 use Rattle.rows.specs.Token.{tokensOf}
-use Rattle.lookahead.specs.Space.{isValueKind}
+use Rattle.spaces.specs.Space.{isValueKind}
 use Rattle.definition.specs.Formatter.{Formatter, setPrev, setPrevMinusIsUnary, setFnState, setRecordPending}
 use Rattle.definition.specs.Formatter.{setGroupDepth, setInlineClose, setReturned}
 use Rattle.definition.specs.Act.{state}
 use Rattle.definition.specs.Emit.{isSome, isAt}
 use Rattle.definition.specs.Arms.{atRecordFields, inBrokenList}
 use Rattle.definition.specs.Layout.{finished, layFrom}
-use Rattle.sink.specs.Space.{looseBehind, bit}
+use Rattle.spaces.specs.Between.{looseAfter, bit}
 use Rattle.formatter.specs.declared.Formatter as code
 use Rattle.formatter.specs.declared.fast_tokens.FastState.{FastState}
 use Rattle.formatter.specs.declared.fast_tokens.FastTokens as code-fast
@@ -98,7 +98,7 @@ fastStateFor fn pending unary group =
       «record_pending» = pending;
       changing = changingKinds fn pending;
       «prev_minus_is_unary» = unary;
-      loose = looseBehind Other unary;
+      loose = looseAfter Other unary;
     }
 
 -- These fields of the code's state f.
@@ -115,7 +115,7 @@ fastStateAfter p k m =
 -- The two sets of kinds are those that go with the fields.
 pub record Consistent (m : FastState) : Type 0 where
   pub changing : m .changing ≡ changingKinds (m .«fn_state») (m .«record_pending»)
-  pub loose : m .loose ≡ looseBehind Other (m .«prev_minus_is_unary»)
+  pub loose : m .loose ≡ looseAfter Other (m .«prev_minus_is_unary»)
 
 -- The definition's formatter f with the last kind k and the fields of m.
 abbrev pub withFastState : ℕ → FastState → Formatter → Formatter

@@ -12,10 +12,12 @@ use Rattle.rows.specs.Token.{Token}
 use Rattle.lookahead.specs.Measure.{isEmpty, nextHasComment, blockIsSingleLine}
 use Rattle.definition.specs.Formatter.{Formatter, setInRecord, setRecordDepth, setRecordPending, setReturned, setPrev}
 use Rattle.definition.specs.Act.{State, Act, if, update, gap, lexeme, insert, _⨾_}
-use Rattle.definition.specs.Emit.{isAt, prevIs, indentOrSpace, onNewLine, endedBy, dedented, spaceAfter, emitTokenText}
+use Rattle.definition.specs.Emit.{isAt, prevIs, indentOrSpace, onNewLine, endedBy, dedented, emitTokenText}
+use Rattle.spaces.specs.Space.{spaceAfter}
 use Rattle.formatter.specs.declared.Prev.{Prev}
 use Rattle.formatter.specs.CodeState.{prevOf}
-use Rattle.definition.specs.Arms.{inOneLineBlock, inBrokenList, endsWithTwoFeeds, nextIs, groupClosed, popped}
+use Rattle.definition.specs.Arms.{inOneLineBlock, inBrokenList, endsWithTwoFeeds, groupClosed, popped}
+use Rattle.lookahead.specs.Measure.{nextIs}
 use Rattle.definition.specs.Arms.{openInline, openInnerInline}
 
 -- ---- Newline

@@ -11,9 +11,8 @@ use crate::suppressed_after;
 use lookahead::should_break_list;
 use lookahead::should_break_sig;
 use rows::kinds;
-use sink::lent::push_entry;
-use sink::numbers::less;
-use sink::numbers::less32;
+use shared::numbers::less;
+use shared::numbers::less32;
 use sink::write::Tail;
 use sink::write::count_comma;
 use sink::write::write_closer;
@@ -24,7 +23,7 @@ ghost use mathlib.Core.List.{List, [], _∷_};
 ghost use mathlib.Core.Option.{Option·map};
 ghost use mathlib.Core.Path.{_≡_};
 ghost use Prim.Native.Nat.{ℕ, _+_, _-_, _≤_, _<_};
-ghost use lib.ListN.{length};
+ghost use lib.ListN.{length, set};
 ghost use Rattle.shared.specs.Numbers.{most32};
 ghost use Rattle.rows.specs.Kinds.{LeftParen, RightParen, LeftBracket, RightBracket, Comma};
 ghost use Rattle.lookahead.specs.Measure.{shouldBreakList};
@@ -476,4 +475,13 @@ pub fn list_is_wide(list_width: u32, ends: Ends, rows: &[u8], token: TokenAt) ->
         }
     }
     should_break_list(&rows[lead..], list_width)
+}
+
+// Puts a depth on the broken-group stack at `count`. A stack that has no such place stays as it is.
+fn push_entry(stack: &mut [u32], count: usize, depth: u32)
+    ensures { λ r. ⌜ now (stack .exit) ≡ set (now (stack .entry)) count depth ⌝ }
+{
+    if count < stack.len() {
+        stack[count] = depth;
+    }
 }

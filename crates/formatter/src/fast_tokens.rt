@@ -4,15 +4,15 @@ use crate::Formatter;
 use crate::GroupDepth;
 use crate::Prev;
 use crate::ended_by;
-use lookahead::is_value_kind;
+use crate::lexeme::record_pending_after;
 use rows::ROW_BYTES;
 use rows::kinds;
 use rows::row_at;
-use sink::numbers::less;
-use sink::numbers::record_pending_after;
+use shared::numbers::less;
 use sink::put::put_token;
-use sink::space::loose_behind;
-use sink::space::space_behind;
+use spaces::between::loose_after;
+use spaces::between::space_after;
+use spaces::is_value_kind;
 ghost use mathlib.Core.Bool.{true, cond, not, _&&_};
 ghost use mathlib.Core.Path.{_≡_};
 ghost use Prim.Native.Nat.{_+_, _-_, _/_, _*_, _^_, _≤_, _<_};
@@ -125,7 +125,7 @@ impl Formatter {
         let mut at = from;
         let mut len = self.len;
         let mut prev = kind_of(last);
-        let mut spaced = space_behind(state.loose, prev);
+        let mut spaced = space_after(state.loose, prev);
         while is_fast_token(fast, rows, at, bare, out.len(), len, spaced) {
             let row = row_at(rows, at);
             let kind = row.kind;
@@ -135,7 +135,7 @@ impl Formatter {
             len = put_token(out, len, space, text, start, end);
             state = fast_state_after(state, prev, kind);
             prev = kind;
-            spaced = space_behind(state.loose, kind);
+            spaced = space_after(state.loose, kind);
             at += ROW_BYTES;
         }
         FastTokens {
@@ -197,7 +197,7 @@ impl Formatter {
             record_pending: self.record_pending,
             changing: changing_kinds(self.fn_state, self.record_pending),
             prev_minus_is_unary: self.prev_minus_is_unary,
-            loose: loose_behind(kinds::OTHER, self.prev_minus_is_unary),
+            loose: loose_after(kinds::OTHER, self.prev_minus_is_unary),
         }
     }
 }
@@ -266,7 +266,7 @@ fn fast_state_after(state: FastState, prev: u32, kind: u32) -> FastState
         record_pending,
         changing: changing_kinds(fn_state, record_pending),
         prev_minus_is_unary: unary,
-        loose: loose_behind(kinds::OTHER, unary),
+        loose: loose_after(kinds::OTHER, unary),
     }
 }
 

@@ -5,20 +5,19 @@ use crate::Options;
 use crate::Prev;
 use crate::TokenAt;
 use crate::ended_by;
-use lookahead::is_value_kind;
+use row_writers::write_lexeme;
 use rows::kinds;
-use sink::numbers::record_pending_after;
-use sink::space::loose_behind;
-use sink::space::spaces_between;
 use sink::write::Tail;
 use sink::write::write_else;
-use sink::write::write_token;
-ghost use mathlib.Core.Bool.{cond};
+use spaces::between::loose_after;
+use spaces::between::spaces_between;
+use spaces::is_value_kind;
+ghost use mathlib.Core.Bool.{cond, _&&_, _||_};
 ghost use mathlib.Core.List.{List};
 ghost use mathlib.Core.Path.{_≡_};
 ghost use Prim.Native.Nat.{ℕ, _≤_, _<_};
 ghost use lib.Dec.{eqb};
-ghost use Rattle.rows.specs.Kinds.{Else, Other};
+ghost use Rattle.rows.specs.Kinds.{Else, Record, Identifier, Other};
 ghost use Rattle.definition.specs.Emit.{isSome, trackFnState, trackMinus, pushLexeme};
 ghost use Rattle.definition.specs.Arms.{elseArm, elseOnNewLine, otherArm};
 ghost use Rattle.sink.specs.Tail.{tailBytes};
@@ -143,7 +142,7 @@ impl Formatter {
         ensures kept { λ r. ⌜ Kept self r ⌝ }
     {
         let gap = self.gap_before(options, kind);
-        let len = write_token(out, self.len, gap, rows, text, token.own, tail);
+        let len = write_lexeme(out, self.len, gap, rows, text, token.own, tail);
         let prev = ended_by(kind);
         self.len = len;
         self.at_line_start = false;
@@ -164,7 +163,7 @@ impl Formatter {
         let prev = before.kind;
         match prev {
             Prev::Nothing => 0,
-            Prev::Kind(k) => spaces_between(loose_behind(kind, self.prev_minus_is_unary), k, kind),
+            Prev::Kind(k) => spaces_between(loose_after(kind, self.prev_minus_is_unary), k, kind),
         }
     }
 
@@ -238,4 +237,18 @@ fn named_after(state: u8) -> u8
         return 2;
     }
     0
+}
+
+// Answers whether a record is pending after a token of the kind: `record` arms the record layout, a name leaves it
+// armed, anything else disarms it.
+pub fn record_pending_after(pending: bool, kind: u32) -> bool
+    ensures { λ r. ⌜ r ≡ eqb kind Record || (eqb kind Identifier && pending) ⌝ }
+{
+    if kind == kinds::RECORD {
+        return true;
+    }
+    if kind == kinds::IDENTIFIER {
+        return pending;
+    }
+    false
 }

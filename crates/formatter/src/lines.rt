@@ -7,17 +7,16 @@ use crate::ended_by;
 use lookahead::next_has_comment;
 use rows::ROW_BYTES;
 use rows::kinds;
-use sink::lent::ends_with_two_feeds;
 use sink::write::write_byte;
 ghost use mathlib.Core.List.{List};
 ghost use mathlib.Core.Path.{_≡_};
 ghost use Prim.Native.Nat.{ℕ, _+_, _≤_};
-ghost use lib.ListN.{length};
+ghost use lib.ListN.{length, take};
 ghost use Rattle.rows.specs.Row.{rowSize};
 ghost use Rattle.rows.specs.Token.{tokensOf};
 ghost use Rattle.definition.specs.Act.{nothing};
 ghost use Rattle.definition.specs.Emit.{isAt};
-ghost use Rattle.definition.specs.Arms.{newlineArm};
+ghost use Rattle.definition.specs.Arms.{endsWithTwoFeeds, newlineArm};
 ghost use Rattle.formatter.specs.CodeState.{Locals, codeState, newlineOf, stateOf};
 ghost use Rattle.formatter.specs.Does.{Puts};
 ghost use Rattle.formatter.specs.Token.{AtToken};
@@ -91,4 +90,23 @@ impl Formatter {
         }
         true
     }
+}
+
+// Whether the text so far, of `len` bytes, ends with two line feeds.
+fn ends_with_two_feeds(out: &[u8], len: usize) -> bool
+    ensures { λ r. ⌜ (len ≤ length (now (out .entry))
+        → r ≡ endsWithTwoFeeds (take len (now (out .entry)))) ⌝ }
+{
+    if len < 2 {
+        return false;
+    }
+    if out.len() < len {
+        return false;
+    }
+    let last = len - 1;
+    let before = len - 2;
+    if out[before] == b'\n' {
+        return out[last] == b'\n';
+    }
+    false
 }

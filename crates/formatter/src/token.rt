@@ -1,7 +1,7 @@
 // Which rows are a token's, and what all rows tell.
 use crate::Ends;
 use crate::TokenAt;
-use lookahead::behind_last;
+use lookahead::after_last;
 use lookahead::total_width;
 use rows::ROW_BYTES;
 use rows::kinds;
@@ -85,8 +85,8 @@ pub fn ends_of(rows: &[u8], list_width: u32) -> Ends
             width: 0,
         };
     }
-    let commas = behind_last(rows, kinds::COMMA);
-    let braces = behind_last(rows, kinds::RIGHT_BRACE);
+    let commas = after_last(rows, kinds::COMMA);
+    let braces = after_last(rows, kinds::RIGHT_BRACE);
     if list_width < WIDE {
         return Ends {
             commas,

@@ -2,13 +2,13 @@
 use crate::Formatter;
 use crate::Options;
 use crate::TokenAt;
+use row_writers::comments::write_blank_line;
+use row_writers::comments::write_lead;
+use row_writers::comments::write_trail;
 use rows::ROW_BYTES;
 use rows::Row;
 use rows::kinds;
 use rows::row_at;
-use sink::comments::write_blank_line;
-use sink::comments::write_lead;
-use sink::comments::write_trail;
 use sink::write::write_spaces;
 ghost use mathlib.Core.List.{List, []};
 ghost use mathlib.Core.Path.{_≡_};

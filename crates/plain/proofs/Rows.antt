@@ -16,7 +16,7 @@ use Rattle.rows.specs.Checks.{Before, atStart, after, badFrom}
 use Rattle.rows.proofs.Sound.{first-sound, rest-good}
 use Rattle.lookahead.specs.Measure.{isEmpty}
 use Rattle.lookahead.specs.Scan.{trails}
-use Rattle.definition.specs.Arms.{nextIs}
+use Rattle.lookahead.specs.Measure.{nextIs}
 use Rattle.definition.specs.Plain.{isMute, hasItsLexeme, readsWhole, endsOperator, beginsOperator, beginsDigit, tightBefore, tightBehind, clause₂, clause₃, clause₄, clause₅, clause₆, clause₇, plain}
 use Rattle.definition.proofs.PlainScan
 use Rattle.definition.proofs.PlainScan.{see, plainFrom, plain-scan}

@@ -5,6 +5,7 @@ use libc::STDIN_FILENO;
 use libc::STDOUT_FILENO;
 use rows::ROW_BYTES;
 use rows::options;
+use shared::refusals;
 
 // Reads a sheet, lays it out with the default options and writes the answer and the text.
 pub fn lay_out_sheet() {
@@ -22,10 +23,13 @@ fn run(sheet: &mut [u8], rows: &mut [u8], text: &mut [u8], out: &mut [u8]) {
         return;
     }
     match sheet::read_sheet(&sheet[..size], rows, text) {
-        sheet::Answer::Read(count, text_bytes) => lay_out(rows, count, text, text_bytes, out),
-        sheet::Answer::NoNames => print_refusal(6, 0),
-        sheet::Answer::BadLine(line) => print_refusal(7, line as u64),
-        sheet::Answer::SheetFull(line) => print_refusal(8, line as u64),
+        sheet::Answer::Read {
+            rows: count,
+            text_bytes,
+        } => lay_out(rows, count, text, text_bytes, out),
+        sheet::Answer::NoNames => print_refusal(refusals::NO_NAMES, 0),
+        sheet::Answer::BadLine { line } => print_refusal(refusals::BAD_LINE, line as u64),
+        sheet::Answer::SheetFull { line } => print_refusal(refusals::SHEET_FULL, line as u64),
     }
 }
 
@@ -58,11 +62,11 @@ fn print_answer(answer: Answer, out: &[u8]) {
             commas,
             plain,
         } => print_text(length, commas, plain, out),
-        Answer::BadOption { position } => print_refusal(1, position as u64),
-        Answer::RaggedRows => print_refusal(2, 0),
-        Answer::BadRow { row } => print_refusal(3, row as u64),
-        Answer::Deep { index } => print_refusal(4, index as u64),
-        Answer::Full { index } => print_refusal(5, index as u64),
+        Answer::BadOption { position } => print_refusal(refusals::OPTION, position as u64),
+        Answer::RaggedRows => print_refusal(refusals::RAGGED_ROWS, 0),
+        Answer::BadRow { row } => print_refusal(refusals::BAD_ROW, row as u64),
+        Answer::Deep { index } => print_refusal(refusals::DEEP, index as u64),
+        Answer::Full { index } => print_refusal(refusals::FULL, index as u64),
     }
 }
 
@@ -82,9 +86,10 @@ fn print_text(length: usize, commas: usize, plain: bool, out: &[u8]) {
     io::write_all(STDOUT_FILENO, &out[..length]);
 }
 
-fn print_refusal(refusal: u64, place: u64) {
+// Writes a refusal and its place.
+fn print_refusal(refusal: u32, place: u64) {
     io::write_all(STDOUT_FILENO, b"refusal place\n");
-    io::print_decimal(STDOUT_FILENO, refusal);
+    io::print_decimal(STDOUT_FILENO, refusal as u64);
     io::write_all(STDOUT_FILENO, b" ");
     io::print_decimal(STDOUT_FILENO, place);
     io::write_all(STDOUT_FILENO, b"\n");

@@ -67,7 +67,7 @@ fn read_laid(laid: format_tokens::Answer, out: &[u8], pieces: &mut [u32]) -> pie
         ≡ readBackSlots (seen laid (now (out .entry))) (now (pieces .entry)) ⌝ }
 {
     let format_tokens::Answer::Text { length, .. } = laid else {
-        return pieces::Answer::Pieces(0);
+        return pieces::Answer::Pieces { count: 0 };
     };
     read_pieces(&out[..length], pieces)
 }

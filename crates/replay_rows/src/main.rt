@@ -34,10 +34,10 @@ fn print_row_of_spaces(first: u32) {
     end_line();
 }
 
-fn print_space(space: lookahead::Space) {
+fn print_space(space: spaces::Space) {
     match space {
-        lookahead::Space::Needed(needed) => print_pair(0, flag(needed)),
-        lookahead::Space::BadRow(place) => print_pair(3, place as u64),
+        spaces::Space::Needed { needed } => print_pair(0, flag(needed)),
+        spaces::Space::BadRow { position } => print_pair(3, position as u64),
     }
 }
 

@@ -11,8 +11,8 @@ use Rattle.formatter.proofs.Formatter.emit_token_text.Tie as tie
 gap-before-requires : tie.Need-gap-before-requires
 gap-before-requires c κs = search needs
 
-write-token-requires : tie.Need-write-token-requires
-write-token-requires c κs = search needs
+write-lexeme-requires : tie.Need-write-lexeme-requires
+write-lexeme-requires c κs = search needs
 
 ended-by-requires : tie.Need-ended-by-requires
 ended-by-requires c κs = search needs
@@ -24,11 +24,11 @@ returns : tie.Need-returns
 returns c =
     let a = c .before .before .before .before .before .before .before .before .before .args in
     let t = bareToken (a .kind) (lexemeOf (a .token) (a .rows .now) (a .text .now)) in (
-      λ s x. emitted (optionsOf (a .options)) t (tailBytes (a .tail)) (rw (c .ended-by .ensures)) refl (c .before .before .before .before .before .gap-before .ensures .0) (c .before .before .before .write-token .ensures),
+      λ s x. emitted (optionsOf (a .options)) t (tailBytes (a .tail)) (rw (c .ended-by .ensures)) refl (c .before .before .before .before .before .gap-before .ensures .0) (c .before .before .before .write-lexeme .ensures),
       record { indent = refl; group = refl; count = refl },
     )
 
 pub emit-token-text-spec : {M : Type 1} → statement M
 emit-token-text-spec =
     tie.close
-    (tie.spec gap-before-requires write-token-requires ended-by-requires same-length returns)
+    (tie.spec gap-before-requires write-lexeme-requires ended-by-requires same-length returns)

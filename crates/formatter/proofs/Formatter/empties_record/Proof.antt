@@ -2,7 +2,7 @@
 use Prim.Native.Nat.{_+_}
 use borrow.Author.Needs.{needs}
 use Rattle.rows.specs.Kinds.{RightBrace}
-use Rattle.definition.specs.Arms.{nextIs}
+use Rattle.lookahead.specs.Measure.{nextIs}
 use Rattle.formatter.proofs.Looked.{looked-after, part-is}
 use Rattle.formatter.proofs.Formatter.empties_record.Statement.{statement}
 use Rattle.formatter.proofs.Formatter.empties_record.Tie as tie

@@ -20,8 +20,8 @@ use Rattle.formatter.proofs.Formatter.empty_record.Tie as tie
 gap-before-requires : tie.Need-gap-before-requires
 gap-before-requires c κs = search needs
 
-write-token-requires : tie.Need-write-token-requires
-write-token-requires c κs = search needs
+write-lexeme-requires : tie.Need-write-lexeme-requires
+write-lexeme-requires c κs = search needs
 
 ended-by-requires : tie.Need-ended-by-requires
 ended-by-requires c κs = search needs
@@ -32,8 +32,8 @@ same-length c = search needs
 returns : tie.Need-returns
 unfolding run said emptyRecord
 returns c =
-    let at-write-token = c .before .before .before in
-    let at-gap-before = at-write-token .before .before in
+    let at-write-lexeme = c .before .before .before in
+    let at-gap-before = at-write-lexeme .before .before in
     let entry = at-gap-before .before .before .before .before in
     λ s x.
     let o = optionsOf (entry .args .options) in
@@ -42,9 +42,9 @@ returns c =
     does (sym (rw (c .ended-by .ensures))) refl
     (same-bytes
     (closed-up (tokenGap o LeftBrace f) w (bytes "{}"))
-    (gapped (gapSize o LeftBrace f) _ _ (token-gap o f LeftBrace) (at-gap-before .gap-before .ensures .0) (at-write-token .write-token .ensures)))
+    (gapped (gapSize o LeftBrace f) _ _ (token-gap o f LeftBrace) (at-gap-before .gap-before .ensures .0) (at-write-lexeme .write-lexeme .ensures)))
 
 pub empty-record-spec : {M : Type 1} → statement M
 empty-record-spec =
     tie.close
-    (tie.spec gap-before-requires write-token-requires ended-by-requires same-length returns)
+    (tie.spec gap-before-requires write-lexeme-requires ended-by-requires same-length returns)

@@ -1,7 +1,7 @@
 -- `formatter::Formatter::gap_before` meets its contract. Assumes nothing.
 use native.Mathlib.Omega.{arith}
 use borrow.Author.Needs.{needs}
-use Rattle.sink.proofs.Spaces.{spaces-are, spaces-few}
+use Rattle.spaces.proofs.Pairs.{spaces-are, spaces-few}
 use Rattle.formatter.proofs.Formatter.gap_before.Statement.{statement}
 use Rattle.formatter.proofs.Formatter.gap_before.Tie as tie
 
@@ -17,8 +17,8 @@ enum-told c = search needs
 enum-known-prev : tie.Need-enum-known-prev
 enum-known-prev c = search needs
 
-loose-behind-requires : tie.Need-loose-behind-requires
-loose-behind-requires c κs = search needs
+loose-after-requires : tie.Need-loose-after-requires
+loose-after-requires c κs = search needs
 
 spaces-between-requires : tie.Need-spaces-between-requires
 spaces-between-requires c κs = (rw (c .before .before .prev .given .1) at (c .before .before .before .before .before .before .pre .1 .0), c .before .before .before .before .before .before .pre .1 .1)
@@ -31,9 +31,9 @@ returns-3 c =
     let a = c .before .before .before .before .before .before .before .args in
     let last = c .before .before .before .prev .given in
     let kinds = c .before .before .before .before .before .before .before .pre .1 in (
-      rw (c .before .before .before .before .before .before .if1 .left, last .1, c .spaces-between .ensures, c .before .loose-behind .ensures)
+      rw (c .before .before .before .before .before .before .if1 .left, last .1, c .spaces-between .ensures, c .before .loose-after .ensures)
           (spaces-are (last .0 .0) (a .kind) (a .self .«prev_minus_is_unary») (rw (last .1) at (kinds .0)) (kinds .1)),
-      rw (c .spaces-between .ensures) (omega (arith, spaces-few (c .before .loose-behind .result) (last .0 .0) (a .kind))),
+      rw (c .spaces-between .ensures) (omega (arith, spaces-few (c .before .loose-after .result) (last .0 .0) (a .kind))),
     )
 
 pub gap-before-spec : {M : Type 1} → statement M
@@ -44,7 +44,7 @@ gap-before-spec =
     returns
     enum-told
     enum-known-prev
-    loose-behind-requires
+    loose-after-requires
     spaces-between-requires
     returns-2
     returns-3)

@@ -8,8 +8,8 @@ use Rattle.formatter.proofs.FastTokens.{FastTokensSoFar, starts, taken-
 use Rattle.rows.specs.Kinds.{Other}
 use Rattle.formatter.specs.Format.{CheckedRows}
 use Rattle.formatter.specs.FastTokens.{IsFastToken, fastKindsOf}
-use Rattle.sink.proofs.Spaces.{bit-few}
-use Rattle.sink.specs.Space.{bit}
+use Rattle.spaces.proofs.Pairs.{bit-few}
+use Rattle.spaces.specs.Between.{bit}
 use Rattle.formatter.proofs.Formatter.push_fast_tokens.Statement.{statement}
 use Rattle.formatter.proofs.Formatter.push_fast_tokens.Tie as tie
 
@@ -76,14 +76,14 @@ fast-state-requires c κs = search needs
 kind-of-requires : tie.Need-kind-of-requires Inv-loop μ-loop
 kind-of-requires c κs = search needs
 
-space-behind-requires : tie.Need-space-behind-requires Inv-loop μ-loop
-space-behind-requires c κs = rw (c .kind-of .ensures) (c .before .before .before .before .before .before .before .before .pre .0 .1)
+space-after-requires : tie.Need-space-after-requires Inv-loop μ-loop
+space-after-requires c κs = rw (c .kind-of .ensures) (c .before .before .before .before .before .before .before .before .pre .0 .1)
 
 loop-holds : tie.Need-loop-holds Inv-loop μ-loop
 loop-holds c =
     let k = c .before in
     let p = k .before .before .before .before .before .before .before .before .pre in
-    (starts _ (rw (k .kind-of .ensures) (p .0 .1)) (p .1 .0 .0) (rw (k .before .fast-state .ensures) (record { changing = refl; loose = refl })) (p .1 .1 .0), c .space-behind .ensures)
+    (starts _ (rw (k .kind-of .ensures) (p .0 .1)) (p .1 .0 .0) (rw (k .before .fast-state .ensures) (record { changing = refl; loose = refl })) (p .1 .1 .0), c .space-after .ensures)
 
 is-fast-token-requires : tie.Need-is-fast-token-requires Inv-loop μ-loop
 is-fast-token-requires c κs =
@@ -111,8 +111,8 @@ put-token-requires c κs =
 fast-state-after-requires : tie.Need-fast-state-after-requires Inv-loop μ-loop
 fast-state-after-requires c κs = (head (row-written c .before) .loop .inv .0 .right, known-kind (row-written c))
 
-space-behind-requires-2 : tie.Need-space-behind-requires-2 Inv-loop μ-loop
-space-behind-requires-2 c κs = known-kind (row-written (c .before))
+space-after-requires-2 : tie.Need-space-after-requires-2 Inv-loop μ-loop
+space-after-requires-2 c κs = known-kind (row-written (c .before))
 
 add-at : tie.Need-add-at Inv-loop μ-loop
 add-at c =
@@ -133,7 +133,7 @@ loop-again c =
     let e = entry l .args in (
       again (checked l) (l .loop .inv .0) (taken t .ahead) (taken t) (l .loop .inv .1) _ (fastKindsOf (e .self) (e .stack .now)) (kinds l .fast-kinds .ensures)
           (r .row-at .ensures) (w .before .before .before .before .before .before .space-before .ensures) (w .before .before .put-token .ensures) (c .before .fast-state-after .ensures),
-      c .space-behind2 .ensures,
+      c .space-after2 .ensures,
     )
 
 same-length : tie.Need-same-length Inv-loop μ-loop
@@ -154,7 +154,7 @@ push-fast-tokens-spec =
     fast-kinds-requires
     fast-state-requires
     kind-of-requires
-    space-behind-requires
+    space-after-requires
     loop-holds
     is-fast-token-requires
     row-at-requires
@@ -163,7 +163,7 @@ push-fast-tokens-spec =
     cast-end
     put-token-requires
     fast-state-after-requires
-    space-behind-requires-2
+    space-after-requires-2
     add-at
     loop-less
     loop-again

@@ -4,7 +4,7 @@ use native.Mathlib.Omega.{arith}
 use borrow.Author.Tests.{not-false}
 use borrow.Author.Needs.{needs}
 use Rattle.formatter.specs.FastTokens.{spaceBefore}
-use Rattle.sink.specs.Space.{bit}
+use Rattle.spaces.specs.Between.{bit}
 use Rattle.formatter.proofs.FastTokenTurn.{space-few}
 use Rattle.shared.proofs.Logic.{impossible′}
 use Rattle.formatter.proofs.fast_tokens.is_fast_token.Statement.{statement}
