@@ -17,7 +17,7 @@ ghost use Rattle.pieces.specs.Eight.{eightOnes, eightLows};
 ghost use Rattle.plain.specs.Scan.{isWordByte, runOf};
 ghost use Rattle.plain.specs.Eight.{foursOf, bytesWithin, lettersIn, wordsIn};
 
-// Whether the lexeme has bytes, and all of them are word bytes. Up to sixteen bytes are tested without a loop.
+// Whether the lexeme has bytes, and all of them are word bytes. Up to sixteen are tested without a loop.
 pub fn is_words(lexeme: &[u8]) -> bool
     ensures { λ r. ⌜ r ≡ runOf isWordByte (now (lexeme .entry)) ⌝ }
 {
