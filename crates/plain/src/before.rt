@@ -128,8 +128,8 @@ fn empties_record(rows: &[u8], at: usize) -> bool
     is_armed(rows, last)
 }
 
-// Whether there is a Record before `at`, and no `{` since. Only a `}` directly after a `{` asks for it, so that
-// no row is looked at twice.
+// Whether there is a Record before `at`, and no `{` since. Only a `}` directly after a `{` asks for it, so
+// that no row is looked at twice.
 fn is_armed(rows: &[u8], at: usize) -> bool
     requires { ⌜ at ≤ length (now rows) ⌝ }
     ensures { λ r. ⌜ ((text : List ℕ) → r ≡ factsAt (now (rows .entry)) text at .armed) ⌝ }

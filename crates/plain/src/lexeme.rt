@@ -38,7 +38,7 @@ pub fn bracket_of(kind: u32) -> u8
     }
 }
 
-// Whether the lexeme is the one of the kind, from Colon to Else. If so it reads as one piece, the whole of it.
+// Whether the lexeme is the one of the kind, from Colon to Else, and reads as one piece, the whole of it.
 pub fn is_itself(kind: u32, lexeme: &[u8]) -> bool
     requires { ⌜ (Comma < kind) × (kind ≤ Else) ⌝ }
     ensures { λ r. ⌜ r ≡ hasItsLexeme kind (now (lexeme .entry)) && readsWhole (now (lexeme .entry)) ⌝ }
@@ -193,8 +193,8 @@ fn is_long_quoted(lexeme: &[u8], quote: u8) -> bool
     is_ordinary(&lexeme[1..last], quote)
 }
 
-// Whether all bytes are ordinary: neither the quote nor a backslash. Sixty-four are tested at a time; where fewer
-// are left, the last sixty-four of all.
+// Whether all bytes are ordinary: neither the quote nor a backslash. Sixty-four are tested at a time; where
+// fewer are left, the last sixty-four of all.
 fn is_ordinary(s: &[u8], quote: u8) -> bool
     requires { ⌜ 64 ≤ length (now s) ⌝ }
     ensures { λ r. ⌜ r ≡ runOf (ordinary quote) (now (s .entry)) ⌝ }
@@ -211,8 +211,8 @@ fn is_ordinary(s: &[u8], quote: u8) -> bool
     true
 }
 
-// Whether the sixty-four bytes from `at` on are ordinary. No byte ends the loop, so that it compiles to vector
-// code; a loop of thirty-two is unrolled instead.
+// Whether the sixty-four bytes from `at` on are ordinary. No byte ends the loop, so that it compiles to
+// vector code; a loop of thirty-two is unrolled instead.
 fn block_ordinary(s: &[u8], at: usize, quote: u8) -> bool
     requires { ⌜ at + 64 ≤ length (now s) ⌝ }
     ensures { λ r. ⌜ r ≡ all (ordinary quote) (take 64 (drop at (now (s .entry)))) ⌝ }

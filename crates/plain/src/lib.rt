@@ -1,5 +1,5 @@
-// The plain mark (document 01), in one pass over the rows, which looks for bad rows too. Nothing is kept of the
-// rows that were passed: a clause that asks for them looks back, over as many rows as lie between.
+// The plain mark (document 01), in one pass over the rows, which looks for bad rows too. Nothing is kept of
+// the rows that were passed: a clause that asks for them looks back, over as many rows as lie between.
 use crate::before::fits_fixed;
 use crate::before::fits_free;
 use crate::before::fits_read;
@@ -36,8 +36,8 @@ pub fn plain_mark(rows: &[u8], text: &[u8]) -> bool
     true
 }
 
-// The index after the rows from `from` on that fit by quick tests. Of the row on which it stops it is not known
-// whether it fits, but a good row of a kind with a fixed lexeme does not.
+// The index after the rows from `from` on that fit by quick tests. Of the row on which it stops it is not
+// known whether it fits, but a good row of a kind with a fixed lexeme does not.
 fn fit_end(rows: &[u8], text: &[u8], from: usize) -> usize
     requires { ⌜ Ahead (now rows) (now text) from ⌝ }
     ensures { λ r. ⌜ FitsTo (now (rows .entry)) (now (text .entry)) from r ⌝ }

@@ -11,13 +11,12 @@ ghost use lib.Bits.{bitAnd};
 ghost use lib.Dec.{eqb};
 ghost use lib.ListN.{length, take, drop};
 ghost use Rattle.shared.specs.Bytes.{byte, within};
-ghost use Rattle.shared.specs.Numbers.{most32};
 ghost use Rattle.pieces.specs.Sets.{all};
 ghost use Rattle.pieces.specs.Eight.{eightOnes, eightLows};
 ghost use Rattle.plain.specs.Scan.{isWordByte, runOf};
 ghost use Rattle.plain.specs.Eight.{foursOf, bytesWithin, lettersIn, wordsIn};
 
-// Whether the lexeme has bytes, and all of them are word bytes. Up to sixteen bytes are tested without a loop.
+// Whether the lexeme has bytes, and all of them are word bytes. Up to sixteen are tested without a loop.
 pub fn is_words(lexeme: &[u8]) -> bool
     ensures { λ r. ⌜ r ≡ runOf isWordByte (now (lexeme .entry)) ⌝ }
 {
@@ -184,16 +183,9 @@ fn fours(s: &[u8]) -> u64
     requires { ⌜ 4 ≤ length (now s) ⌝ }
     ensures { λ r. ⌜ r ≡ foursOf (now (s .entry)) ⌝ }
 {
-    let first = wide(number_at(s, 0));
-    let last = wide(number_at(s, s.len() - 4));
+    let first = number_at(s, 0) as u64;
+    let last = number_at(s, s.len() - 4) as u64;
     first + last * AFTER_FOUR
-}
-
-// The same number in 64 bits.
-fn wide(n: u32) -> u64
-    ensures { λ r. ⌜ (r ≡ n) × (r ≤ most32) ⌝ }
-{
-    n as u64
 }
 
 // Whether the high bit of each byte is set. The tests below answer there, byte by byte, and leave anything in

@@ -22,8 +22,8 @@ fn replay(input: &[u8]) {
     }
 }
 
-// A case is two lines: how many numbers the slice has and how many bytes the text, three digits each; then the
-// text. Reads the case at `at`, and answers where the next one stands, or 0 where no whole case stands there.
+// A case is two lines: how many numbers the slice has and how many bytes the text, three digits each; then
+// the text. Reads the case at `at`, and answers where the next one stands, or 0 where no whole case stands.
 fn replay_case(input: &[u8], at: usize) -> usize {
     if input.len() < at {
         return 0;
@@ -59,8 +59,8 @@ fn digit(b: u8) -> usize
     ((b - 48) % 10) as usize
 }
 
-// Reads the text into a slice of so many numbers, at most 64. It is filled with 7 before the call, so that what
-// is unchanged can be told from what is zeroed.
+// Reads the text into a slice of so many numbers, at most 64. It is filled with 7 before the call, so that
+// what is unchanged can be told from what is zeroed.
 fn read_back(text: &[u8], slots: usize) {
     let mut numbers = [7u32; 64];
     let space: &mut [u32] = &mut numbers;
