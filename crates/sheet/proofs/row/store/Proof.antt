@@ -58,11 +58,17 @@ put-u32-requires-2 c κs = search needs
 add-put-u32-2 : tie.Need-add-put-u32-2
 add-put-u32-2 c = search needs
 
+cast-put-u32 : tie.Need-cast-put-u32
+cast-put-u32 c = search needs
+
 put-u32-requires-3 : tie.Need-put-u32-requires-3
 put-u32-requires-3 c κs = search needs
 
 add-put-u32-3 : tie.Need-add-put-u32-3
 add-put-u32-3 c = search needs
+
+cast-put-u32-2 : tie.Need-cast-put-u32-2
+cast-put-u32-2 c = search needs
 
 put-u32-requires-4 : tie.Need-put-u32-requires-4
 put-u32-requires-4 c κs = search needs
@@ -94,8 +100,10 @@ store-spec =
     add-put-u32
     put-u32-requires-2
     add-put-u32-2
+    cast-put-u32
     put-u32-requires-3
     add-put-u32-3
+    cast-put-u32-2
     put-u32-requires-4
     same-length
     returns-3)
