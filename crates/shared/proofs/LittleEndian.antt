@@ -1,9 +1,9 @@
 -- A number and a report written into a lent slice, byte by byte. Assumes nothing.
 use mathlib.Core.List.{List, _++_}
 use mathlib.Core.Path.{_≡_, refl, ap, _∙_}
-use Prim.Native.Nat.{ℕ, zero, suc, _+_, _-_, _/_, _%_, _≤_, _<_}
+use Prim.Native.Nat.{ℕ, zero, suc, _+_, _*_, _/_, _%_, _<_}
 use native.Mathlib.Omega.{arith}
-use lib.ListN.{length, set, length-set, length-append}
+use lib.ListN.{length, set, length-append}
 use lib.Seq.{sets}
 use Rattle.shared.specs.Numbers.{littleEndian}
 use Rattle.shared.specs.Report.{Report, reportBytes, reportSize}
@@ -11,32 +11,50 @@ use Rattle.shared.proofs.Stores.{sets-after, sets-whole}
 
 -- ---- a number
 
--- Before byte i of a number whose bytes end at `end`: the bytes left, those of `left`, complete the slice xs to `done`.
-pub record Left (done xs : List ℕ) (size i end left : ℕ) : Type 0 where
-  pub reached : i ≤ end
-  pub within : end ≤ size
-  pub sized : length xs ≡ size
-  pub completes : sets xs i (littleEndian (end - i) left) ≡ done
-
-pub left-all : (xs : List ℕ) (at n x : ℕ) → at + n ≤ length xs → Left (sets xs at (littleEndian n x)) xs (length xs) at (at + n) x
-left-all xs at n x h = let e : at + n - at ≡ n = omega arith in record { reached = omega arith; within = h; sized = refl; completes = rw e }
-
-module _ {done xs : List ℕ} {size i end left : ℕ} (σ : Left done xs size i end left) where
-  pub left-more : i < end → Left done (set xs i (left % 256)) size (i + 1) end (left / 256)
-  unfolding littleEndian
-  left-more h =
-      let more : end - i ≡ suc (end - (i + 1)) = omega arith in
-      let next : i + 1 ≡ suc i = omega arith in
-      record { reached = omega arith; within = σ .within; sized = length-set xs i (left % 256) ∙ σ .sized; completes = rw next (rw (more, next) at (σ .completes)) }
-
-  pub left-none : end ≤ i → xs ≡ done
-  unfolding littleEndian
-  left-none h = let none : end - i ≡ 0 = omega arith in rw none at (σ .completes)
-
 pub length-littleEndian : (n x : ℕ) → length (littleEndian n x) ≡ n
 unfolding littleEndian
 length-littleEndian zero x = refl
 length-littleEndian (suc n) x = rw (length-littleEndian n (x / 256))
+
+-- four bytes, stored one by one
+pub four-stored : (l : List ℕ) (at x : ℕ) →
+    set (set (set (set l at (x % 256)) (at + 1) (x / 256 % 256)) (at + 2) (x / 65536 % 256)) (at + 3) (x / 16777216 % 256) ≡ sets l at (littleEndian 4 x)
+unfolding littleEndian
+four-stored l at x =
+    let one : at + 1 ≡ suc at = omega arith in
+    let two : at + 2 ≡ suc (suc at) = omega arith in
+    let three : at + 3 ≡ suc (suc (suc at)) = omega arith in
+    let third : x / 65536 ≡ x / 256 / 256 = omega arith in
+    let fourth : x / 16777216 ≡ x / 256 / 256 / 256 = omega arith in
+    rw (one, two, three, third, fourth)
+
+-- the lowest byte of a number, and what is above it, where a multiple of 256 is added
+low-byte : (r p : ℕ) → (r + 256 * p) % 256 ≡ r % 256
+low-byte r p = omega arith
+
+above : (r p : ℕ) → (r + 256 * p) / 256 ≡ r / 256 + p
+above r p = omega arith
+
+-- the bytes of a number of two halves
+half-bytes : (r q : ℕ) → r < 4294967296 →
+    littleEndian 4 r ++ littleEndian 4 q ≡ littleEndian 8 (r + 256 * (256 * (256 * (256 * q))))
+unfolding littleEndian
+half-bytes r q h =
+    let none : r / 256 / 256 / 256 / 256 ≡ 0 = omega arith in
+    let high : r / 256 / 256 / 256 / 256 + q ≡ q = omega arith in
+    simp (low-byte, above, high)
+
+halves : (x : ℕ) → littleEndian 4 (x % 4294967296) ++ littleEndian 4 (x / 4294967296) ≡ littleEndian 8 x
+halves x =
+    let whole : x % 4294967296 + 256 * (256 * (256 * (256 * (x / 4294967296)))) ≡ x = omega arith in
+    half-bytes (x % 4294967296) (x / 4294967296) (omega arith) ∙ ap (λ n. littleEndian 8 n) whole
+
+-- eight bytes, stored by fours
+pub eight-stored : (l : List ℕ) (at x : ℕ) {m k : List ℕ} → m ≡ sets l at (littleEndian 4 (x % 4294967296)) →
+    k ≡ sets m (at + 4) (littleEndian 4 (x / 4294967296)) → k ≡ sets l at (littleEndian 8 x)
+eight-stored l at x e f =
+    let n = length-littleEndian 4 (x % 4294967296) in
+    f ∙ rw e (sets-after l at (at + 4) (littleEndian 4 (x % 4294967296)) (littleEndian 4 (x / 4294967296)) (omega arith)) ∙ ap (λ bs. sets l at bs) (halves x)
 
 -- ---- a report
 

@@ -35,14 +35,25 @@ pub fn smaller(a: usize, b: usize) -> usize
     b
 }
 
-// Writes the `size` lowest bytes of `x` into `bytes` from index `at`, the lowest first.
-pub fn put_number(bytes: &mut [u8], at: usize, size: usize, x: u64)
-    requires { ⌜ at + size ≤ length (now bytes) ⌝ }
-    ensures { λ r. ⌜ now (bytes .exit) ≡ sets (now (bytes .entry)) at (littleEndian size x) ⌝ }
+// Writes the four bytes of `x` into `bytes` from index `at`, the lowest first. It has no loop, so that the compiler makes
+// one store of it.
+pub fn put_u32(bytes: &mut [u8], at: usize, x: u32)
+    requires { ⌜ at + 4 ≤ length (now bytes) ⌝ }
+    ensures { λ r. ⌜ now (bytes .exit) ≡ sets (now (bytes .entry)) at (littleEndian 4 x) ⌝ }
 {
-    let mut left = x;
-    for i in at..at + size {
-        bytes[i] = (left % 256) as u8;
-        left = left / 256;
-    }
+    bytes[at] = (x % 256) as u8;
+    bytes[at + 1] = (x / 256 % 256) as u8;
+    bytes[at + 2] = (x / 65536 % 256) as u8;
+    bytes[at + 3] = (x / 16777216 % 256) as u8;
+}
+
+// Writes the eight bytes of `x` into `bytes` from index `at`, the lowest first.
+pub fn put_u64(bytes: &mut [u8], at: usize, x: u64)
+    requires { ⌜ at + 8 ≤ length (now bytes) ⌝ }
+    ensures { λ r. ⌜ now (bytes .exit) ≡ sets (now (bytes .entry)) at (littleEndian 8 x) ⌝ }
+{
+    let low = (x % 4294967296) as u32;
+    let high = (x / 4294967296) as u32;
+    put_u32(bytes, at, low);
+    put_u32(bytes, at + 4, high);
 }

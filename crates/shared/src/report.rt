@@ -1,5 +1,5 @@
 // A report of document 01 ('Around the call'), and its bytes.
-use crate::numbers::put_number;
+use crate::numbers::put_u64;
 ghost use mathlib.Core.Path.{_≡_};
 ghost use lib.ListN.{length};
 ghost use Rattle.shared.specs.Report.{success, refuse, reportOf, reportBytes, reportSize};
@@ -45,8 +45,8 @@ pub fn put_report(report: &mut [u8], answer: Report) -> u32
     ensures refusal { λ r. ⌜ r ≡ reportOf answer .refusal ⌝ }
     ensures bytes { λ r. ⌜ now (report .exit) ≡ reportBytes (reportOf answer) ⌝ }
 {
-    put_number(report, 0, 8, answer.first);
-    put_number(report, 8, 8, answer.second);
-    put_number(report, 16, 8, answer.third);
+    put_u64(report, 0, answer.first);
+    put_u64(report, 8, answer.second);
+    put_u64(report, 16, answer.third);
     answer.refusal
 }

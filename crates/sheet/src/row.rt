@@ -1,6 +1,6 @@
 // A row in bytes: four 32-bit numbers, little-endian.
 use rows::ROW_BYTES;
-use shared::numbers::put_number;
+use shared::numbers::put_u32;
 ghost use mathlib.Core.Path.{_≡_};
 ghost use mathlib.Core.Bool.{cond};
 ghost use Prim.Native.Nat.{_*_, _≤_};
@@ -10,9 +10,6 @@ ghost use Rattle.sheet.specs.Row.{rowFits, withRow};
 
 // The highest 32-bit number.
 const MOST_END: usize = 4294967295;
-
-// How many bytes one of a row's numbers has.
-const NUMBER_BYTES: usize = 4;
 
 // Stores a row in `rows` after the `n` rows that stand there, and returns true; where it does not fit, leaves `rows`
 // as it is and returns false.
@@ -29,9 +26,9 @@ pub fn store(rows: &mut [u8], n: usize, what: u8, kind: u8, start: usize, end: u
     if rows.len() - at < ROW_BYTES {
         return false;
     }
-    put_number(rows, at, NUMBER_BYTES, what as u64);
-    put_number(rows, at + 4, NUMBER_BYTES, kind as u64);
-    put_number(rows, at + 8, NUMBER_BYTES, start as u64);
-    put_number(rows, at + 12, NUMBER_BYTES, end as u64);
+    put_u32(rows, at, what as u32);
+    put_u32(rows, at + 4, kind as u32);
+    put_u32(rows, at + 8, start as u32);
+    put_u32(rows, at + 12, end as u32);
     true
 }

@@ -14,19 +14,19 @@ use Rattle.sheet.proofs.row.store.Tie as tie
 
 -- ---- places: after each number is stored, from the end back to the start
 
-abbrev fourth : tie.After-slice-known5 → tie.After-put-number4
+abbrev fourth : tie.After-slice-known5 → tie.After-put-u324
 fourth c = c .before .before
 
-abbrev third : tie.After-put-number4 → tie.After-put-number3
+abbrev third : tie.After-put-u324 → tie.After-put-u323
 third c = c .before .before .before .before
 
-abbrev second : tie.After-put-number3 → tie.After-put-number2
+abbrev second : tie.After-put-u323 → tie.After-put-u322
 second c = c .before .before .before .before
 
-abbrev first : tie.After-put-number2 → tie.After-put-number
+abbrev first : tie.After-put-u322 → tie.After-put-u32
 first c = c .before .before .before .before
 
-abbrev fitting : tie.After-put-number → tie.Else2
+abbrev fitting : tie.After-put-u32 → tie.Else2
 fitting c = c .before .before
 
 abbrev start : tie.Else2 → tie.Start
@@ -46,26 +46,32 @@ sub-if2 c = search needs
 returns-2 : tie.Need-returns-2
 returns-2 c = let s : tie.Start = c .before .before .before in (rw (lt-leb (rowSize * s .args .n + rowSize) (length (s .args .rows .now)) (omega arith)), refl)
 
-put-number-requires : tie.Need-put-number-requires
-put-number-requires c κs = search needs
+put-u32-requires : tie.Need-put-u32-requires
+put-u32-requires c κs = search needs
 
-add-put-number : tie.Need-add-put-number
-add-put-number c = search needs
+add-put-u32 : tie.Need-add-put-u32
+add-put-u32 c = search needs
 
-put-number-requires-2 : tie.Need-put-number-requires-2
-put-number-requires-2 c κs = search needs
+put-u32-requires-2 : tie.Need-put-u32-requires-2
+put-u32-requires-2 c κs = search needs
 
-add-put-number-2 : tie.Need-add-put-number-2
-add-put-number-2 c = search needs
+add-put-u32-2 : tie.Need-add-put-u32-2
+add-put-u32-2 c = search needs
 
-put-number-requires-3 : tie.Need-put-number-requires-3
-put-number-requires-3 c κs = search needs
+cast-put-u32 : tie.Need-cast-put-u32
+cast-put-u32 c = search needs
 
-add-put-number-3 : tie.Need-add-put-number-3
-add-put-number-3 c = search needs
+put-u32-requires-3 : tie.Need-put-u32-requires-3
+put-u32-requires-3 c κs = search needs
 
-put-number-requires-4 : tie.Need-put-number-requires-4
-put-number-requires-4 c κs = search needs
+add-put-u32-3 : tie.Need-add-put-u32-3
+add-put-u32-3 c = search needs
+
+cast-put-u32-2 : tie.Need-cast-put-u32-2
+cast-put-u32-2 c = search needs
+
+put-u32-requires-4 : tie.Need-put-u32-requires-4
+put-u32-requires-4 c κs = search needs
 
 same-length : tie.Need-same-length
 same-length c = search needs
@@ -79,7 +85,7 @@ returns-3 c =
     let f = fitting c₁ in
     let a = start f .args in (
       row-fits (length (a .rows .now)) (a .n) (a .end) (omega arith) (omega arith),
-      row-stored (a .rows .now) (rowSize * a .n) (a .what) (a .kind) (a .start) (a .end) (c₁ .put-number .ensures) (c₂ .put-number2 .ensures) (c₃ .put-number3 .ensures) (c₄ .put-number4 .ensures),
+      row-stored (a .rows .now) (rowSize * a .n) (a .what) (a .kind) (a .start) (a .end) (c₁ .put-u32 .ensures) (c₂ .put-u322 .ensures) (c₃ .put-u323 .ensures) (c₄ .put-u324 .ensures),
     )
 
 pub store-spec : {M : Type 1} → statement M
@@ -90,12 +96,14 @@ store-spec =
     mul-at
     sub-if2
     returns-2
-    put-number-requires
-    add-put-number
-    put-number-requires-2
-    add-put-number-2
-    put-number-requires-3
-    add-put-number-3
-    put-number-requires-4
+    put-u32-requires
+    add-put-u32
+    put-u32-requires-2
+    add-put-u32-2
+    cast-put-u32
+    put-u32-requires-3
+    add-put-u32-3
+    cast-put-u32-2
+    put-u32-requires-4
     same-length
     returns-3)
