@@ -1,5 +1,5 @@
 -- `formatter::Formatter::push_nested` meets its contract. Assumes nothing.
-use Prim.Native.Nat.{_-_}
+use Prim.Native.Nat.{_+_, _-_, _≤_, _<_}
 use native.Mathlib.Omega.{arith}
 use borrow.Author.Needs.{needs}
 use borrow.Author.Tests.{not-false}
@@ -14,59 +14,111 @@ Inv-loop out₀ rows at prev b₀ out b = Among rows b₀ out₀ b out
 abbrev μ-loop : tie.MeasureT-loop
 μ-loop out₀ rows at prev b₀ out b = length rows - b .at
 
+-- ---- the way back, from each place that the answers start at to the one before it
+
+-- the function's entry, from the loop's head
+abbrev entry : tie.At-loop Inv-loop μ-loop → tie.Start Inv-loop μ-loop
+entry c = c .before .before .before .before .before .before
+
+-- the loop's head, from where a row is left
+abbrev head : tie.Then1 Inv-loop μ-loop → tie.At-loop Inv-loop μ-loop
+head c = c .before .before
+
+-- where a row is left, from where it is known that a brace fits into an open block
+abbrev row : tie.Else2 Inv-loop μ-loop → tie.Then1 Inv-loop μ-loop
+row c = c .before .before .before .before
+
+-- where a brace fits, from after a `{`, and from after a `}`
+abbrev fits-open : tie.After-slice-known2 Inv-loop μ-loop → tie.Else2 Inv-loop μ-loop
+fits-open c = c .before .before .before .before .before
+
+abbrev fits-close : tie.After-slice-known3 Inv-loop μ-loop → tie.Else2 Inv-loop μ-loop
+fits-close c = c .before .before .before .before .before .before
+
+-- ---- the facts by name
+
+row-inside : (c : tie.Then1 Inv-loop μ-loop) → head c .loop .b .at + 16 ≤ length (entry (head c) .args .rows .now)
+row-inside c = let w = head c .loop .inv .done .within in let t = c .if1 .taken in omega arith
+
+-- a block is open, and two bytes are free
+brace-fits : (c : tie.Else2 Inv-loop μ-loop) → (0 < head (row c) .loop .b .depth) × (2 ≤ length (head (row c) .loop .out) - head (row c) .loop .b .len)
+brace-fits c = c .before .is-open .ensures (not-false _ (c .if2 .left))
+
+-- ---- the answers
+
 kind-of-requires : tie.Need-kind-of-requires Inv-loop μ-loop
 kind-of-requires c κs = search needs
 
 loop-holds : tie.Need-loop-holds Inv-loop μ-loop
-loop-holds c = starts (c .before .before .before .before .before .pre .0 .0) (c .before .before .before .before .before .pre .0 .1) (c .before .before .before .before .before .pre .1 .0)
+loop-holds c = let p = c .before .before .before .before .before .pre in starts (p .0 .0) (p .0 .1) (p .1 .0)
 
 sub-if1 : tie.Need-sub-if1 Inv-loop μ-loop
 sub-if1 c = c .before .loop .inv .done .within
 
 row-at-requires : tie.Need-row-at-requires Inv-loop μ-loop
-row-at-requires c κs = let w = c .before .before .loop .inv .done .within in let t = c .if1 .taken in omega arith
+row-at-requires c κs = row-inside c
 
 sub-is-open : tie.Need-sub-is-open Inv-loop μ-loop
-sub-is-open c = c .before .before .before .before .loop .inv .done .room
+sub-is-open c = head (c .before .before) .loop .inv .done .room
 
 is-open-requires : tie.Need-is-open-requires Inv-loop μ-loop
 is-open-requires c κs = search needs
 
 same-length : tie.Need-same-length Inv-loop μ-loop
-same-length c = c .before .before .before .before .before .before .loop .inv .done .size
+same-length c = head (c .before .before .before .before) .loop .inv .done .size
 
 returns : tie.Need-returns Inv-loop μ-loop
-returns c = rw (c .before .before .before .before .before .before .before .kind-of .ensures) at (c .before .before .before .before .before .before .loop .inv .done)
+returns c = let l = head (c .before .before .before .before) in rw (l .before .kind-of .ensures) at (l .loop .inv .done)
 
 open-inline-requires : tie.Need-open-inline-requires Inv-loop μ-loop
-open-inline-requires c κs = let w = c .before .before .before .before .before .before .before .before .loop .inv .done .within in let t = c .before .before .before .before .before .before .if1 .taken in let d = c .before .before .before .before .before .before .before .before .loop .inv .done .deep in let g = c .before .before .before .before .before .before .before .before .loop .inv .far in let r = c .before .before .before .before .before .before .before .before .loop .inv .done .room in let p = c .before .before .before .is-open .ensures (not-false _ (c .before .before .if2 .left)) .1 in let q = c .before .before .before .before .before .before .before .before .before .before .before .before .before .before .pre .1 .1 in (omega arith, (omega arith, omega arith))
+open-inline-requires c κs =
+    let f = c .before .before in
+    let l = head (row f) in
+    let w = row-inside (row f) in
+    let d = l .loop .inv .done .deep in
+    let g = l .loop .inv .far in
+    let r = l .loop .inv .done .room in
+    let p = brace-fits f .1 in
+    let q = entry l .pre .1 .1 in
+    (omega arith, (omega arith, omega arith))
 
 loop-less : tie.Need-loop-less Inv-loop μ-loop
-loop-less c = let w = c .before .before .before .before .before .before .before .before .before .before .before .loop .inv .done .within in let t = c .before .before .before .before .before .before .before .before .before .if1 .taken in rw (c .before .before .open-inline .ensures .1) (omega arith)
+loop-less c = let w = row-inside (row (fits-open c)) in rw (c .before .before .open-inline .ensures .1) (omega arith)
 
 loop-again : tie.Need-loop-again Inv-loop μ-loop
-loop-again c = goes-open (c .before .before .before .before .before .before .before .before .before .before .before .loop .inv) (c .before .before .before .before .before .before .before .before .before .if1 .taken) _ (c .before .before .before .before .before .before .before .before .row-at .ensures) (c .before .before .before .before .if3 .taken) (c .before .before .before .before .before .before .is-open .ensures (not-false _ (c .before .before .before .before .before .if2 .left)) .0) (c .before .before .before .before .before .before .is-open .ensures (not-false _ (c .before .before .before .before .before .if2 .left)) .1) (c .before .before .open-inline .ensures)
+loop-again c =
+    let f = fits-open c in
+    let t = row f in
+    goes-open (head t .loop .inv) (t .if1 .taken) _ (f .before .before .before .row-at .ensures) (c .before .before .before .before .if3 .taken) (brace-fits f .0) (brace-fits f .1) (c .before .before .open-inline .ensures)
 
 close-inline-requires : tie.Need-close-inline-requires Inv-loop μ-loop
-close-inline-requires c κs = let w = c .before .before .before .before .before .before .before .before .before .loop .inv .done .within in let t = c .before .before .before .before .before .before .before .if1 .taken in let r = c .before .before .before .before .before .before .before .before .before .loop .inv .done .room in let p = c .before .before .before .before .is-open .ensures (not-false _ (c .before .before .before .if2 .left)) in let q = p .1 in (omega arith, (omega arith, p .0))
+close-inline-requires c κs =
+    let f = c .before .before .before in
+    let w = row-inside (row f) in
+    let r = head (row f) .loop .inv .done .room in
+    let q = brace-fits f .1 in
+    (omega arith, (omega arith, brace-fits f .0))
 
 loop-less-2 : tie.Need-loop-less-2 Inv-loop μ-loop
-loop-less-2 c = let w = c .before .before .before .before .before .before .before .before .before .before .before .before .loop .inv .done .within in let t = c .before .before .before .before .before .before .before .before .before .before .if1 .taken in rw (c .before .before .close-inline .ensures .1) (omega arith)
+loop-less-2 c = let w = row-inside (row (fits-close c)) in rw (c .before .before .close-inline .ensures .1) (omega arith)
 
 loop-again-2 : tie.Need-loop-again-2 Inv-loop μ-loop
-loop-again-2 c = goes-close (c .before .before .before .before .before .before .before .before .before .before .before .before .loop .inv) (c .before .before .before .before .before .before .before .before .before .before .if1 .taken) _ (c .before .before .before .before .before .before .before .before .before .row-at .ensures) (c .before .before .before .before .if4 .taken) (c .before .before .before .before .before .before .before .is-open .ensures (not-false _ (c .before .before .before .before .before .before .if2 .left)) .0) (c .before .before .before .before .before .before .before .is-open .ensures (not-false _ (c .before .before .before .before .before .before .if2 .left)) .1) (c .before .before .close-inline .ensures)
+loop-again-2 c =
+    let f = fits-close c in
+    let t = row f in
+    goes-close (head t .loop .inv) (t .if1 .taken) _ (f .before .before .before .row-at .ensures) (c .before .before .before .before .if4 .taken) (brace-fits f .0) (brace-fits f .1) (c .before .before .close-inline .ensures)
 
 same-length-2 : tie.Need-same-length-2 Inv-loop μ-loop
-same-length-2 c = c .before .before .before .before .before .before .before .before .loop .inv .done .size
+same-length-2 c = head (row (c .before .before)) .loop .inv .done .size
 
 returns-2 : tie.Need-returns-2 Inv-loop μ-loop
-returns-2 c = rw (c .before .before .before .before .before .before .before .before .before .kind-of .ensures) at (c .before .before .before .before .before .before .before .before .loop .inv .done)
+returns-2 c = let l = head (row (c .before .before)) in rw (l .before .kind-of .ensures) at (l .loop .inv .done)
 
 same-length-3 : tie.Need-same-length-3 Inv-loop μ-loop
 same-length-3 c = c .before .before .loop .inv .done .size
 
 returns-3 : tie.Need-returns-3 Inv-loop μ-loop
-returns-3 c = rw (c .before .before .before .kind-of .ensures) at (c .before .before .loop .inv .done)
+returns-3 c = let l = c .before .before in rw (l .before .kind-of .ensures) at (l .loop .inv .done)
 
 pub push-nested-spec : {M : Type 1} → statement M
 push-nested-spec =

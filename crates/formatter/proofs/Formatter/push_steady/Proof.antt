@@ -1,11 +1,13 @@
 -- `formatter::Formatter::push_steady` meets its contract. Assumes nothing.
 use mathlib.Core.Path.{_≡_, refl}
-use Prim.Native.Nat.{_-_}
+use Prim.Native.Nat.{_+_, _-_, _≤_, _<_}
 use native.Mathlib.Omega.{arith}
 use lib.ListN.{length}
 use borrow.Author.Needs.{needs}
 use Rattle.formatter.proofs.Along.{Along, starts, taken-fits, again, ends, whole-row, row-known}
-use Rattle.formatter.specs.Steady.{takesOf}
+use Rattle.rows.specs.Kinds.{Other}
+use Rattle.formatter.specs.Format.{Walks}
+use Rattle.formatter.specs.Steady.{Taken, takesOf}
 use Rattle.sink.proofs.Spaces.{bit-few}
 use Rattle.sink.specs.Space.{bit}
 use Rattle.formatter.proofs.Formatter.push_steady.Statement.{statement}
@@ -16,6 +18,47 @@ Inv-loop out₀ stack rows text from bare steady marks₀ at₀ len₀ prev₀ s
 
 abbrev μ-loop : tie.MeasureT-loop
 μ-loop out₀ stack rows text from bare steady marks₀ at₀ len₀ prev₀ spaced₀ out marks at len prev spaced = length rows - at
+
+-- ---- the way back, from each place that the answers start at to the one before it
+
+-- the function's entry, from the loop's head
+abbrev entry : tie.At-loop Inv-loop μ-loop → tie.Start Inv-loop μ-loop
+entry c = c .before .before .before .before .before .before .before .before .before .before
+
+-- the kinds that are taken, from the loop's head
+abbrev kinds : tie.At-loop Inv-loop μ-loop → tie.After-steady-kinds Inv-loop μ-loop
+kinds c = c .before .before .before .before
+
+-- the loop's head, from where the next token is taken
+abbrev head : tie.Then1 Inv-loop μ-loop → tie.At-loop Inv-loop μ-loop
+head c = c .before .before
+
+-- where the token's row is read, from its call of `put_token`, and from after it
+abbrev row-put : tie.After-put-token-arg Inv-loop μ-loop → tie.After-row-at Inv-loop μ-loop
+row-put c = c .before .before .before .before
+
+abbrev row-written : tie.After-slice-known2 Inv-loop μ-loop → tie.After-row-at Inv-loop μ-loop
+row-written c = row-put (c .before .before .before)
+
+-- ---- the facts by name
+
+checked : (c : tie.At-loop Inv-loop μ-loop) → Walks (entry c .args .rows .now) (entry c .args .text .now)
+checked c = entry c .pre .1 .0 .1
+
+taken : (c : tie.Then1 Inv-loop μ-loop) → Taken (entry (head c) .args .rows .now) (kinds (head c) .steady-kinds .result) (head c .loop .at) (length (head c .loop .out)) (head c .loop .len) (head c .loop .spaced)
+taken c = c .before .takes .ensures (c .if1 .taken)
+
+-- one space may stand before the token, or none
+few-spaces : (c : tie.At-loop Inv-loop μ-loop) → c .loop .spaced < 2
+few-spaces c = let b = bit-few (c .loop .marks .loose) (c .loop .prev) in let e = c .loop .inv .1 in omega arith
+
+row-inside : (c : tie.Then1 Inv-loop μ-loop) → head c .loop .at + 16 ≤ length (entry (head c) .args .rows .now)
+row-inside c = whole-row (checked (head c)) (head c .loop .inv .0 .head) (taken c .ahead)
+
+known-kind : (c : tie.After-row-at Inv-loop μ-loop) → c .row-at .result .kind ≤ Other
+known-kind c = let t = c .before in row-known (checked (head t)) (head t .loop .inv .0 .head) (taken t .ahead) _ (c .row-at .ensures)
+
+-- ---- the answers
 
 steady-kinds-requires : tie.Need-steady-kinds-requires Inv-loop μ-loop
 steady-kinds-requires c κs = c .before .before .before .before .before .pre .0 .0
@@ -30,13 +73,18 @@ space-behind-requires : tie.Need-space-behind-requires Inv-loop μ-loop
 space-behind-requires c κs = rw (c .kind-of .ensures) (c .before .before .before .before .before .before .before .before .pre .0 .1)
 
 loop-holds : tie.Need-loop-holds Inv-loop μ-loop
-loop-holds c = (starts _ (rw (c .before .kind-of .ensures) (c .before .before .before .before .before .before .before .before .before .pre .0 .1)) (c .before .before .before .before .before .before .before .before .before .pre .1 .0 .0) (rw (c .before .before .marks .ensures) (record { marking = refl; loose = refl })) (c .before .before .before .before .before .before .before .before .before .pre .1 .1 .0), c .space-behind .ensures)
+loop-holds c =
+    let k = c .before in
+    let p = k .before .before .before .before .before .before .before .before .pre in
+    (starts _ (rw (k .kind-of .ensures) (p .0 .1)) (p .1 .0 .0) (rw (k .before .marks .ensures) (record { marking = refl; loose = refl })) (p .1 .1 .0), c .space-behind .ensures)
 
 takes-requires : tie.Need-takes-requires Inv-loop μ-loop
-takes-requires c κs = (λ h. (whole-row (c .before .before .before .before .before .before .before .before .before .before .pre .1 .0 .1) (c .loop .inv .0 .head) h, (c .loop .inv .0 .head .whole, row-known (c .before .before .before .before .before .before .before .before .before .before .pre .1 .0 .1) (c .loop .inv .0 .head) h _ refl)), (c .before .before .before .before .before .before .before .before .before .before .pre .1 .1 .1, (c .loop .inv .0 .room, search needs, let b = bit-few (c .loop .marks .loose) (c .loop .prev) in let e = c .loop .inv .1 in omega arith)))
+takes-requires c κs =
+    let α = c .loop .inv .0 in
+    (λ h. (whole-row (checked c) (α .head) h, (α .head .whole, row-known (checked c) (α .head) h _ refl)), (entry c .pre .1 .1 .1, (α .room, search needs, few-spaces c)))
 
 row-at-requires : tie.Need-row-at-requires Inv-loop μ-loop
-row-at-requires c κs = whole-row (c .before .before .before .before .before .before .before .before .before .before .before .before .pre .1 .0 .1) (c .before .before .loop .inv .0 .head) (c .before .takes .ensures (c .if1 .taken) .ahead)
+row-at-requires c κs = row-inside c
 
 space-before-requires : tie.Need-space-before-requires Inv-loop μ-loop
 space-before-requires c κs = search needs
@@ -48,28 +96,45 @@ cast-end : tie.Need-cast-end Inv-loop μ-loop
 cast-end c = search needs
 
 put-token-requires : tie.Need-put-token-requires Inv-loop μ-loop
-put-token-requires c κs = taken-fits (c .before .before .before .before .before .before .before .before .before .before .before .before .before .before .before .before .before .pre .1 .0 .1) (c .before .before .before .before .before .before .before .loop .inv .0) (c .before .before .before .before .before .before .takes .ensures (c .before .before .before .before .before .if1 .taken) .ahead) (c .before .before .before .before .before .before .takes .ensures (c .before .before .before .before .before .if1 .taken)) (let b = bit-few (c .before .before .before .before .before .before .before .loop .marks .loose) (c .before .before .before .before .before .before .before .loop .prev) in let e = c .before .before .before .before .before .before .before .loop .inv .1 in omega arith) _ (c .before .before .before .before .row-at .ensures) (c .before .before .before .space-before .ensures)
+put-token-requires c κs =
+    let r = row-put c in
+    let t = r .before in
+    taken-fits (checked (head t)) (head t .loop .inv .0) (taken t .ahead) (taken t) (few-spaces (head t)) _ (r .row-at .ensures) (c .before .before .before .space-before .ensures)
 
 marks-behind-requires : tie.Need-marks-behind-requires Inv-loop μ-loop
-marks-behind-requires c κs = (c .before .before .before .before .before .before .before .before .before .before .loop .inv .0 .right, row-known (c .before .before .before .before .before .before .before .before .before .before .before .before .before .before .before .before .before .before .before .before .pre .1 .0 .1) (c .before .before .before .before .before .before .before .before .before .before .loop .inv .0 .head) (c .before .before .before .before .before .before .before .before .before .takes .ensures (c .before .before .before .before .before .before .before .before .if1 .taken) .ahead) _ (c .before .before .before .before .before .before .before .row-at .ensures))
+marks-behind-requires c κs = (head (row-written c .before) .loop .inv .0 .right, known-kind (row-written c))
 
 space-behind-requires-2 : tie.Need-space-behind-requires-2 Inv-loop μ-loop
-space-behind-requires-2 c κs = row-known (c .before .before .before .before .before .before .before .before .before .before .before .before .before .before .before .before .before .before .before .before .before .pre .1 .0 .1) (c .before .before .before .before .before .before .before .before .before .before .before .loop .inv .0 .head) (c .before .before .before .before .before .before .before .before .before .before .takes .ensures (c .before .before .before .before .before .before .before .before .before .if1 .taken) .ahead) _ (c .before .before .before .before .before .before .before .before .row-at .ensures)
+space-behind-requires-2 c κs = known-kind (row-written (c .before))
 
 add-at : tie.Need-add-at Inv-loop μ-loop
-add-at c = let h = whole-row (c .before .before .before .before .before .before .before .before .before .before .before .before .before .before .before .before .before .before .before .before .before .before .pre .1 .0 .1) (c .before .before .before .before .before .before .before .before .before .before .before .before .loop .inv .0 .head) (c .before .before .before .before .before .before .before .before .before .before .before .takes .ensures (c .before .before .before .before .before .before .before .before .before .before .if1 .taken) .ahead) in let l = (c .before .before .before .before .before .before .before .before .before .before .before .before .before .before .before .before .before .before .before .before .before .before .pre .1 .0 .1) .few in omega arith
+add-at c =
+    let t = row-written (c .before .before) .before in
+    let h = row-inside t in
+    let l = checked (head t) .few in
+    omega arith
 
 loop-less : tie.Need-loop-less Inv-loop μ-loop
-loop-less c = let h = whole-row (c .before .before .before .before .before .before .before .before .before .before .before .before .before .before .before .before .before .before .before .before .before .before .pre .1 .0 .1) (c .before .before .before .before .before .before .before .before .before .before .before .before .loop .inv .0 .head) (c .before .before .before .before .before .before .before .before .before .before .before .takes .ensures (c .before .before .before .before .before .before .before .before .before .before .if1 .taken) .ahead) in omega arith
+loop-less c = let h = row-inside (row-written (c .before .before) .before) in omega arith
 
 loop-again : tie.Need-loop-again Inv-loop μ-loop
-loop-again c = (again (c .before .before .before .before .before .before .before .before .before .before .before .before .before .before .before .before .before .before .before .before .before .before .pre .1 .0 .1) (c .before .before .before .before .before .before .before .before .before .before .before .before .loop .inv .0) (c .before .before .before .before .before .before .before .before .before .before .before .takes .ensures (c .before .before .before .before .before .before .before .before .before .before .if1 .taken) .ahead) (c .before .before .before .before .before .before .before .before .before .before .before .takes .ensures (c .before .before .before .before .before .before .before .before .before .before .if1 .taken)) (c .before .before .before .before .before .before .before .before .before .before .before .before .loop .inv .1) _ (takesOf (c .before .before .before .before .before .before .before .before .before .before .before .before .before .before .before .before .before .before .before .before .before .before .args .self) (c .before .before .before .before .before .before .before .before .before .before .before .before .before .before .before .before .before .before .before .before .before .before .args .stack .now)) (c .before .before .before .before .before .before .before .before .before .before .before .before .before .before .before .before .steady-kinds .ensures) (c .before .before .before .before .before .before .before .before .before .row-at .ensures) (c .before .before .before .before .before .before .before .before .space-before .ensures) (c .before .before .before .before .put-token .ensures) (c .before .marks-behind .ensures), c .space-behind2 .ensures)
+loop-again c =
+    let w = c .before .before in
+    let r = row-written w in
+    let t = r .before in
+    let l = head t in
+    let e = entry l .args in
+    (again (checked l) (l .loop .inv .0) (taken t .ahead) (taken t) (l .loop .inv .1) _ (takesOf (e .self) (e .stack .now)) (kinds l .steady-kinds .ensures)
+    (r .row-at .ensures) (w .before .before .before .before .before .before .space-before .ensures) (w .before .before .put-token .ensures) (c .before .marks-behind .ensures), c .space-behind2 .ensures)
 
 same-length : tie.Need-same-length Inv-loop μ-loop
 same-length c = c .before .before .loop .inv .0 .size
 
 returns : tie.Need-returns Inv-loop μ-loop
-returns c = ends (takesOf (c .before .before .before .before .before .before .before .before .before .before .before .before .args .self) (c .before .before .before .before .before .before .before .before .before .before .before .before .args .stack .now)) (c .before .before .before .before .kind-of .ensures) (c .before .before .before .before .before .marks .ensures) (c .before .before .before .before .before .before .steady-kinds .ensures) (c .before .before .loop .inv .0)
+returns c =
+    let l = c .before .before in
+    let e = entry l .args in
+    ends (takesOf (e .self) (e .stack .now)) (l .before .before .kind-of .ensures) (l .before .before .before .marks .ensures) (kinds l .steady-kinds .ensures) (l .loop .inv .0)
 
 pub push-steady-spec : {M : Type 1} → statement M
 push-steady-spec =
