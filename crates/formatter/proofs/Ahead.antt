@@ -1,4 +1,4 @@
--- What the loop goes on with: behind a token that was taken along, and behind tokens that a second form lays out. Assumes nothing.
+-- What the loop goes on with: after a token that was taken along, after fast tokens, and after fast braces. Assumes nothing.
 use mathlib.Core.Bool.{true, false}
 use mathlib.Core.List.{List, [], _∷_}
 use mathlib.Core.Option.{some}
@@ -25,28 +25,28 @@ use Rattle.sink.proofs.Sink.{nothing, later}
 use Rattle.formatter.specs.declared.Formatter.{Formatter}
 use Rattle.formatter.specs.declared.Prev.{Prev}
 use Rattle.formatter.specs.declared.Prev.the-variants.{Nothing, Kind}
-use Rattle.formatter.specs.declared.steady.Steady as code
-use Rattle.formatter.specs.Pen.{Aside, Pen, on, stateOf, asideOf, prevOf, formatterOf}
+use Rattle.formatter.specs.declared.fast_tokens.FastTokens as code
+use Rattle.formatter.specs.CodeState.{Locals, CodeState, codeState, stateOf, localsOf, prevOf, formatterOf}
 use Rattle.formatter.specs.Does.{Does}
 use Rattle.formatter.specs.Token.{kindOf}
-use Rattle.formatter.specs.Format.{Walks, Head, onlyTokens, ownRow, nextRow}
-use Rattle.formatter.specs.Steady.{Steady, Stretched, Changed, atMarks, behind, marksOf, takesOf}
-use Rattle.formatter.specs.declared.nested.Braces.{Braces}
-use Rattle.formatter.specs.Nested.{Inline, Braced, atBraces, behindBraces, placeOf}
+use Rattle.formatter.specs.Format.{CheckedRows, TokenBoundary, onlyTokens, ownRow, nextRow}
+use Rattle.formatter.specs.FastTokens.{BeforeFastTokens, FastTokensLaidOut, ChangedBy, withFastState, afterFastTokens, fastStateOf, fastKindsOf}
+use Rattle.formatter.specs.declared.fast_braces.FastBraces.{FastBraces}
+use Rattle.formatter.specs.FastBraces.{BeforeFastBraces, FastBracesLaidOut, withFastBraces, afterFastBraces, fastBracesAt}
 use Rattle.formatter.proofs.Does.{yes, no, updated}
 use Rattle.formatter.proofs.Turned.{taken}
-use Rattle.formatter.proofs.Runs.{checked-behind}
+use Rattle.formatter.proofs.Runs.{checked-after}
 use Rattle.formatter.proofs.Place.{bare-run, tokenHere, tokensNext, tokens-next, row-in}
 use Rattle.formatter.proofs.Going.{Going, goes-on, tokens-none}
 use Rattle.formatter.proofs.Turn.{chosen-not}
 
 -- ---- the token's kind
 
-module _ {rows text : List ℕ} {at : ℕ} (ω : Walks rows text) (η : Head rows text at) (h : at < length rows) where
+module _ {rows text : List ℕ} {at : ℕ} (ω : CheckedRows rows text) (η : TokenBoundary rows text at) (h : at < length rows) where
   pub kind-known : tokenHere rows text at .kind ≤ Other
   kind-known = row-in ω η h .kind
 
-  -- a token that is said to come next is there
+  -- A token that is said to come next is there.
   pub next-there : (k : ℕ) → nextIs k (tokensNext rows text at) ≡ true → nextRow rows (ownRow rows at) < length rows
   next-there k e =
       split (leb (length rows) (nextRow rows (ownRow rows at)))
@@ -55,9 +55,9 @@ module _ {rows text : List ℕ} {at : ℕ} (ω : Walks rows text) (η : Head row
 
 -- ---- the token that was taken along
 
-module _ {rows text : List ℕ} {o : Options.Options} {k₀ l₀ : List ℕ} {x : Aside} {p : Pen} {i at : ℕ} (ω : Walks rows text) (γ : Going rows text o k₀ l₀ i at x p) (h : at < length rows) (k : x .skipNext ≡ true) where
-  abbrev without : Aside
-  without = asideOf (definition.setSkipNext false (stateOf x p .formatter))
+module _ {rows text : List ℕ} {o : Options.Options} {k₀ l₀ : List ℕ} {x : Locals} {p : CodeState} {i at : ℕ} (ω : CheckedRows rows text) (γ : Going rows text o k₀ l₀ i at x p) (h : at < length rows) (k : x .skipNext ≡ true) where
+  abbrev without : Locals
+  without = localsOf (definition.setSkipNext false (stateOf x p .formatter))
 
   skipped : run (turn o i (tokenHere rows text at) (tokensNext rows text at)) (stateOf x p) ≡ run (update (definition.setSkipNext false)) (stateOf x p)
   skipped =
@@ -68,11 +68,11 @@ module _ {rows text : List ℕ} {o : Options.Options} {k₀ l₀ : List ℕ} {x 
   unfolding run
   skips =
       let d : Does (turn o i (tokenHere rows text at) (tokensNext rows text at)) x p p = no (λ n. rw (γ .shallow)) (yes (λ n. k) (updated refl refl nothing)) in
-      let e = ap (λ (s : State). asideOf (s .formatter)) skipped in
+      let e = ap (λ (s : State). localsOf (s .formatter)) skipped in
       subst (λ z. Going rows text o k₀ l₀ (i + 1) (nextRow rows (ownRow rows at)) z p) e
-      (goes-on ω γ h d (γ .room) (ap (λ (z : Aside). z .tooDeep) e ∙ γ .shallow) (kind-known ω (γ .head) h) refl)
+      (goes-on ω γ h d (γ .room) (ap (λ (z : Locals). z .tooDeep) e ∙ γ .shallow) (kind-known ω (γ .head) h) refl)
 
--- ---- behind tokens that a second form lays out
+-- ---- after fast tokens and fast braces
 
 known-prev : (p : Prev) → isSome (prevOf p) ≡ true → prevOf p ≡ some (kindOf p)
 known-prev Nothing e = impossible′ e
@@ -91,31 +91,31 @@ module _ (rows : List ℕ) (at : ℕ) (whole : at ≡ 16 * (at / 16)) where
   pub only-at : onlyTokens (rowsOf rows) ≡ true → onlyTokens (rowsOf (drop at rows)) ≡ true
   only-at e = rw rows-at (only-drop (at / 16) (rowsOf rows) e)
 
-  head-at : (text : List ℕ) → Walks rows text → onlyTokens (rowsOf rows) ≡ true → at ≤ length rows → Head rows text at
+  head-at : (text : List ℕ) → CheckedRows rows text → onlyTokens (rowsOf rows) ≡ true → at ≤ length rows → TokenBoundary rows text at
   head-at text ω e h =
       record {
         within = h;
         whole = whole;
-        checked = rw rows-at (checked-behind (length text) _ 0 (rowsOf rows) (ω .good) (at / 16) (let l = rows-length rows in omega arith));
+        checked = rw rows-at (checked-after (length text) _ 0 (rowsOf rows) (ω .good) (at / 16) (let l = rows-length rows in omega arith));
         bare = bare-run rows at Trailing refl whole e;
       }
 
-module _ {rows text : List ℕ} {o : Options.Options} {k₀ l₀ : List ℕ} {x : Aside} {f : Formatter} {k l : List ℕ} {i at : ℕ} (ω : Walks rows text) (γ : Going rows text o k₀ l₀ i at x (on f k l)) where
-  -- in a line there is a token before
+module _ {rows text : List ℕ} {o : Options.Options} {k₀ l₀ : List ℕ} {x : Locals} {f : Formatter} {k l : List ℕ} {i at : ℕ} (ω : CheckedRows rows text) (γ : Going rows text o k₀ l₀ i at x (codeState f k l)) where
+  -- In a line there is a token before.
   pub last-known : f .«at_line_start» ≡ false → prevOf (f .prev .kind) ≡ some (kindOf (f .prev .kind))
   last-known e = known-prev (f .prev .kind) (γ .told .mid-line e)
 
-  -- what was laid out ahead, up to the row at `to`, with z aside
-  record Past (to : ℕ) (z : Aside) (g : Formatter) (m : List ℕ) : Type 0 where
+  -- What was laid out ahead, up to the row at `to`, with the locals z.
+  record Past (to : ℕ) (z : Locals) (g : Formatter) (m : List ℕ) : Type 0 where
     whole : to ≡ at + 16 * ((to - at) / 16)
-    head : Head rows text to
+    head : TokenBoundary rows text to
     size : length m ≡ length l
     far : f .len ≤ g .len
     room : g .len ≤ length m
     rest : drop (g .len) m ≡ drop (g .len) l
     lays :
-        layFrom o (length l) (finished (stateOf x (on f k l))) i (tokensOf (drop at rows) text)
-        ≡ layFrom o (length l) (finished (stateOf z (on g k m))) (i + (to - at) / 16) (tokensOf (drop to rows) text)
+        layFrom o (length l) (finished (stateOf x (codeState f k l))) i (tokensOf (drop at rows) text)
+        ≡ layFrom o (length l) (finished (stateOf z (codeState g k m))) (i + (to - at) / 16) (tokensOf (drop to rows) text)
     shallow : z .tooDeep ≡ x .tooDeep
     told : Told (formatterOf g k z)
     indent : g .indent ≡ f .indent
@@ -126,7 +126,7 @@ module _ {rows text : List ℕ} {o : Options.Options} {k₀ l₀ : List ℕ} {x 
     commas : g .commas ≡ f .commas
     count : g .«break_count» ≡ f .«break_count»
 
-  goes-past : {to : ℕ} {z : Aside} {g : Formatter} {m : List ℕ} → Past to z g m → Going rows text o k₀ l₀ (i + (to - at) / 16) to z (on g k m)
+  goes-past : {to : ℕ} {z : Locals} {g : Formatter} {m : List ℕ} → Past to z g m → Going rows text o k₀ l₀ (i + (to - at) / 16) to z (codeState g k m)
   goes-past {to} {z} {g} {m} π =
       let w = π .whole in
       let v = γ .head .whole in
@@ -154,15 +154,15 @@ module _ {rows text : List ℕ} {o : Options.Options} {k₀ l₀ : List ℕ} {x 
         entries = let a = γ .entries in let e = π .count in omega arith;
       }
 
-  -- behind tokens that only write their lexeme
+  -- ---- fast tokens
 
-  module _ {m : List ℕ} {r : code.Steady} (ρ : Steady (formatterOf f k x) (kindOf (f .prev .kind)) (marksOf f) (takesOf f k)) (σ : Stretched rows text at (f .len) (kindOf (f .prev .kind)) (marksOf f) (takesOf f k) l m r) where
-    abbrev gone : Aside
-    gone = asideOf (behind (ltb at (r .at)) (r .prev) (r .marks) (formatterOf f k x))
+  module _ {m : List ℕ} {r : code.FastTokens} (ρ : BeforeFastTokens (formatterOf f k x) (kindOf (f .prev .kind)) (fastStateOf f) (fastKindsOf f k)) (σ : FastTokensLaidOut rows text at (f .len) (kindOf (f .prev .kind)) (fastStateOf f) (fastKindsOf f k) l m r) where
+    abbrev gone : Locals
+    gone = localsOf (afterFastTokens (ltb at (r .at)) (r .prev) (r .state) (formatterOf f k x))
 
-    pub stretches : {g : Formatter} → Changed (atMarks (r .prev) (r .marks)) (r .len) f g → Going rows text o k₀ l₀ (i + (r .at - at) / 16) (r .at) gone (on g k m)
-    stretches {g} β =
-        let form : formatterOf g k gone ≡ behind (ltb at (r .at)) (r .prev) (r .marks) (formatterOf f k x) = β .form k gone in
+    pub goes-past-fast-tokens : {g : Formatter} → ChangedBy (withFastState (r .prev) (r .state)) (r .len) f g → Going rows text o k₀ l₀ (i + (r .at - at) / 16) (r .at) gone (codeState g k m)
+    goes-past-fast-tokens {g} β =
+        let form : formatterOf g k gone ≡ afterFastTokens (ltb at (r .at)) (r .prev) (r .state) (formatterOf f k x) = β .form k gone in
         goes-past (record {
           whole = σ .whole;
           head = σ .head;
@@ -174,7 +174,7 @@ module _ {rows text : List ℕ} {o : Options.Options} {k₀ l₀ : List ℕ} {x 
           shallow = refl;
           told = rw form (record { last = σ .last; mid-line = λ e. refl });
           indent = ap (λ z. z .indent) form;
-          group = let e : g .«group_depth» .0 ≡ r .marks .«group_depth» = ap (λ z. z .groupDepth) form in let h = σ .group in omega arith;
+          group = let e : g .«group_depth» .0 ≡ r .state .«group_depth» = ap (λ z. z .groupDepth) form in let h = σ .group in omega arith;
           inline = let e : g .«inline_depth» .0 ≡ f .«inline_depth» .0 = ap (λ z. z .inlineDepth) form in omega arith;
           records = ap (λ z. z .recordDepth) form;
           signature = β .signature;
@@ -182,15 +182,15 @@ module _ {rows text : List ℕ} {o : Options.Options} {k₀ l₀ : List ℕ} {x 
           count = β .count;
         })
 
-  -- behind braces of a one-line block
+  -- ---- fast braces
 
-  module _ (only : onlyTokens (rowsOf rows) ≡ true) {m : List ℕ} {r : Braces} (ρ : Inline (formatterOf f k x) (placeOf f at)) (σ : Braced rows (placeOf f at) l m r) (last : kindOf (f .prev .kind) ≤ Other) where
-    abbrev nested : Aside
-    nested = asideOf (behindBraces (ltb at (r .at)) (σ .close) r (formatterOf f k x))
+  module _ (only : onlyTokens (rowsOf rows) ≡ true) {m : List ℕ} {r : FastBraces} (ρ : BeforeFastBraces (formatterOf f k x) (fastBracesAt f at)) (σ : FastBracesLaidOut rows (fastBracesAt f at) l m r) (last : kindOf (f .prev .kind) ≤ Other) where
+    abbrev pastBraces : Locals
+    pastBraces = localsOf (afterFastBraces (ltb at (r .at)) (σ .close) r (formatterOf f k x))
 
-    pub nests : {g : Formatter} → Changed (atBraces r) (r .len) f g → Going rows text o k₀ l₀ (i + (r .at - at) / 16) (r .at) nested (on g k m)
-    nests {g} β =
-        let form : formatterOf g k nested ≡ behindBraces (ltb at (r .at)) (σ .close) r (formatterOf f k x) = β .form k nested in
+    pub goes-past-fast-braces : {g : Formatter} → ChangedBy (withFastBraces r) (r .len) f g → Going rows text o k₀ l₀ (i + (r .at - at) / 16) (r .at) pastBraces (codeState g k m)
+    goes-past-fast-braces {g} β =
+        let form : formatterOf g k pastBraces ≡ afterFastBraces (ltb at (r .at)) (σ .close) r (formatterOf f k x) = β .form k pastBraces in
         let w = σ .whole in
         let v = γ .head .whole in
         goes-past (record {

@@ -1,4 +1,5 @@
--- The arm of `{` by the tests that the code makes: an empty record, a block over several lines by its style, a one-line block. Assumes nothing.
+-- The arm of `{` by the tests that the code makes: an empty record, a block over several lines by its style, a one-line block.
+-- Assumes nothing.
 use mathlib.Core.Bool.{true, false, _&&_}
 use mathlib.Core.List.{List, [], _∷_, _++_, append-nil, append-assoc}
 use mathlib.Core.Path.{_≡_, sym}
@@ -16,14 +17,14 @@ use Rattle.definition.specs.Emit.{endedBy, openBlockMultiline, openAllman, open
 use Rattle.definition.specs.Arms.{inOneLineBlock, nextIs, emptyRecord, openBlock, leftBraceArm, openInnerInline, openInline}
 use Rattle.definition.proofs.Said.{said}
 use Rattle.sink.specs.Sink.{Writes}
-use Rattle.formatter.specs.Pen.{Aside, Pen, stateOf, formatterOf}
+use Rattle.formatter.specs.CodeState.{Locals, CodeState, stateOf, formatterOf}
 use Rattle.formatter.specs.Parts.{opensBlock, recordEntered, openOneLine, oneLineBytes, braced}
 use Rattle.formatter.specs.Does.{Does}
 use Rattle.formatter.proofs.Does.{same-run, does, yes, no}
 
 -- ---- a block over several lines, by its style
 
-module _ (o : Options) (i : ℕ) {x : Aside} {p q : Pen} where
+module _ (o : Options) (i : ℕ) {x : Locals} {p q : CodeState} where
   pub block-same-line : o .braceStyle ≡ SameLine → Does (braced openSameLine) x p q → Does (openBlock o i) x p q
   unfolding run openBlockMultiline
   block-same-line e d = same-run {a = braced openSameLine} (rw e) d
@@ -34,7 +35,7 @@ module _ (o : Options) (i : ℕ) {x : Aside} {p q : Pen} where
 
 -- ---- a one-line block: the indent or a space and the brace, in one write
 
-pub one-line : (o : Options) {x : Aside} {p q : Pen} → endedBy LeftBrace (setInlineDepth (p .form .«inline_depth» .0 + 1) (formatterOf (p .form) (p .stack) x)) ≡ formatterOf (q .form) (q .stack) x → p .form .commas ≡ q .form .commas → Writes (p .buf) (p .form .len) (oneLineBytes o (formatterOf (p .form) (p .stack) x)) (q .buf) (q .form .len) → Does (openOneLine o) x p q
+pub one-line : (o : Options) {x : Locals} {p q : CodeState} → endedBy LeftBrace (setInlineDepth (p .form .«inline_depth» .0 + 1) (formatterOf (p .form) (p .stack) x)) ≡ formatterOf (q .form) (q .stack) x → p .form .commas ≡ q .form .commas → Writes (p .buf) (p .form .len) (oneLineBytes o (formatterOf (p .form) (p .stack) x)) (q .buf) (q .form .len) → Does (openOneLine o) x p q
 unfolding run said
 one-line o {x} {p} {q} c k w =
     split (inOneLineBlock (formatterOf (p .form) (p .stack) x))
@@ -75,6 +76,6 @@ module _ (t : Token) (ts : List Token) (empty inner inline block : Act) where
       (λ f. split (inOneLineBlock (s .formatter)) (λ g. rw (e, f, g))
       (λ g. split (blockIsSingleLine (t ∷ ts)) (λ h. rw (e, f, g, h)) (λ h. rw (e, f, g, h)))))
 
-pub brace : (o : Options) (i : ℕ) (t : Token) (ts : List Token) {x : Aside} {p q : Pen} → Does (byTests t ts (emptyRecord o t) (openInnerInline o) (openInline o) (openBlock o i)) x p q → Does (leftBraceArm o i t ts) x p q
+pub brace : (o : Options) (i : ℕ) (t : Token) (ts : List Token) {x : Locals} {p q : CodeState} → Does (byTests t ts (emptyRecord o t) (openInnerInline o) (openInline o) (openBlock o i)) x p q → Does (leftBraceArm o i t ts) x p q
 unfolding leftBraceArm
 brace o i t ts {x} {p} d = same-run {a = byTests t ts (emptyRecord o t) (openInnerInline o) (openInline o) (openBlock o i)} (run-brace t ts (emptyRecord o t) (openInnerInline o) (openInline o) (openBlock o i) (stateOf x p)) d

@@ -9,11 +9,11 @@ use Rattle.rows.specs.Token.{Token}
 use Rattle.definition.specs.Act.{nothing}
 use Rattle.definition.specs.Arms.{newlineArm, rightBraceArm, leftBraceArm, leftParenArm, leftBracketArm, rightParenArm, rightBracketArm, commaArm, elseArm, otherArm}
 use Rattle.definition.specs.PushToken.{arm}
-use Rattle.formatter.specs.Pen.{Aside, Pen}
+use Rattle.formatter.specs.CodeState.{Locals, CodeState}
 use Rattle.formatter.specs.Does.{Does}
 use Rattle.formatter.proofs.Does.{yes, no}
 
-module _ (o : Options) (i : ℕ) (t : Token) (ts : List Token) {x : Aside} {p q : Pen} where
+module _ (o : Options) (i : ℕ) (t : Token) (ts : List Token) {x : Locals} {p q : CodeState} where
   pub at-eof : t .kind ≡ Eof → Does nothing x p q → Does (arm o i t ts) x p q
   at-eof e d = yes (λ n. rw e) d
 

@@ -21,9 +21,9 @@ use Rattle.sink.specs.Sink.{Writes}
 use Rattle.sink.specs.Comment.{commentHead, leadTail, trailHead, trailTail}
 use Rattle.sink.proofs.Sink.{andThen, nothing}
 use Rattle.formatter.specs.declared.Formatter.{Formatter}
-use Rattle.formatter.specs.Pen.{Aside, Pen, on, formatterOf}
+use Rattle.formatter.specs.CodeState.{Locals, CodeState, codeState, formatterOf}
 use Rattle.formatter.specs.Does.{Does, Done, Puts}
-use Rattle.formatter.specs.Trivia.{Part, triviaIn, leadToken, trailBytes}
+use Rattle.formatter.specs.Trivia.{WholeRows, triviaIn, leadToken, trailBytes}
 use Rattle.formatter.proofs.Does.{does, seq, stays, updated}
 
 -- ---- a row, by its kind
@@ -41,7 +41,7 @@ trail-bytes text r h = go (r .kind) refl
     go (suc (suc zero)) e = rw e
     go (suc (suc (suc k))) e = absurd (omega arith)
 
-module _ (o : Options) {x : Aside} {p q : Pen} (text : List ℕ) (r : Row) (h : r .kind < 3) (c : formatterOf (p .form) (p .stack) x ≡ formatterOf (q .form) (q .stack) x) (n : p .form .commas ≡ q .form .commas) where
+module _ (o : Options) {x : Locals} {p q : CodeState} (text : List ℕ) (r : Row) (h : r .kind < 3) (c : formatterOf (p .form) (p .stack) x ≡ formatterOf (q .form) (q .stack) x) (n : p .form .commas ≡ q .form .commas) where
   pub lead-comment : Writes (p .buf) (p .form .len) (indentOrSpace o (formatterOf (p .form) (p .stack) x) ++ (commentHead (r .kind) ++ (space ++ bytesOf text r ++ leadTail (r .kind)))) (q .buf) (q .form .len) → Does (leadAct o (triviaOf text r)) x p q
   unfolding run said
   lead-comment w = go (r .kind) refl
@@ -54,12 +54,12 @@ module _ (o : Options) {x : Aside} {p q : Pen} (text : List ℕ) (r : Row) (h : 
 
 -- ---- the first of some rows
 
--- of no rows
+-- No rows have no trivia.
 pub no-trivia : (rows text : List ℕ) {at to : ℕ} → to ≤ at → triviaIn rows text at to ≡ []
 unfolding firstRows
 no-trivia rows text {at} {to} h = let e : (to - at) / 16 ≡ 0 = omega arith in rw e
 
-module _ {rows text : List ℕ} {at to : ℕ} (π : Part rows text at to) (h : at < to) where
+module _ {rows text : List ℕ} {at to : ℕ} (π : WholeRows rows text at to) (h : at < to) where
   pub row-within : at + 16 ≤ length rows
   row-within = let e = π .whole in let g = π .within in omega arith
 
@@ -79,8 +79,8 @@ module _ {rows text : List ℕ} {at to : ℕ} (π : Part rows text at to) (h : a
   pub row-inside : {r : Row} → r ≡ rowAt rows at → Inside text r
   row-inside e = rw e (bounds-first .0)
 
-  part-behind : Part rows text (at + 16) to
-  part-behind =
+  part-after : WholeRows rows text (at + 16) to
+  part-after =
       let w = π .whole in
       record { ordered = omega arith; within = π .within; whole = omega arith; bounds = bounds-first .1 }
 
@@ -89,35 +89,35 @@ module _ {rows text : List ℕ} {at to : ℕ} (π : Part rows text at to) (h : a
 
 -- ---- leading rows
 
--- from the state f and the output `out`, the rows from `at` on do what is left of the whole
+-- From the state f and the output `out`, the rows from `at` on do what is left of the whole.
 pub record LeadsLeft (o : Options) (rows text : List ℕ) (from to : ℕ) (f₀ : Formatter) (out₀ : List ℕ) (at : ℕ) (f : Formatter) (out : List ℕ) : Type 0 where
-  pub part : Part rows text at to
+  pub part : WholeRows rows text at to
   pub size : length out ≡ length out₀
   pub indent : f .indent ≤ 4294967295
-  pub rest : (s : List ℕ) (q : Pen) → Done (leadingTrivia o (triviaIn rows text at to)) (on f s out) q → Done (leadingTrivia o (triviaIn rows text from to)) (on f₀ s out₀) q
+  pub rest : (s : List ℕ) (q : CodeState) → Done (leadingTrivia o (triviaIn rows text at to)) (codeState f s out) q → Done (leadingTrivia o (triviaIn rows text from to)) (codeState f₀ s out₀) q
 
-pub leads-whole : {o : Options} {rows text : List ℕ} {from to : ℕ} {f : Formatter} {out : List ℕ} → Part rows text from to → f .indent ≤ 4294967295 → LeadsLeft o rows text from to f out from f out
+pub leads-whole : {o : Options} {rows text : List ℕ} {from to : ℕ} {f : Formatter} {out : List ℕ} → WholeRows rows text from to → f .indent ≤ 4294967295 → LeadsLeft o rows text from to f out from f out
 leads-whole π h = record { part = π; size = refl; indent = h; rest = λ s q d. d }
 
 module _ {o : Options} {rows text : List ℕ} {from to : ℕ} {f₀ : Formatter} {out₀ : List ℕ} {at : ℕ} {f : Formatter} {out : List ℕ} (left : LeadsLeft o rows text from to f₀ out₀ at f out) where
-  pub leads-behind : at < to → {r : Row} → r ≡ rowAt rows at → {g : Formatter} {buf : List ℕ} → length buf ≡ length out → g .indent ≡ f .indent → Puts (leadAct o (triviaOf text r)) f out g buf → LeadsLeft o rows text from to f₀ out₀ (at + 16) g buf
+  pub leads-after : at < to → {r : Row} → r ≡ rowAt rows at → {g : Formatter} {buf : List ℕ} → length buf ≡ length out → g .indent ≡ f .indent → Puts (leadAct o (triviaOf text r)) f out g buf → LeadsLeft o rows text from to f₀ out₀ (at + 16) g buf
   unfolding leadingTrivia
-  leads-behind h e z i d =
+  leads-after h e z i d =
       record {
-        part = part-behind (left .part) h;
+        part = part-after (left .part) h;
         size = z ∙ left .size;
         indent = rw i (left .indent);
         rest = λ s q y. left .rest s q (λ x. rw (first-trivia (left .part) h e) (seq (d s x) (y _)));
       }
 
-  -- at the end
+  -- At the end nothing is left.
   module _ (h : to ≤ at) where
-    leads-none : (s : List ℕ) → Done (leadingTrivia o (triviaIn rows text from to)) (on f₀ s out₀) (on f s out)
+    leads-none : (s : List ℕ) → Done (leadingTrivia o (triviaIn rows text from to)) (codeState f₀ s out₀) (codeState f s out)
     unfolding leadingTrivia
-    leads-none s = left .rest s (on f s out) (λ x. rw (no-trivia rows text h) stays)
+    leads-none s = left .rest s (codeState f s out) (λ x. rw (no-trivia rows text h) stays)
 
-    pub lead-behind : Part rows text from to → from < to → Puts (leadToken o (triviaIn rows text from to)) f₀ out₀ f out
-    lead-behind π i s x = seq (leads-none s x) (rw (first-trivia π i refl) (updated refl refl nothing))
+    pub lead-after : WholeRows rows text from to → from < to → Puts (leadToken o (triviaIn rows text from to)) f₀ out₀ f out
+    lead-after π i s x = seq (leads-none s x) (rw (first-trivia π i refl) (updated refl refl nothing))
 
 -- ---- trailing rows
 
@@ -125,7 +125,7 @@ unfoldable pub trailsBytes : List Trivia → List ℕ
 trailsBytes [] = []
 trailsBytes (t ∷ ts) = trailBytes t ++ trailsBytes ts
 
--- trailing trivia writes its bytes, and changes no field
+-- Trailing trivia write their bytes, and change no field.
 trailing-said : (ts : List Trivia) (s : State) → said (trailingTrivia ts) s ≡ trailsBytes ts
 unfolding said run trailingTrivia trailsBytes
 trailing-said [] s = refl
@@ -146,25 +146,25 @@ trailing-same (docComment c ∷ ts) s = let h = trailing-same ts _ in record { f
 trailing-same (blockComment c ∷ ts) s = let h = trailing-same ts _ in record { formatter = h .formatter; commas = h .commas }
 trailing-same (blankLine ∷ ts) s = let h = trailing-same ts _ in record { formatter = h .formatter; commas = h .commas }
 
-pub trailing-does : (ts : List Trivia) {x : Aside} {p q : Pen} → formatterOf (p .form) (p .stack) x ≡ formatterOf (q .form) (q .stack) x → p .form .commas ≡ q .form .commas → Writes (p .buf) (p .form .len) (trailsBytes ts) (q .buf) (q .form .len) → Does (trailingTrivia ts) x p q
+pub trailing-does : (ts : List Trivia) {x : Locals} {p q : CodeState} → formatterOf (p .form) (p .stack) x ≡ formatterOf (q .form) (q .stack) x → p .form .commas ≡ q .form .commas → Writes (p .buf) (p .form .len) (trailsBytes ts) (q .buf) (q .form .len) → Does (trailingTrivia ts) x p q
 trailing-does ts c n w =
     let h = trailing-same ts _ in
     does (rw (h .formatter) c) (h .commas ∙ n) (rw (trailing-said ts) w)
 
--- the rows from `at` on write what is left of the whole
+-- The rows from `at` on write what is left of the whole.
 pub record TrailsLeft (rows text : List ℕ) (from to : ℕ) (out₀ : List ℕ) (len₀ : ℕ) (at : ℕ) (out : List ℕ) (len : ℕ) : Type 0 where
-  pub part : Part rows text at to
+  pub part : WholeRows rows text at to
   pub rest : (buf : List ℕ) (r : ℕ) → Writes out len (trailsBytes (triviaIn rows text at to)) buf r → Writes out₀ len₀ (trailsBytes (triviaIn rows text from to)) buf r
 
-pub trails-whole : {rows text : List ℕ} {from to : ℕ} {out : List ℕ} {len : ℕ} → Part rows text from to → TrailsLeft rows text from to out len from out len
+pub trails-whole : {rows text : List ℕ} {from to : ℕ} {out : List ℕ} {len : ℕ} → WholeRows rows text from to → TrailsLeft rows text from to out len from out len
 trails-whole π = record { part = π; rest = λ buf r w. w }
 
 module _ {rows text : List ℕ} {from to : ℕ} {out₀ : List ℕ} {len₀ : ℕ} {at : ℕ} {out : List ℕ} {len : ℕ} (left : TrailsLeft rows text from to out₀ len₀ at out len) where
-  pub trails-behind : at < to → {r : Row} → r ≡ rowAt rows at → {buf : List ℕ} {n : ℕ} → Writes out len (trailBytes (triviaOf text r)) buf n → TrailsLeft rows text from to out₀ len₀ (at + 16) buf n
+  pub trails-after : at < to → {r : Row} → r ≡ rowAt rows at → {buf : List ℕ} {n : ℕ} → Writes out len (trailBytes (triviaOf text r)) buf n → TrailsLeft rows text from to out₀ len₀ (at + 16) buf n
   unfolding trailsBytes
-  trails-behind h e w =
+  trails-after h e w =
       record {
-        part = part-behind (left .part) h;
+        part = part-after (left .part) h;
         rest = λ k m y. left .rest k m (rw (first-trivia (left .part) h e) (andThen w y));
       }
 

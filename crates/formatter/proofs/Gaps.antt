@@ -29,17 +29,17 @@ or-space true indent = refl
 or-space false indent = refl
 
 module _ (o : Options) (f : Formatter) where
-  -- before a token of the kind k
+  -- Before a token of the kind k.
   pub token-gap : (k : ℕ) → tokenGap o k f ≡ replicate (gapSize o k f) 32
   token-gap k = sized (f .atLineStart) (spaceAfter (f .prev) (f .prevMinusIsUnary) k) (o .indentWidth * f .indent)
 
-  -- before the `}` of a one-line block
+  -- Before the `}` of a one-line block.
   pub inline-close-gap : inlineCloseGap o f ≡ replicate (inlineCloseSize o f) 32
   inline-close-gap = tight (f .atLineStart) (prevIs LeftBrace f) (o .indentWidth * f .indent)
 
   pub indent-or-space : indentOrSpace o f ≡ replicate (indentOrSpaceSize o f) 32
   indent-or-space = or-space (f .atLineStart) (o .indentWidth * f .indent)
 
--- a gap of the code's size, and bytes behind it
+-- A gap of the code's size, and bytes after it.
 pub gapped : {g : List ℕ} (size n : ℕ) (w : List ℕ) {l m : List ℕ} {i r : ℕ} → g ≡ replicate size 32 → n ≡ size → Writes l i (replicate n 32 ++ w) m r → Writes l i (g ++ w) m r
 gapped size n w e d x = same-bytes (rw (e, d)) x

@@ -25,15 +25,15 @@ use Rattle.formatter.specs.declared.Formatter.{Formatter}
 use Rattle.formatter.specs.declared.Formatted.the-variants.{Finished}
 use Rattle.formatter.specs.declared.Broken.{Broken}
 use Rattle.formatter.specs.declared.Broken.the-variants.{Nowhere, At}
-use Rattle.formatter.specs.Pen.{Aside, Pen, on, stateOf, asideOf, signatureOf, topFirst}
+use Rattle.formatter.specs.CodeState.{Locals, CodeState, codeState, stateOf, localsOf, signatureOf, topFirst}
 use Rattle.formatter.specs.Does.{Does, Arrives}
 use Rattle.formatter.specs.Token.{depthOf}
-use Rattle.formatter.specs.Format.{Head, Fresh, Walks, walkOf, formattedOf, Laid, nextRow, ownRow}
+use Rattle.formatter.specs.Format.{TokenBoundary, Fresh, CheckedRows, walkOf, formattedOf, LaidOut, nextRow, ownRow}
 use Rattle.formatter.proofs.Does.{far}
 use Rattle.formatter.proofs.Turned.{led, led-within, turn-deep}
 use Rattle.formatter.proofs.Place.{head-first, tokenHere, tokensNext, tokens-here, tokens-next, head-next}
 use Rattle.formatter.proofs.Stack.{top-length}
-use Rattle.formatter.proofs.Lone.{lay-more}
+use Rattle.formatter.proofs.BareRow.{lay-more}
 
 -- ---- the definition's loop
 
@@ -48,7 +48,7 @@ pub depth-signature : (b : Broken) → depth (signatureOf b) ≡ depthOf b
 depth-signature Nowhere = refl
 depth-signature (At d) = refl
 
--- each count is at most n
+-- Each count is at most n.
 pub record AtMost (n : ℕ) (f : Formatter) : Type 0 where
   pub indent : f .indent ≤ n
   pub group : f .«group_depth» .0 ≤ n
@@ -59,8 +59,8 @@ pub record AtMost (n : ℕ) (f : Formatter) : Type 0 where
 
 -- ---- what holds between two tokens: i of them are laid out, and the next one's rows begin at `at`
 
-pub record Going (rows text : List ℕ) (o : Options.Options) (k₀ l₀ : List ℕ) (i at : ℕ) (x : Aside) (p : Pen) : Type 0 where
-  pub head : Head rows text at
+pub record Going (rows text : List ℕ) (o : Options.Options) (k₀ l₀ : List ℕ) (i at : ℕ) (x : Locals) (p : CodeState) : Type 0 where
+  pub head : TokenBoundary rows text at
   pub index : 16 * i ≤ at
   pub size : length (p .buf) ≡ length l₀
   pub stack : 64 ≤ length (p .stack)
@@ -73,10 +73,10 @@ pub record Going (rows text : List ℕ) (o : Options.Options) (k₀ l₀ : List 
   pub counts : AtMost (20 * i) (p .form)
   pub entries : p .form .«break_count» ≤ 64
 
-fresh-state : {f : Formatter} {k : List ℕ} (l : List ℕ) → Fresh f k → stateOf (asideOf Formatter.new) (on f k l) ≡ begun
+fresh-state : {f : Formatter} {k : List ℕ} (l : List ℕ) → Fresh f k → stateOf (localsOf Formatter.new) (codeState f k l) ≡ begun
 fresh-state l φ = rw (φ .new, φ .empty, φ .none)
 
-pub starts : {rows text : List ℕ} {f : Formatter} {k l : List ℕ} (o : Options.Options) → Walks rows text → Fresh f k → Going rows text o k l 0 0 (asideOf Formatter.new) (on f k l)
+pub starts : {rows text : List ℕ} {f : Formatter} {k l : List ℕ} (o : Options.Options) → CheckedRows rows text → Fresh f k → Going rows text o k l 0 0 (localsOf Formatter.new) (codeState f k l)
 starts {rows} {text} {f} {k} {l} o ω φ =
     record {
       head = head-first ω;
@@ -104,12 +104,12 @@ starts {rows} {text} {f} {k} {l} o ω φ =
     le-zero : {n : ℕ} → n ≡ 0 → n ≤ 20 * 0
     le-zero e = omega arith
 
-pub few-tokens : {rows text : List ℕ} {o : Options.Options} {k₀ l₀ : List ℕ} {x : Aside} {p : Pen} {i at : ℕ} → Walks rows text → Going rows text o k₀ l₀ i at x p → i ≤ 65535
+pub few-tokens : {rows text : List ℕ} {o : Options.Options} {k₀ l₀ : List ℕ} {x : Locals} {p : CodeState} {i at : ℕ} → CheckedRows rows text → Going rows text o k₀ l₀ i at x p → i ≤ 65535
 few-tokens ω γ = let a = γ .index in let b = γ .head .within in let c = ω .few in omega arith
 
 -- ---- one turn
 
-module _ {rows text : List ℕ} {o : Options.Options} {k₀ l₀ : List ℕ} {x : Aside} {p : Pen} {i at : ℕ} (ω : Walks rows text) (γ : Going rows text o k₀ l₀ i at x p) (h : at < length rows) where
+module _ {rows text : List ℕ} {o : Options.Options} {k₀ l₀ : List ℕ} {x : Locals} {p : CodeState} {i at : ℕ} (ω : CheckedRows rows text) (γ : Going rows text o k₀ l₀ i at x p) (h : at < length rows) where
   abbrev t : Token
   t = tokenHere rows text at
 
@@ -125,15 +125,15 @@ module _ {rows text : List ℕ} {o : Options.Options} {k₀ l₀ : List ℕ} {x 
       ∙ ap (λ us. layFrom o (length l₀) (finished (stateOf x p)) i us) (sym (tokens-here ω (γ .head) h))
       ∙ γ .lays
 
-  -- refusal 5: its bytes do not fit
+  -- Refusal 5: the token's bytes do not fit.
   goes-past : length l₀ < length (after .out) → walkOf rows text o l₀ ≡ stopped full i
   goes-past g = sym onto ∙ rw (lt-ltb (length l₀) (length (after .out)) g) (lay-stopped o (length l₀) full i (i + 1) ts)
 
-  module _ (k : x .skipNext ≡ false) {m : Pen} (δ : Does (Rattle.formatter.specs.Trivia.leadToken o (t .leading)) x p m) where
+  module _ (k : x .skipNext ≡ false) {m : CodeState} (δ : Does (Rattle.formatter.specs.Trivia.leadToken o (t .leading)) x p m) where
     abbrev begins : State
     begins = led o i t ts (stateOf x p)
 
-    -- the leading trivia alone do not fit
+    -- The leading trivia alone do not fit.
     pub leads-full : length (m .buf) < m .form .len → walkOf rows text o l₀ ≡ stopped full i
     leads-full g =
         goes-past (split (leb (length (begins .out)) (length (p .buf)))
@@ -146,7 +146,7 @@ module _ {rows text : List ℕ} {o : Options.Options} {k₀ l₀ : List ℕ} {x 
         (λ e. δ .fits (γ .room) (leb-true _ _ e))
         (λ e. absurd (let z = δ .over (γ .room) (leb-false _ _ e) in omega arith))
 
-    -- refusal 4
+    -- Refusal 4: the stack is full.
     pub leads-deep : Arrives begins p m → overflows o t ts (begins .formatter) ≡ true → walkOf rows text o l₀ ≡ stopped deep i
     unfolding run
     leads-deep u v =
@@ -154,7 +154,7 @@ module _ {rows text : List ℕ} {o : Options.Options} {k₀ l₀ : List ℕ} {x 
         let r : length (begins .out) ≤ length l₀ = omega (arith, Rattle.formatter.proofs.Does.reached begins p m u, u .within, δ .size, γ .size) in
         sym onto ∙ rw (e, le-ltb (length l₀) (length (begins .out)) r) (lay-stopped o (length l₀) deep i (i + 1) ts)
 
-  module _ {q : Pen} (δ : Does (turn o i t ts) x p q) where
+  module _ {q : CodeState} (δ : Does (turn o i t ts) x p q) where
     pub fit : q .form .len ≤ length (q .buf) → Arrives after p q
     fit g =
         split (leb (length (after .out)) (length (p .buf)))
@@ -167,19 +167,19 @@ module _ {rows text : List ℕ} {o : Options.Options} {k₀ l₀ : List ℕ} {x 
         (λ e. absurd (let u = δ .fits (γ .room) (leb-true _ _ e) in let w = u .within in omega arith))
         (λ e. let a = leb-false (length (after .out)) (length (p .buf)) e in let s = γ .size in omega arith))
 
-    abbrev aside : Aside
-    aside = asideOf (after .formatter)
+    abbrev locals : Locals
+    locals = localsOf (after .formatter)
 
-    grown : q .form .len ≤ length (q .buf) → Grown 20 (stateOf x p) (stateOf aside q)
+    grown : q .form .len ≤ length (q .buf) → Grown 20 (stateOf x p) (stateOf locals q)
     grown g = rw (fit g .state) (turn-grown o i t ts (stateOf x p))
 
-    with-room : q .form .len ≤ length (q .buf) → aside .tooDeep ≡ none → checked (length l₀) i after ≡ finished (stateOf aside q)
+    with-room : q .form .len ≤ length (q .buf) → locals .tooDeep ≡ none → checked (length l₀) i after ≡ finished (stateOf locals q)
     with-room g d =
         let u = fit g in
         let e : length (take (q .form .len) (q .buf)) ≤ length l₀ = omega (arith, length-take-le (q .form .len) (q .buf) g, δ .size, γ .size) in
         ap (checked (length l₀) i) (sym (u .state)) ∙ rw (d, le-ltb _ _ e)
 
-    pub goes-on : q .form .len ≤ length (q .buf) → aside .tooDeep ≡ none → t .kind ≤ Other → length (q .stack) ≡ length (p .stack) → Going rows text o k₀ l₀ (i + 1) (nextRow rows (ownRow rows at)) aside q
+    pub goes-on : q .form .len ≤ length (q .buf) → locals .tooDeep ≡ none → t .kind ≤ Other → length (q .stack) ≡ length (p .stack) → Going rows text o k₀ l₀ (i + 1) (nextRow rows (ownRow rows at)) locals q
     goes-on g d j k =
         let u = fit g in
         let w = grown g in
@@ -216,15 +216,15 @@ unfolding tokensOf Rattle.rows.specs.Token.tokensFrom
 tokens-none rows text at h = rw (Rattle.rows.proofs.RowList.part-none rows at (omega arith))
 
 module _ {rows text : List ℕ} {o : Options.Options} {l₀ : List ℕ} where
-  pub ends : {k₀ : List ℕ} {x : Aside} {p : Pen} {i at : ℕ} → Going rows text o k₀ l₀ i at x p → length rows ≤ at → walkOf rows text o l₀ ≡ finished (stateOf x p)
+  pub ends : {k₀ : List ℕ} {x : Locals} {p : CodeState} {i at : ℕ} → Going rows text o k₀ l₀ i at x p → length rows ≤ at → walkOf rows text o l₀ ≡ finished (stateOf x p)
   unfolding layFrom
   ends {at = at} γ h = sym (γ .lays) ∙ rw (tokens-none rows text at h)
 
-  -- refusals 4 and 5
-  pub laid-stopped : (n : ℕ) {m : List ℕ} {i : ℕ} → walkOf rows text o l₀ ≡ stopped n i → length m ≡ length l₀ → Laid rows text o l₀ (formattedOf (stopped n i)) m
+  -- The answer of refusals 4 and 5.
+  pub laid-stopped : (n : ℕ) {m : List ℕ} {i : ℕ} → walkOf rows text o l₀ ≡ stopped n i → length m ≡ length l₀ → LaidOut rows text o l₀ (formattedOf (stopped n i)) m
   laid-stopped n e z = record { answer = ap formattedOf (sym e); size = z; output = λ s f. let y : _≡_ {A = ℕ} 0 1 = cc in absurd (omega arith) }
 
-  pub laid-done : {k₀ : List ℕ} {x : Aside} {p : Pen} {i at : ℕ} → Going rows text o k₀ l₀ i at x p → length rows ≤ at → Laid rows text o l₀ (Finished (p .form .len) (p .form .commas)) (p .buf)
+  pub laid-done : {k₀ : List ℕ} {x : Locals} {p : CodeState} {i at : ℕ} → Going rows text o k₀ l₀ i at x p → length rows ≤ at → LaidOut rows text o l₀ (Finished (p .form .len) (p .form .commas)) (p .buf)
   laid-done {k₀} {x} {p} γ h =
       let e = ends γ h in
       let l = length-take-le (p .form .len) (p .buf) (γ .room) in

@@ -1,4 +1,4 @@
--- A Newline that is not suppressed: whether it is written, in one test. Assumes nothing.
+-- A Newline that is not swallowed: whether it writes a line feed, in one test. Assumes nothing.
 use mathlib.Core.Bool.{Bool, false, _&&_, _||_, and-false}
 use mathlib.Core.List.{List, [], _∷_}
 use mathlib.Core.Logic.{_⊎_, ⊎-elim}
@@ -14,18 +14,18 @@ use Rattle.lookahead.specs.Measure.{nextHasComment, isEmpty}
 use Rattle.definition.specs.Act.{State, choose, nothing, run}
 use Rattle.definition.specs.Emit.{isAt}
 use Rattle.definition.specs.Arms.{inOneLineBlock, endsWithTwoFeeds, newlineArm, feedLine}
-use Rattle.formatter.specs.Pen.{Aside, Pen, newlineOf}
+use Rattle.formatter.specs.CodeState.{Locals, CodeState, newlineOf}
 use Rattle.formatter.specs.Parts.{feedsLine}
 use Rattle.formatter.specs.Does.{Does}
 use Rattle.formatter.proofs.Does.{same-run}
 
--- the text so far is empty where its length is 0
+-- The text so far is empty where its length is 0.
 pub empty-take : (n : ℕ) (l : List ℕ) → n ≤ length l → isEmpty (take n l) ≡ eqb n 0
 empty-take zero l h = refl
 empty-take (suc n) [] h = absurd (omega arith)
 empty-take (suc n) (x ∷ l) h = sym (ne-eqb (suc n) 0 (λ e. omega arith))
 
--- where the text's start before a comment was tested: two ways meet, by which one the code came
+-- Where the text's start before a comment was tested, two ways meet.
 pub no-start : (n : ℕ) (l : List ℕ) (b : Bool) {A B : Type 0} → n ≤ length l → A ⊎ B → (A → b ≡ false) → (B → n ≡ 0 → ⊥) → isEmpty (take n l) && b ≡ false
 no-start n l b h w f g = ⊎-elim (λ y. rw (f y) (and-false (isEmpty (take n l)))) (λ z. rw (empty-take n l h, ne-eqb n 0 (g z))) w
 
@@ -37,5 +37,5 @@ run-newline i ts s h =
     (λ f. split (s .formatter .atLineStart) (λ g. split (endsWithTwoFeeds (s .out)) (λ k. rw (h, e, f, g, k)) (λ k. rw (h, e, f, g, k)))
     (λ g. rw (h, e, f, g))))
 
-pub newline : (i : ℕ) (ts : List Token) {x : Aside} {p q : Pen} → isAt (newlineOf (p .form .«suppress_newline_at» .at)) i ≡ false → Does (choose (feedsLine ts) feedLine nothing) x p q → Does (newlineArm i ts) x p q
+pub newline : (i : ℕ) (ts : List Token) {x : Locals} {p q : CodeState} → isAt (newlineOf (p .form .«suppress_newline_at» .at)) i ≡ false → Does (choose (feedsLine ts) feedLine nothing) x p q → Does (newlineArm i ts) x p q
 newline i ts h d = same-run {a = choose (feedsLine ts) feedLine nothing} (sym (run-newline i ts _ h)) d

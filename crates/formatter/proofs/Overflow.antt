@@ -10,7 +10,7 @@ use Rattle.rows.specs.Token.{Token}
 use Rattle.definition.specs.Arms.{breaksList, atSignature}
 use Rattle.definition.specs.PushToken.{overflows}
 use Rattle.formatter.specs.declared.Formatter.{Formatter}
-use Rattle.formatter.specs.Pen.{fieldsOf, fieldsOn}
+use Rattle.formatter.specs.CodeState.{fieldsOf, fieldsOn}
 use Rattle.formatter.proofs.Stack.{top-length}
 
 or-nothing : (b : Bool) → b ≡ b || false

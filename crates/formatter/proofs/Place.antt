@@ -16,10 +16,10 @@ use Rattle.rows.proofs.RowList.{rows-cons, part-cons, rows-drop, rows-length, r
 use Rattle.rows.proofs.Sound.{in-bounds, known-kinds}
 use Rattle.formatter.specs.declared.Ends.{Ends}
 use Rattle.formatter.specs.declared.TokenAt.{TokenAt}
-use Rattle.formatter.specs.Token.{Ahead, InRows, Stands}
-use Rattle.formatter.specs.Trivia.{Part, triviaIn}
-use Rattle.formatter.specs.Format.{Checked, Head, Ending, NextToken, TokenRows, Walks, nextRow, onlyTokens, ownRow, runRows}
-use Rattle.formatter.proofs.Runs.{only-none, checked-behind, trailing-run, tokens-behind, run-ends, run-most, no-trail, TokenFirst, token-first}
+use Rattle.formatter.specs.Token.{Ahead, InRows, StandsFor}
+use Rattle.formatter.specs.Trivia.{WholeRows, triviaIn}
+use Rattle.formatter.specs.Format.{CheckedFrom, TokenBoundary, Ending, NextToken, TokenRows, CheckedRows, nextRow, onlyTokens, ownRow, runRows}
+use Rattle.formatter.proofs.Runs.{only-none, checked-after, trailing-run, tokens-after, run-ends, run-most, no-trail, TokenFirst, token-first}
 
 -- ---- rows by number
 
@@ -54,7 +54,7 @@ module _ (rows : List ℕ) (at : ℕ) where
 
 -- ---- where a token's rows begin
 
-pub head-first : {rows text : List ℕ} → Walks rows text → Head rows text 0
+pub head-first : {rows text : List ℕ} → CheckedRows rows text → TokenBoundary rows text 0
 head-first {rows} {text} ω =
     record {
       within = omega arith;
@@ -67,7 +67,7 @@ pub bare-run : (rows : List ℕ) (at what : ℕ) → eqb TokenRow what ≡ false
 bare-run rows at what n w e =
     subst (λ k. runRows what (rowsOf (drop k rows)) ≡ 0) (sym w) (rw (rows-drop (at / 16) rows) (only-none what n (at / 16) (rowsOf rows) e))
 
--- the definition's token there, and those behind it
+-- The definition's token there, and those after it.
 abbrev pub tokenHere : List ℕ → List ℕ → ℕ → Token
 tokenHere rows text at =
     record {
@@ -80,7 +80,7 @@ tokenHere rows text at =
 abbrev pub tokensNext : List ℕ → List ℕ → ℕ → List Token
 tokensNext rows text at = tokensOf (drop (ownRow rows at + 16) rows) text
 
-module _ {rows text : List ℕ} {at : ℕ} (ω : Walks rows text) (η : Head rows text at) (h : at < length rows) where
+module _ {rows text : List ℕ} {at : ℕ} (ω : CheckedRows rows text) (η : TokenBoundary rows text at) (h : at < length rows) where
   abbrev nothing : Row
   nothing = rowAt [] 0
 
@@ -104,8 +104,8 @@ module _ {rows text : List ℕ} {at : ℕ} (ω : Walks rows text) (η : Head row
   row-here : getD (rowsOf (drop at rows)) n nothing ≡ rowAt rows (ownRow rows at)
   row-here = part-row rows at n nothing (first .short)
 
-  rows-behind : drop (suc n) (rowsOf (drop at rows)) ≡ rowsOf (drop (ownRow rows at + 16) rows)
-  rows-behind = let m : at + 16 * suc n ≡ ownRow rows at + 16 = omega arith in sym (part-drop rows at (suc n)) ∙ ap (λ k. rowsOf (drop k rows)) m
+  rows-after : drop (suc n) (rowsOf (drop at rows)) ≡ rowsOf (drop (ownRow rows at + 16) rows)
+  rows-after = let m : at + 16 * suc n ≡ ownRow rows at + 16 = omega arith in sym (part-drop rows at (suc n)) ∙ ap (λ k. rowsOf (drop k rows)) m
 
   leads-are : firstRows n (drop at rows) ≡ take n (rowsOf (drop at rows))
   leads-are = first-take n (drop at rows) (let s = first .short in let l = part-length rows at in let z = length-drop at rows in omega arith)
@@ -127,31 +127,31 @@ module _ {rows text : List ℕ} {at : ℕ} (ω : Walks rows text) (η : Head row
 
   pub tokens-here : tokensOf (drop at rows) text ≡ tokenHere rows text at ∷ tokensNext rows text at
   unfolding tokensOf
-  tokens-here = first .tokens ∙ rw (row-here, rows-behind, ← leads-are, trailing-run, ← trails-are, lead-count, trail-count)
+  tokens-here = first .tokens ∙ rw (row-here, rows-after, ← leads-are, trailing-run, ← trails-are, lead-count, trail-count)
 
   pub next-within : nextRow rows (ownRow rows at) ≤ length rows
   next-within = let s = m-most in let r = row-inside in omega arith
 
-  behind : Checked (length text) (rowsOf (drop (ownRow rows at + 16) rows))
-  behind = rw (← rows-behind) (checked-behind (length text) (η .checked .before) (η .checked .number) (rowsOf (drop at rows)) (η .checked .good) (suc n) (let s = first .short in omega arith))
+  behind : CheckedFrom (length text) (rowsOf (drop (ownRow rows at + 16) rows))
+  behind = rw (← rows-after) (checked-after (length text) (η .checked .before) (η .checked .number) (rowsOf (drop at rows)) (η .checked .good) (suc n) (let s = first .short in omega arith))
 
   rows-next : drop m (rowsOf (drop (ownRow rows at + 16) rows)) ≡ rowsOf (drop (nextRow rows (ownRow rows at)) rows)
   rows-next = sym (part-drop rows (ownRow rows at + 16) m)
 
-  pub head-next : Head rows text (nextRow rows (ownRow rows at))
+  pub head-next : TokenBoundary rows text (nextRow rows (ownRow rows at))
   head-next =
       record {
         within = next-within;
         whole = let a = η .whole in omega arith;
-        checked = rw (← rows-next) (checked-behind (length text) (behind .before) (behind .number) (rowsOf (drop (ownRow rows at + 16) rows)) (behind .good) m (run-most Trailing (rowsOf (drop (ownRow rows at + 16) rows))));
+        checked = rw (← rows-next) (checked-after (length text) (behind .before) (behind .number) (rowsOf (drop (ownRow rows at + 16) rows)) (behind .good) m (run-most Trailing (rowsOf (drop (ownRow rows at + 16) rows))));
         bare = rw (← rows-next) (run-ends Trailing (rowsOf (drop (ownRow rows at + 16) rows)));
       }
 
   pub tokens-next : tokensOf (drop (nextRow rows (ownRow rows at)) rows) text ≡ tokensNext rows text at
   unfolding tokensOf
-  tokens-next = rw (← rows-next) (sym (tokens-behind text (rowsOf (drop (ownRow rows at + 16) rows))))
+  tokens-next = rw (← rows-next) (sym (tokens-after text (rowsOf (drop (ownRow rows at + 16) rows))))
 
-  -- what is known at each whole row is known here
+  -- What is known at each whole row is known here.
   known : (P : ℕ → Type 0) → ((j : ℕ) → P (16 * j)) → P at
   known P all = subst P (sym (η .whole)) (all (at / 16))
 
@@ -166,13 +166,13 @@ module _ {rows text : List ℕ} {at : ℕ} (ω : Walks rows text) (η : Head row
   -- ---- what the code's token stands for
 
   module _ {i : ℕ} {token : TokenAt} (τ : TokenRows rows at i token) where
-    pub stands : Stands token rows text (tokenHere rows text at) (tokensNext rows text at)
+    pub stands : StandsFor token rows text (tokenHere rows text at) (tokensNext rows text at)
     stands =
         record {
           kind = rw (τ .kind, τ .own);
           lexeme = rw (τ .own);
           ahead = rw (τ .lead) tokens-here;
-          behind = rw (τ .own);
+          after = rw (τ .own);
           bounds = rw (τ .lead) bounds;
         }
 
@@ -198,20 +198,20 @@ module _ {rows text : List ℕ} {at : ℕ} (ω : Walks rows text) (η : Head row
     pub ahead : {ends : Ends} → Ending rows ends → Ahead ends (token .lead) rows
     ahead {ends} ε = rw (τ .lead) (known (λ k. Ahead ends k rows) (ε .ahead))
 
-    pub leads : Part rows text (token .lead) (token .own)
+    pub leads : WholeRows rows text (token .lead) (token .own)
     leads =
         let r = row-inside in
         let a = lead-count in
         rw (τ .lead, τ .own)
         (record { ordered = omega arith; within = omega arith; whole = rw a (omega arith); bounds = rw (a, leads-are) (bounds-take text n (rowsOf (drop at rows)) bounds) })
 
-    pub trails : Part rows text (token .own + 16) (token .next)
+    pub trails : WholeRows rows text (token .own + 16) (token .next)
     trails =
         let x = next-within in
         let b = trail-count in
         rw (τ .next, τ .own)
         (record { ordered = omega arith; within = x; whole = rw b refl; bounds = rw (b, trails-are) (bounds-take text m (rowsOf (drop (ownRow rows at + 16) rows)) (in-bounds text (behind .before) (behind .number) (rowsOf (drop (ownRow rows at + 16) rows)) (behind .good))) })
 
-  -- the token's own row
+  -- The token's own row lies in the rows and in the text.
   pub row-in : InRows (record { kind = rowAt rows (ownRow rows at) .kind; index = 0; lead = at; own = ownRow rows at; next = nextRow rows (ownRow rows at) }) rows text
   row-in = in-rows (record { kind = refl; index = refl; lead = refl; own = refl; next = refl }) (omega arith)

@@ -9,7 +9,7 @@ use Rattle.rows.specs.Row.{rowAt, rowsOf}
 use Rattle.rows.proofs.RowList.{part-cons, part-none}
 use Rattle.formatter.specs.Format.{runRows}
 
--- no run where another row stands, or none
+-- There is no run where another row stands, or none.
 pub other-run : (what : ℕ) (rows : List ℕ) (at : ℕ) → at + 16 ≤ length rows → (rowAt rows at .what ≡ what → ⊥) → runRows what (rowsOf (drop at rows)) ≡ 0
 unfolding runRows
 other-run what rows at h e = rw (part-cons rows at h, ne-eqb _ _ e)
@@ -18,7 +18,7 @@ pub none-run : (what : ℕ) (rows : List ℕ) (at : ℕ) → length rows < at + 
 unfolding runRows
 none-run what rows at h = rw (part-none rows at h)
 
--- the run that starts at `from` goes on at `end`
+-- The run that starts at `from` goes on at `end`.
 pub record Runs (what : ℕ) (rows : List ℕ) (from end : ℕ) : Type 0 where
   pub within : end ≤ length rows
   pub same : end + 16 * runRows what (rowsOf (drop end rows)) ≡ from + 16 * runRows what (rowsOf (drop from rows))

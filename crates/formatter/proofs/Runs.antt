@@ -14,9 +14,9 @@ use Rattle.rows.specs.Row.{Row}
 use Rattle.rows.specs.Checks.{Before, after, mayTrail, badFrom}
 use Rattle.rows.specs.Token.{Trivia, triviaOf, trailingOf, tokenOf, tokensFrom}
 use Rattle.rows.proofs.Sound.{first-sound, rest-good}
-use Rattle.formatter.specs.Format.{Checked, onlyTokens, runRows}
+use Rattle.formatter.specs.Format.{CheckedFrom, onlyTokens, runRows}
 
--- ---- behind a token: trailing rows
+-- ---- after a token: trailing rows
 
 module _ (text : List ℕ) where
   pub trailing-run : (rs : List Row) → trailingOf text rs ≡ map (triviaOf text) (take (runRows Trailing rs) rs)
@@ -24,12 +24,12 @@ module _ (text : List ℕ) where
   trailing-run [] = refl
   trailing-run (r ∷ rs) = split (eqb (r .what) Trailing) (λ e. rw (e, trailing-run rs)) (λ e. rw e)
 
-  pub tokens-behind : (rs : List Row) → tokensFrom text [] rs ≡ tokensFrom text [] (drop (runRows Trailing rs) rs)
+  pub tokens-after : (rs : List Row) → tokensFrom text [] rs ≡ tokensFrom text [] (drop (runRows Trailing rs) rs)
   unfolding tokensFrom runRows
-  tokens-behind [] = refl
-  tokens-behind (r ∷ rs) =
+  tokens-after [] = refl
+  tokens-after (r ∷ rs) =
       split (eqb (r .what) Trailing)
-      (λ e. let w : r .what ≡ 2 = eqb-true (r .what) Trailing e in rw w (tokens-behind rs))
+      (λ e. let w : r .what ≡ 2 = eqb-true (r .what) Trailing e in rw w (tokens-after rs))
       (λ e. rw e)
 
 pub run-ends : (what : ℕ) (rs : List Row) → runRows what (drop (runRows what rs) rs) ≡ 0
@@ -37,7 +37,7 @@ unfolding runRows
 run-ends what [] = refl
 run-ends what (r ∷ rs) = split (eqb (r .what) what) (λ e. rw e (run-ends what rs)) (λ e. rw (e, e))
 
--- no trivia: no run of trivia rows, wherever it starts
+-- Where there is no trivia, no run of trivia rows starts anywhere.
 pub only-none : (what : ℕ) → eqb TokenRow what ≡ false → (k : ℕ) (rs : List Row) → onlyTokens rs ≡ true → runRows what (drop k rs) ≡ 0
 unfolding runRows onlyTokens
 only-none what n zero [] e = refl
@@ -52,10 +52,10 @@ unfolding runRows
 run-most what [] = omega arith
 run-most what (r ∷ rs) = split (eqb (r .what) what) (λ e. rw e (let h = run-most what rs in omega arith)) (λ e. rw e (omega arith))
 
-pub checked-behind : (size : ℕ) (before : Before) (i : ℕ) (rs : List Row) → badFrom size before i rs ≡ none → (n : ℕ) → n ≤ length rs → Checked size (drop n rs)
-checked-behind size before i rs e zero h = record { before = before; number = i; good = e }
-checked-behind size before i [] e (suc n) h = absurd (omega arith)
-checked-behind size before i (r ∷ rs) e (suc n) h = checked-behind size (after (r .what)) (i + 1) rs (rest-good size before i r rs e) n (omega arith)
+pub checked-after : (size : ℕ) (before : Before) (i : ℕ) (rs : List Row) → badFrom size before i rs ≡ none → (n : ℕ) → n ≤ length rs → CheckedFrom size (drop n rs)
+checked-after size before i rs e zero h = record { before = before; number = i; good = e }
+checked-after size before i [] e (suc n) h = absurd (omega arith)
+checked-after size before i (r ∷ rs) e (suc n) h = checked-after size (after (r .what)) (i + 1) rs (rest-good size before i r rs e) n (omega arith)
 
 -- ---- before a token: leading rows
 
@@ -66,7 +66,7 @@ pub record TokenFirst (text : List ℕ) (lead : List Trivia) (d : Row) (rs : Lis
       tokensFrom text lead rs
       ≡ tokenOf text (lead ++ map (triviaOf text) (take (runRows Leading rs) rs)) (getD rs (runRows Leading rs) d) (drop (suc (runRows Leading rs)) rs) ∷ tokensFrom text [] (drop (suc (runRows Leading rs)) rs)
 
--- rows behind none that may have trailing ones
+-- Rows after none that may have trailing ones.
 pub no-trail : (size i : ℕ) (before : Before) (rs : List Row) → mayTrail before ≡ false → badFrom size before i rs ≡ none → runRows Trailing rs ≡ 0
 unfolding runRows
 no-trail size i before [] m e = refl

@@ -9,7 +9,7 @@ use lib.Dec.{eqb}
 use lib.ListN.{length, getD, set, drop}
 use lib.Seq.{getD-set-same, getD-set-other}
 use Rattle.definition.specs.Emit.{isAt}
-use Rattle.formatter.specs.Pen.{topFirst}
+use Rattle.formatter.specs.CodeState.{topFirst}
 
 pub top-popped : (n : ℕ) (k : List ℕ) → topFirst (n - 1) k ≡ drop 1 (topFirst n k)
 unfolding topFirst

@@ -1,4 +1,4 @@
--- The turn of a token without trivia: its arm, and the fn state behind it. Assumes nothing.
+-- The turn of a token without trivia: its arm, and `fn_state` after it. Assumes nothing.
 use mathlib.Core.Bool.{Bool, true, false, cond, and-false}
 use mathlib.Core.List.{List, []}
 use mathlib.Core.Option.{none, some}
@@ -54,7 +54,7 @@ module _ (o : Options) (i : ℕ) (t : Token) (ts : List Token) (f : Formatter) (
   unfolding run
   ended g text e = bare-trail (state g text c) (t .trailing) (update (trackFnState (t .kind))) e trail
 
-  -- by what the arm does
+  -- The turn, by what the arm does.
   pub by-arm : {g : Formatter} {text : List ℕ} → f .tooDeep ≡ none → f .skipNext ≡ false → eqb (t .kind) LeftParen ≡ false → eqb (t .kind) LeftBracket ≡ false
       → run (arm o i t ts) (state taken out c) ≡ state g text c → g .returned ≡ false
       → run (turn o i t ts) (state f out c) ≡ state (trackFnState (t .kind) g) text c
@@ -67,10 +67,10 @@ module _ (o : Options) (i : ℕ) (t : Token) (ts : List Token) (f : Formatter) (
       ∙ ap (run rest) r
       ∙ ended g text e
 
--- ---- the formatter behind it
+-- ---- the formatter after it
 
 module _ (f : Formatter) (k : ℕ) where
-  -- what a token takes anew or may change, and the last kind
+  -- The formatter with the locals that a token sets, the fields that it may change, and the last kind.
   abbrev pub with : Bool → Bool → ℕ → Bool → Bool → Bool → Formatter
   with start unary fn pending closed inline =
       setInlineClose inline (setJustClosedInline closed (setRecordPending pending (setFnState fn (setPrevMinusIsUnary unary (setAtLineStart start (setPrev (some k) (setReturned false f)))))))

@@ -1,4 +1,4 @@
--- One token of the walk, from its parts: leading trivia, the arm, trailing trivia, the fn state. Assumes nothing.
+-- One token of the walk, from its parts: leading trivia, the arm, trailing trivia, `fn_state`. Assumes nothing.
 use mathlib.Core.Bool.{Bool, true, false, cond, not, _&&_}
 use mathlib.Core.List.{List, []}
 use mathlib.Core.Option.{none, some}
@@ -17,15 +17,15 @@ use Rattle.definition.specs.Act.{State, Act, run, update, _⨾_, choose, nothin
 use Rattle.definition.specs.Emit.{isSome, isAt, trackFnState, trailingTrivia}
 use Rattle.definition.specs.Arms.{nextIs}
 use Rattle.definition.specs.PushToken.{arm, overflows, pushToken, turn}
-use Rattle.formatter.specs.Pen.{Aside, Pen, stateOf, asideOf}
+use Rattle.formatter.specs.CodeState.{Locals, CodeState, stateOf, localsOf}
 use Rattle.formatter.specs.Does.{Does}
 use Rattle.formatter.specs.Trivia.{leadToken}
 use Rattle.formatter.specs.Parts.{returnsEarly}
 use Rattle.formatter.proofs.Does.{grows, seq, yes, no, same-run, stays}
-use Rattle.formatter.proofs.Asides.{arm-returned, arm-skip, arm-taken, arm-deep, lead-same, trail-same}
+use Rattle.formatter.proofs.Locals.{arm-returned, arm-skip, arm-taken, arm-deep, lead-same, trail-same}
 use Rattle.formatter.proofs.Turn.{chosen-not}
 
--- the trailing trivia behind an arm
+-- The act of the trailing trivia after an arm.
 abbrev pub trailToken : List Trivia → Act
 trailToken trailing = if (λ f. f .returned) nothing (trailingTrivia trailing)
 
@@ -34,7 +34,7 @@ unfolding run
 taken s t a b e = rw e
 
 module _ (o : Options) (i : ℕ) (t : Token) (ts : List Token) where
-  -- what is behind the leading trivia
+  -- The state after the leading trivia.
   abbrev pub armed : Act
   armed = arm o i t ts ⨾ (trailToken (t .trailing) ⨾ update (trackFnState (t .kind)))
 
@@ -45,57 +45,57 @@ module _ (o : Options) (i : ℕ) (t : Token) (ts : List Token) where
   unfolding run
   pushed s = refl
 
-  -- the turn of a token that is not skipped
+  -- The turn of a token that is not skipped.
   pub turn-led : (s : State) → s .formatter .tooDeep ≡ none → s .formatter .skipNext ≡ false → run (turn o i t ts) s ≡ cond (overflows o t ts (led s .formatter)) (run (update (setTooDeep (some i))) (led s)) (run armed (led s))
   turn-led s d k = chosen-not s (λ s. isSome (s .formatter .tooDeep)) _ _ (rw d) ∙ chosen-not s (λ s. s .formatter .skipNext) _ _ k ∙ pushed s
 
-  -- it writes what its leading trivia do, at least
+  -- A turn writes at least what its leading trivia write.
   pub led-within : (s : State) → s .formatter .tooDeep ≡ none → s .formatter .skipNext ≡ false → length (led s .out) ≤ length (run (turn o i t ts) s .out)
   unfolding run
   led-within s d k =
       rw (turn-led s d k)
       (either (λ (z : State). length (led s .out) ≤ length (z .out)) (overflows o t ts (led s .formatter)) (λ e. omega arith) (λ e. grows armed (led s)))
 
-  module _ (x : Aside) (p : Pen) (d : x .tooDeep ≡ none) (k : x .skipNext ≡ false) where
+  module _ (x : Locals) (p : CodeState) (d : x .tooDeep ≡ none) (k : x .skipNext ≡ false) where
     pub turn-deep : overflows o t ts (led (stateOf x p) .formatter) ≡ true → run (turn o i t ts) (stateOf x p) ≡ run (update (setTooDeep (some i))) (led (stateOf x p))
     turn-deep v = turn-led (stateOf x p) d k ∙ ap (λ z. cond z (run (update (setTooDeep (some i))) (led (stateOf x p))) (run armed (led (stateOf x p)))) v
 
-    pub turns : {m q : Pen} → Does (leadToken o (t .leading)) x p m → overflows o t ts (led (stateOf x p) .formatter) ≡ false → Does armed (asideOf (led (stateOf x p) .formatter)) m q → Does (turn o i t ts) x p q
+    pub turns : {m q : CodeState} → Does (leadToken o (t .leading)) x p m → overflows o t ts (led (stateOf x p) .formatter) ≡ false → Does armed (localsOf (led (stateOf x p) .formatter)) m q → Does (turn o i t ts) x p q
     unfolding run
     turns a v b =
         same-run {a = leadToken o (t .leading) ⨾ armed}
         (sym (turn-led (stateOf x p) d k ∙ ap (λ z. cond z (run (update (setTooDeep (some i))) (led (stateOf x p))) (run armed (led (stateOf x p)))) v))
         (seq a b)
 
-  -- ---- behind the arm
+  -- ---- after the arm
 
-  abbrev behind : Aside → Pen → Aside
-  behind x p = asideOf (run (arm o i t ts) (stateOf x p) .formatter)
+  abbrev afterArm : Locals → CodeState → Locals
+  afterArm x p = localsOf (run (arm o i t ts) (stateOf x p) .formatter)
 
-  module _ (x : Aside) (p : Pen) (r : x .returned ≡ false) where
+  module _ (x : Locals) (p : CodeState) (r : x .returned ≡ false) where
     abbrev early : Bool
     early = returnsEarly t ts (stateOf x p .formatter)
 
-    returned-is : behind x p .returned ≡ returnsEarly t ts (stateOf x p .formatter)
+    returned-is : afterArm x p .returned ≡ returnsEarly t ts (stateOf x p .formatter)
     returned-is = arm-returned o i t ts (stateOf x p) r
 
-    -- trailing trivia are written
-    pub trails : {q m : Pen} (has : Bool) {trails : Bool} → trails ≡ (has && not early) → trails ≡ true → Does (trailingTrivia (t .trailing)) (behind x p) q m → Does (trailToken (t .trailing)) (behind x p) q m
+    -- The trailing trivia are written.
+    pub trails : {q m : CodeState} (has : Bool) {trails : Bool} → trails ≡ (has && not early) → trails ≡ true → Does (trailingTrivia (t .trailing)) (afterArm x p) q m → Does (trailToken (t .trailing)) (afterArm x p) q m
     trails has e h d = no (λ n. returned-is ∙ not-true early (and-right has (not early) (sym e ∙ h))) d
 
-    -- or there are none, or the arm returned before them
-    pub trails-not : {q : Pen} (has : Bool) {trails : Bool} → trails ≡ (has && not early) → trails ≡ false → (has ≡ false → t .trailing ≡ []) → Does (trailToken (t .trailing)) (behind x p) q q
+    -- Or there are none, or the arm returned before them.
+    pub trails-not : {q : CodeState} (has : Bool) {trails : Bool} → trails ≡ (has && not early) → trails ≡ false → (has ≡ false → t .trailing ≡ []) → Does (trailToken (t .trailing)) (afterArm x p) q q
     unfolding trailingTrivia
     trails-not {q} has e h empty =
-        split (behind x p .returned) (λ b. yes (λ n. b) stays)
-        (λ b. no (λ n. b) (subst (λ l. Does (trailingTrivia l) (behind x p) q q) (sym (empty (missing has early (sym e ∙ h) (sym returned-is ∙ b)))) stays))
+        split (afterArm x p .returned) (λ b. yes (λ n. b) stays)
+        (λ b. no (λ n. b) (subst (λ l. Does (trailingTrivia l) (afterArm x p) q q) (sym (empty (missing has early (sym e ∙ h) (sym returned-is ∙ b)))) stays))
       where
         missing : (a b : Bool) → (a && not b) ≡ false → b ≡ false → a ≡ false
         missing true true u v = v
         missing true false u v = u
         missing false b u v = refl
 
-  -- ---- what a turn that is not refused leaves aside
+  -- ---- the locals after a turn that is not refused
 
   kept : (s : State) → run (trailToken (t .trailing)) s .formatter ≡ s .formatter
   unfolding run
@@ -126,7 +126,7 @@ module _ (o : Options) (i : ℕ) (t : Token) (ts : List Token) where
         ∙ arm-skip o i t ts (led s) led-skip
         ∙ ap (λ (f : Formatter). eqb (t .kind) LeftBrace && isAt (f .prev) RightBrace) (sym after-is)
 
-    -- the next token was taken along: there is one
+    -- Where the next token was taken along, there is one.
     pub turn-taken : run (turn o i t ts) s .formatter .skipNext ≡ true → nextIs RightBrace ts ≡ true
     turn-taken e =
         let a = sym turn-skip ∙ e in

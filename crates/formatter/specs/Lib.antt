@@ -1,8 +1,8 @@
-pub mod Pen
+pub mod CodeState
 pub mod Does
 pub mod Token
 pub mod Parts
 pub mod Trivia
 pub mod Format
-pub mod Steady
-pub mod Nested
+pub mod FastTokens
+pub mod FastBraces

@@ -7,7 +7,7 @@ use crate::Options;
 use crate::RecordDepth;
 use crate::TokenAt;
 use crate::ended_by;
-use crate::suppressed_behind;
+use crate::suppressed_after;
 use lookahead::block_is_single_line;
 use rows::ROW_BYTES;
 use rows::kinds;
@@ -25,20 +25,24 @@ ghost use mathlib.Core.List.{List, _∷_};
 ghost use mathlib.Core.Path.{_≡_};
 ghost use Prim.Native.Nat.{ℕ, _+_, _-_, _≤_, _<_};
 ghost use lib.ListN.{length};
+ghost use Rattle.shared.specs.Numbers.{most32};
 ghost use Rattle.rows.specs.Kinds.{Comma, LeftBrace, RightBrace};
+ghost use Rattle.rows.specs.Row.{rowSize};
 ghost use Rattle.definition.specs.Act.{update};
 ghost use Rattle.definition.specs.Emit.{prevIs, openAllman, openSameLine};
 ghost use Rattle.definition.specs.Arms.{inOneLineBlock, nextIs, closeInline};
 ghost use Rattle.definition.specs.Arms.{closeRecord, closeBlock, rightBraceArm};
 ghost use Rattle.definition.specs.Arms.{emptyRecord, openBlock, leftBraceArm};
 ghost use Rattle.sink.specs.Sink.{Writes};
-ghost use Rattle.formatter.specs.Pen.{fieldsOf, optionsOf};
+ghost use Rattle.formatter.specs.CodeState.{fieldsOf, optionsOf};
 ghost use Rattle.formatter.specs.Does.{Puts};
-ghost use Rattle.formatter.specs.Token.{Fits, Ready, InRows, Ahead, Here, bareToken, lexemeOf};
+ghost use Rattle.formatter.specs.Token.{IndentBounds, CanWrite, Ready, InRows, Ahead, AtToken};
+ghost use Rattle.formatter.specs.Token.{bareToken, lexemeOf, pastIndent};
 ghost use Rattle.formatter.specs.Parts.{inlineCloseSize, opensBlock, recordEntered};
 ghost use Rattle.formatter.specs.Parts.{openOneLine, oneLineBytes, braced};
 
 impl Formatter {
+    // `}` closes a one-line block, a record or a block over several lines.
     pub fn right_brace_arm(mut self, options: Options, out: &mut [u8]) -> Self
         requires { ⌜ Ready options self (now out) ⌝ }
         ensures { λ r. ⌜ Puts (rightBraceArm (optionsOf options))
@@ -56,8 +60,9 @@ impl Formatter {
         self
     }
 
+    // Writes the `}` of a one-line block.
     fn close_inline(mut self, options: Options, out: &mut [u8]) -> Self
-        requires { ⌜ Fits options self (now out) ⌝ }
+        requires { ⌜ CanWrite options self (now out) ⌝ }
         ensures { λ r. ⌜ Puts (closeInline (optionsOf options))
             self (now (out .entry)) r (now (out .exit)) ⌝ }
     {
@@ -74,10 +79,11 @@ impl Formatter {
         self
     }
 
-    // `{ style = 0 }` keeps inner spaces; only `{}` is tight.
+    // How many spaces stand before the `}` of a one-line block: `{ style = 0 }` keeps its inner spaces, and
+    // only `{}` is tight.
     fn inline_close_gap(self, options: Options) -> usize
-        requires { ⌜ (options .«indent_width» ≤ 16) × (self .indent ≤ 4294967295) ⌝ }
-        ensures { λ r. ⌜ (r ≡ inlineCloseSize (optionsOf options) (fieldsOf self)) × (r < 68719476736) ⌝ }
+        requires { ⌜ IndentBounds options self ⌝ }
+        ensures { λ r. ⌜ (r ≡ inlineCloseSize (optionsOf options) (fieldsOf self)) × (r < pastIndent) ⌝ }
     {
         if self.at_line_start {
             return self.indent_size(options);
@@ -88,6 +94,7 @@ impl Formatter {
         1
     }
 
+    // Writes the `}` of a record on a line of its own, and a comma before it if one is missing.
     fn close_record(mut self, options: Options, out: &mut [u8]) -> Self
         requires { ⌜ Ready options self (now out) ⌝ }
         ensures { λ r. ⌜ Puts (closeRecord (optionsOf options))
@@ -108,7 +115,7 @@ impl Formatter {
         self
     }
 
-    // A record takes a closing comma, unless it is empty or has one.
+    // Whether a comma is inserted before a record's `}`: not if the record is empty or has one.
     fn wants_record_comma(self) -> bool
         ensures { λ r. ⌜ r ≡ not (prevIs Comma (fieldsOf self) || prevIs LeftBrace (fieldsOf self)) ⌝ }
     {
@@ -118,8 +125,9 @@ impl Formatter {
         !self.prev_is(kinds::LEFT_BRACE)
     }
 
+    // Writes the `}` of a block over several lines.
     fn close_block(mut self, options: Options, out: &mut [u8]) -> Self
-        requires { ⌜ Fits options self (now out) ⌝ }
+        requires { ⌜ CanWrite options self (now out) ⌝ }
         ensures { λ r. ⌜ Puts (closeBlock (optionsOf options)) self (now (out .entry)) r (now (out .exit)) ⌝ }
     {
         self.indent = less(self.indent);
@@ -134,7 +142,7 @@ impl Formatter {
         self
     }
 
-    // The depth in a record behind a brace that closes a block.
+    // `record_depth` after a `}` that closes a block over several lines.
     fn record_depth_outside(self) -> RecordDepth
         ensures { λ r. ⌜ r .0 ≡ cond (self .«in_record»)
             (self .«record_depth» .0 - 1) (self .«record_depth» .0) ⌝ }
@@ -146,6 +154,7 @@ impl Formatter {
         record
     }
 
+    // `{` opens an empty record, a block over several lines or a one-line block.
     pub fn left_brace_arm(
         mut self,
         options: Options,
@@ -158,7 +167,7 @@ impl Formatter {
         requires { ⌜ Ready options self (now out) ⌝ }
         requires { ⌜ InRows token (now rows) (now text) × Ahead ends (token .lead) (now rows) ⌝ }
         requires { ⌜ token .kind ≡ LeftBrace ⌝ }
-        ensures { λ r. ⌜ Here token (now (rows .entry)) (now (text .entry))
+        ensures { λ r. ⌜ AtToken token (now (rows .entry)) (now (text .entry))
             (λ t ts. Puts (leftBraceArm (optionsOf options) (token .index) t ts) self (now (out .entry))
             r (now (out .exit))) ⌝ }
     {
@@ -175,20 +184,20 @@ impl Formatter {
         self
     }
 
-    // `record E {` with `}` right behind it.
+    // Whether the token is the `{` of `record E {` with a `}` right after it.
     pub fn empties_record(self, rows: &[u8], token: TokenAt) -> bool
-        requires { ⌜ token .own + 16 ≤ length (now rows) ⌝ }
-        ensures { λ r. ⌜ ((text : List ℕ) → Here token (now (rows .entry)) text
+        requires { ⌜ token .own + rowSize ≤ length (now rows) ⌝ }
+        ensures { λ r. ⌜ ((text : List ℕ) → AtToken token (now (rows .entry)) text
             (λ t ts. r ≡ self .«record_pending» && nextIs RightBrace ts)) ⌝ }
     {
         if self.record_pending {
-            let behind = token.own + ROW_BYTES;
-            return next_is(&rows[behind..], kinds::RIGHT_BRACE);
+            let after = token.own + ROW_BYTES;
+            return next_is(&rows[after..], kinds::RIGHT_BRACE);
         }
         false
     }
 
-    // `record E {}` stays on one line: the `}` is taken along.
+    // Writes the braces of `record E {}`, which stay on one line: the `{` takes the `}` along.
     fn empty_record(
         mut self,
         options: Options,
@@ -213,11 +222,11 @@ impl Formatter {
         self
     }
 
-    // A record, a brace in one, and what is no one-line block.
+    // Whether a `{` opens a block over several lines: a record, a brace in one, or what is no one-line block.
     fn opens_block(self, ends: Ends, rows: &[u8], token: TokenAt) -> bool
         requires { ⌜ token .lead ≤ length (now rows) ⌝ }
         requires { ⌜ Ahead ends (token .lead) (now rows) ⌝ }
-        ensures { λ r. ⌜ ((text : List ℕ) → Here token (now (rows .entry)) text
+        ensures { λ r. ⌜ ((text : List ℕ) → AtToken token (now (rows .entry)) text
             (λ t ts. r ≡ opensBlock (t ∷ ts) (fieldsOf self))) ⌝ }
     {
         if self.record_pending {
@@ -236,9 +245,10 @@ impl Formatter {
         !block_is_single_line(&rows[lead..])
     }
 
-    // A brace behind `record` and its name opens a record, one in a record goes deeper.
+    // The record fields after such a `{`: after `record` and its name it opens a record, in a record it goes
+    // deeper.
     fn enter_record(mut self) -> Self
-        requires { ⌜ self .«record_depth» .0 < 4294967295 ⌝ }
+        requires { ⌜ self .«record_depth» .0 < most32 ⌝ }
         ensures does { λ r. ⌜ ((l : List ℕ) → Puts (update recordEntered) self l r l) ⌝ }
         ensures kept { λ r. ⌜ (r .indent ≡ self .indent) × (r .len ≡ self .len) ⌝ }
     {
@@ -257,10 +267,10 @@ impl Formatter {
         self
     }
 
-    // Emits `{` for a block over several lines, by the brace style.
+    // Writes the `{` of a block over several lines, by the brace style. `index` is the token's.
     fn open_block_multiline(mut self, options: Options, out: &mut [u8], index: u32) -> Self
-        requires { ⌜ Fits options self (now out) ⌝ }
-        requires { ⌜ index < 4294967295 ⌝ }
+        requires { ⌜ CanWrite options self (now out) ⌝ }
+        requires { ⌜ index < most32 ⌝ }
         ensures { λ r. ⌜ Puts (openBlock (optionsOf options) index)
             self (now (out .entry)) r (now (out .exit)) ⌝ }
     {
@@ -276,8 +286,9 @@ impl Formatter {
         self
     }
 
+    // Writes a `{` at the end of its line.
     fn open_same_line(mut self, out: &mut [u8]) -> Self
-        requires { ⌜ (self .len ≤ length (now out)) × (self .indent < 4294967295) ⌝ }
+        requires { ⌜ (self .len ≤ length (now out)) × (self .indent < most32) ⌝ }
         ensures { λ r. ⌜ Puts (braced openSameLine) self (now (out .entry)) r (now (out .exit)) ⌝ }
     {
         let len = write_brace(out, self.len, 1, b'{');
@@ -289,15 +300,16 @@ impl Formatter {
         self
     }
 
+    // Writes a `{` on a line of its own.
     fn open_allman(mut self, options: Options, out: &mut [u8], index: u32) -> Self
-        requires { ⌜ Fits options self (now out) ⌝ }
-        requires { ⌜ index < 4294967295 ⌝ }
+        requires { ⌜ CanWrite options self (now out) ⌝ }
+        requires { ⌜ index < most32 ⌝ }
         ensures { λ r. ⌜ Puts (braced (openAllman (optionsOf options) index)) self (now (out .entry))
             r (now (out .exit)) ⌝ }
     {
         let spaces = self.indent_size(options);
         let len = write_opener_line(out, self.len, self.at_line_start, spaces);
-        let suppressed = suppressed_behind(index);
+        let suppressed = suppressed_after(index);
         let brace = ended_by(kinds::LEFT_BRACE);
         self.len = len;
         self.indent = self.indent + 1;
@@ -307,7 +319,7 @@ impl Formatter {
         self
     }
 
-    // The braces of a one-line block.
+    // Opens a one-line block, or a block inside one.
     fn open_one_line(mut self, options: Options, out: &mut [u8]) -> Self
         requires { ⌜ Ready options self (now out) ⌝ }
         ensures { λ r. ⌜ Puts (openOneLine (optionsOf options))
@@ -324,8 +336,9 @@ impl Formatter {
         self
     }
 
+    // Writes the `{` of a one-line block and the spaces before it, and returns the text's length after it.
     fn write_inline_opener(self, options: Options, out: &mut [u8]) -> usize
-        requires { ⌜ Fits options self (now out) ⌝ }
+        requires { ⌜ CanWrite options self (now out) ⌝ }
         ensures { λ r. ⌜ Writes (now (out .entry)) (self .len)
             (oneLineBytes (optionsOf options) (fieldsOf self))
             (now (out .exit)) r ⌝ }
@@ -337,7 +350,8 @@ impl Formatter {
         write_brace(out, self.len, gap, b'{')
     }
 
-    // At a line's start the Rust writes no inner brace.
+    // Whether the `{` of a block inside a one-line block is left out: format.rs writes none at a line's
+    // start.
     fn omits_brace(self) -> bool
         ensures { λ r. ⌜ r ≡ inOneLineBlock (fieldsOf self) && self .«at_line_start» ⌝ }
     {

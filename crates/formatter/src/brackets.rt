@@ -7,7 +7,7 @@ use crate::Options;
 use crate::SignatureDepth;
 use crate::TokenAt;
 use crate::ended_by;
-use crate::suppressed_behind;
+use crate::suppressed_after;
 use lookahead::should_break_list;
 use lookahead::should_break_sig;
 use rows::kinds;
@@ -25,6 +25,7 @@ ghost use mathlib.Core.Option.{Option·map};
 ghost use mathlib.Core.Path.{_≡_};
 ghost use Prim.Native.Nat.{ℕ, _+_, _-_, _≤_, _<_};
 ghost use lib.ListN.{length};
+ghost use Rattle.shared.specs.Numbers.{most32};
 ghost use Rattle.rows.specs.Kinds.{LeftParen, RightParen, LeftBracket, RightBracket, Comma};
 ghost use Rattle.lookahead.specs.Measure.{shouldBreakList};
 ghost use Rattle.definition.specs.Arms.{atRecordFields, inBrokenList, atSignature, breaksList};
@@ -32,13 +33,14 @@ ghost use Rattle.definition.specs.Arms.{openList, openGroup, breakSignature};
 ghost use Rattle.definition.specs.Arms.{openSignature, leftParenArm, leftBracketArm};
 ghost use Rattle.definition.specs.Arms.{closeSignature, closeGroup, rightParenArm, rightBracketArm, commaArm};
 ghost use Rattle.definition.specs.PushToken.{overflows};
-ghost use Rattle.formatter.specs.Pen.{on, fieldsOf, fieldsOn, optionsOf, signatureOf};
+ghost use Rattle.formatter.specs.CodeState.{codeState, fieldsOf, fieldsOn, optionsOf, signatureOf};
 ghost use Rattle.formatter.specs.Does.{Done, Puts};
-ghost use Rattle.formatter.specs.Token.{Fits, Writable, Ready, StackRoom, InRows};
-ghost use Rattle.formatter.specs.Token.{Ahead, Here, bareToken, lexemeOf, depthOf};
+ghost use Rattle.formatter.specs.Token.{CanWrite, CanWriteLexeme, Ready, StackRoom, InRows};
+ghost use Rattle.formatter.specs.Token.{Ahead, AtToken, bareToken, lexemeOf, depthOf, stackSize};
 ghost use Rattle.formatter.specs.Parts.{closesSignature, closeList};
 
 impl Formatter {
+    // `(` opens a signature, a broken list or a group that stays on its line.
     pub fn left_paren_arm(
         mut self,
         options: Options,
@@ -52,11 +54,11 @@ impl Formatter {
         requires { ⌜ Ready options self (now out) × StackRoom self (now stack) ⌝ }
         requires { ⌜ InRows token (now rows) (now text) × Ahead ends (token .lead) (now rows) ⌝ }
         requires { ⌜ token .kind ≡ LeftParen ⌝ }
-        ensures { λ r. ⌜ Here token (now (rows .entry)) (now (text .entry))
+        ensures { λ r. ⌜ AtToken token (now (rows .entry)) (now (text .entry))
             (λ t ts. overflows (optionsOf options) t ts (fieldsOn self (now (stack .entry))) ≡ false
             → Done (leftParenArm (optionsOf options) (token .index) t ts)
-            (on self (now (stack .entry)) (now (out .entry)))
-            (on r (now (stack .exit)) (now (out .exit)))) ⌝ }
+            (codeState self (now (stack .entry)) (now (out .entry)))
+            (codeState r (now (stack .exit)) (now (out .exit)))) ⌝ }
     {
         if self.at_signature() {
             self = self.open_signature(options, out, rows, text, token);
@@ -72,7 +74,7 @@ impl Formatter {
         self
     }
 
-    // `fn name (` or `fn (`, outside one-line blocks.
+    // Whether a `(` opens a signature: `fn name (` or `fn (`, outside one-line blocks.
     pub fn at_signature(self) -> bool
         ensures { λ r. ⌜ r ≡ atSignature (fieldsOf self) ⌝ }
     {
@@ -85,11 +87,11 @@ impl Formatter {
         self.fn_state == 1
     }
 
-    // A list that breaks, outside one-line blocks and records.
+    // Whether the list that the token opens breaks: it is wide, and outside one-line blocks and records.
     pub fn breaks_list(self, options: Options, ends: Ends, rows: &[u8], token: TokenAt) -> bool
         requires { ⌜ token .lead ≤ length (now rows) ⌝ }
         requires { ⌜ Ahead ends (token .lead) (now rows) ⌝ }
-        ensures { λ r. ⌜ ((text : List ℕ) → Here token (now (rows .entry)) text
+        ensures { λ r. ⌜ ((text : List ℕ) → AtToken token (now (rows .entry)) text
             (λ t ts. r ≡ breaksList (optionsOf options) t ts (fieldsOf self))) ⌝ }
     {
         if self.in_one_line_block() {
@@ -101,6 +103,7 @@ impl Formatter {
         list_is_wide(options.list_width, ends, rows, token)
     }
 
+    // Opens a signature, broken or on its line.
     fn open_signature(
         mut self,
         options: Options,
@@ -112,7 +115,7 @@ impl Formatter {
         requires { ⌜ Ready options self (now out) ⌝ }
         requires { ⌜ InRows token (now rows) (now text) ⌝ }
         requires { ⌜ token .kind ≡ LeftParen ⌝ }
-        ensures { λ r. ⌜ Here token (now (rows .entry)) (now (text .entry))
+        ensures { λ r. ⌜ AtToken token (now (rows .entry)) (now (text .entry))
             (λ t ts. Puts (openSignature (optionsOf options) (token .index) t ts) self (now (out .entry))
             r (now (out .exit))) ⌝ }
     {
@@ -126,9 +129,10 @@ impl Formatter {
         self
     }
 
+    // Opens a broken signature. `index` is the token's.
     fn break_signature(mut self, options: Options, out: &mut [u8], index: u32) -> Self
         requires { ⌜ Ready options self (now out) ⌝ }
-        requires { ⌜ index < 4294967295 ⌝ }
+        requires { ⌜ index < most32 ⌝ }
         ensures { λ r. ⌜ Puts (breakSignature (optionsOf options) index)
             self (now (out .entry)) r (now (out .exit)) ⌝ }
     {
@@ -136,7 +140,7 @@ impl Formatter {
         let spaces = self.indent_size(options);
         let len = write_signature_line(out, self.len, spaces);
         let signature = SignatureDepth(Broken::At(1));
-        let suppressed = suppressed_behind(index);
+        let suppressed = suppressed_after(index);
         let paren = ended_by(kinds::LEFT_PAREN);
         let group = self.group_depth;
         let depth = GroupDepth(group.0 + 1);
@@ -149,7 +153,7 @@ impl Formatter {
         self
     }
 
-    // A wide list: one item a line.
+    // Opens a broken list, which has one item a line. `kind` is the token's, a constant in each call.
     fn open_list(
         mut self,
         options: Options,
@@ -162,18 +166,18 @@ impl Formatter {
     ) -> Self
         requires { ⌜ Ready options self (now out) × StackRoom self (now stack) ⌝ }
         requires { ⌜ InRows token (now rows) (now text) × (kind ≡ token .kind) ⌝ }
-        ensures { λ r. ⌜ (self .«break_count» < 64
+        ensures { λ r. ⌜ (self .«break_count» < stackSize
             → Done (openList (optionsOf options) (token .index)
             (bareToken kind (lexemeOf token (now (rows .entry)) (now (text .entry)))))
-            (on self (now (stack .entry)) (now (out .entry)))
-            (on r (now (stack .exit)) (now (out .exit)))) ⌝ }
+            (codeState self (now (stack .entry)) (now (out .entry)))
+            (codeState r (now (stack .exit)) (now (out .exit)))) ⌝ }
     {
         self = self.emit_token_text(options, out, rows, text, token, kind, Tail::Feed);
         let count = self.break_count;
         let group = self.group_depth;
         let inner = group.0 + 1;
         let depth = GroupDepth(inner);
-        let suppressed = suppressed_behind(token.index);
+        let suppressed = suppressed_after(token.index);
         push_entry(stack, count, inner as u32);
         self.indent = self.indent + 1;
         self.group_depth = depth;
@@ -183,7 +187,7 @@ impl Formatter {
         self
     }
 
-    // A group that stays on its line.
+    // Opens a group that stays on its line. `kind` is the token's, a constant in each call.
     fn open_group(
         mut self,
         options: Options,
@@ -193,7 +197,7 @@ impl Formatter {
         token: TokenAt,
         kind: u32,
     ) -> Self
-        requires { ⌜ Writable options self (now out) × (self .«group_depth» .0 < 4294967295) ⌝ }
+        requires { ⌜ CanWriteLexeme options self (now out) × (self .«group_depth» .0 < most32) ⌝ }
         requires { ⌜ InRows token (now rows) (now text) × (kind ≡ token .kind) ⌝ }
         ensures { λ r. ⌜ Puts (openGroup (optionsOf options)
             (bareToken kind (lexemeOf token (now (rows .entry)) (now (text .entry)))))
@@ -206,6 +210,7 @@ impl Formatter {
         self
     }
 
+    // `[` opens a broken list or a group that stays on its line.
     pub fn left_bracket_arm(
         mut self,
         options: Options,
@@ -219,11 +224,11 @@ impl Formatter {
         requires { ⌜ Ready options self (now out) × StackRoom self (now stack) ⌝ }
         requires { ⌜ InRows token (now rows) (now text) × Ahead ends (token .lead) (now rows) ⌝ }
         requires { ⌜ token .kind ≡ LeftBracket ⌝ }
-        ensures { λ r. ⌜ Here token (now (rows .entry)) (now (text .entry))
+        ensures { λ r. ⌜ AtToken token (now (rows .entry)) (now (text .entry))
             (λ t ts. overflows (optionsOf options) t ts (fieldsOn self (now (stack .entry))) ≡ false
             → Done (leftBracketArm (optionsOf options) (token .index) t ts)
-            (on self (now (stack .entry)) (now (out .entry)))
-            (on r (now (stack .exit)) (now (out .exit)))) ⌝ }
+            (codeState self (now (stack .entry)) (now (out .entry)))
+            (codeState r (now (stack .exit)) (now (out .exit)))) ⌝ }
     {
         if self.breaks_list(options, ends, rows, token) {
             self = self.open_list(options, out, stack, rows, text, token, kinds::LEFT_BRACKET);
@@ -233,6 +238,7 @@ impl Formatter {
         self
     }
 
+    // `)` closes a broken signature, a broken list or a group that stays on its line.
     pub fn right_paren_arm(
         mut self,
         options: Options,
@@ -244,10 +250,10 @@ impl Formatter {
     ) -> Self
         requires { ⌜ Ready options self (now out) × StackRoom self (now stack) ⌝ }
         requires { ⌜ InRows token (now rows) (now text) × (token .kind ≡ RightParen) ⌝ }
-        ensures { λ r. ⌜ Here token (now (rows .entry)) (now (text .entry))
+        ensures { λ r. ⌜ AtToken token (now (rows .entry)) (now (text .entry))
             (λ t ts. Done (rightParenArm (optionsOf options) t)
-            (on self (now (stack .entry)) (now (out .entry)))
-            (on r (now (stack .entry)) (now (out .exit)))) ⌝ }
+            (codeState self (now (stack .entry)) (now (out .entry)))
+            (codeState r (now (stack .entry)) (now (out .exit)))) ⌝ }
     {
         if self.closes_signature() {
             self = self.close_signature(options, out);
@@ -263,7 +269,7 @@ impl Formatter {
         self
     }
 
-    // `)` of a broken signature.
+    // Whether a `)` closes a broken signature.
     pub fn closes_signature(self) -> bool
         ensures { λ r. ⌜ r ≡ closesSignature (fieldsOf self) ⌝ }
     {
@@ -275,7 +281,7 @@ impl Formatter {
         }
     }
 
-    // `)` of a broken signature or list.
+    // Whether a `)` closes a broken signature or a broken list.
     pub fn closes_broken(self, stack: &[u32]) -> bool
         requires { ⌜ StackRoom self (now stack) ⌝ }
         ensures { λ r. ⌜ r ≡ closesSignature (fieldsOf self)
@@ -287,9 +293,9 @@ impl Formatter {
         self.in_broken_list(stack)
     }
 
-    // `)` stays at the indent of the params; the indent goes after it.
+    // Writes the `)` of a broken signature, at the indent of its parameters; the indent goes back after it.
     fn close_signature(mut self, options: Options, out: &mut [u8]) -> Self
-        requires { ⌜ Fits options self (now out) ⌝ }
+        requires { ⌜ CanWrite options self (now out) ⌝ }
         ensures { λ r. ⌜ Puts (closeSignature (optionsOf options))
             self (now (out .entry)) r (now (out .exit)) ⌝ }
     {
@@ -308,7 +314,7 @@ impl Formatter {
         self
     }
 
-    // The closer of a broken list; a comma of the layout's own may go before it.
+    // Writes the closer of a broken list, of this kind, and a comma before it where one is wanted.
     fn close_list(
         mut self,
         options: Options,
@@ -317,7 +323,7 @@ impl Formatter {
         closer: u8,
         kind: u32,
     ) -> Self
-        requires { ⌜ Fits options self (now out) × (self .commas < 4294967295) ⌝ }
+        requires { ⌜ CanWrite options self (now out) × (self .commas < most32) ⌝ }
         ensures { λ r. ⌜ Puts (closeList (optionsOf options) wanted (closer ∷ []) kind)
             self (now (out .entry)) r (now (out .exit)) ⌝ }
     {
@@ -336,7 +342,7 @@ impl Formatter {
         self
     }
 
-    // The closer of a group that stays on its line.
+    // Writes the closer of a group that stays on its line. `kind` is the token's, a constant in each call.
     fn close_group(
         mut self,
         options: Options,
@@ -346,7 +352,7 @@ impl Formatter {
         token: TokenAt,
         kind: u32,
     ) -> Self
-        requires { ⌜ Writable options self (now out) ⌝ }
+        requires { ⌜ CanWriteLexeme options self (now out) ⌝ }
         requires { ⌜ InRows token (now rows) (now text) × (kind ≡ token .kind) ⌝ }
         ensures { λ r. ⌜ Puts (closeGroup (optionsOf options)
             (bareToken kind (lexemeOf token (now (rows .entry)) (now (text .entry)))))
@@ -359,6 +365,7 @@ impl Formatter {
         self
     }
 
+    // `]` closes a broken list or a group that stays on its line.
     pub fn right_bracket_arm(
         mut self,
         options: Options,
@@ -370,10 +377,10 @@ impl Formatter {
     ) -> Self
         requires { ⌜ Ready options self (now out) × StackRoom self (now stack) ⌝ }
         requires { ⌜ InRows token (now rows) (now text) × (token .kind ≡ RightBracket) ⌝ }
-        ensures { λ r. ⌜ Here token (now (rows .entry)) (now (text .entry))
+        ensures { λ r. ⌜ AtToken token (now (rows .entry)) (now (text .entry))
             (λ t ts. Done (rightBracketArm (optionsOf options) t)
-            (on self (now (stack .entry)) (now (out .entry)))
-            (on r (now (stack .entry)) (now (out .exit)))) ⌝ }
+            (codeState self (now (stack .entry)) (now (out .entry)))
+            (codeState r (now (stack .entry)) (now (out .exit)))) ⌝ }
     {
         if self.in_broken_list(stack) {
             let wanted = !self.prev_is(kinds::COMMA);
@@ -384,6 +391,7 @@ impl Formatter {
         self
     }
 
+    // `,` ends its line or is a lexeme like others.
     pub fn comma_arm(
         mut self,
         options: Options,
@@ -395,14 +403,14 @@ impl Formatter {
     ) -> Self
         requires { ⌜ Ready options self (now out) × StackRoom self (now stack) ⌝ }
         requires { ⌜ InRows token (now rows) (now text) × (token .kind ≡ Comma) ⌝ }
-        ensures { λ r. ⌜ Here token (now (rows .entry)) (now (text .entry))
+        ensures { λ r. ⌜ AtToken token (now (rows .entry)) (now (text .entry))
             (λ t ts. Done (commaArm (optionsOf options) (token .index) t)
-            (on self (now (stack .entry)) (now (out .entry)))
-            (on r (now (stack .entry)) (now (out .exit)))) ⌝ }
+            (codeState self (now (stack .entry)) (now (out .entry)))
+            (codeState r (now (stack .entry)) (now (out .exit)))) ⌝ }
     {
         if self.breaks_comma(stack) {
             let len = write_comma_line(out, self.len);
-            let suppressed = suppressed_behind(token.index);
+            let suppressed = suppressed_after(token.index);
             let comma = ended_by(kinds::COMMA);
             self.len = len;
             self.suppress_newline_at = suppressed;
@@ -414,7 +422,7 @@ impl Formatter {
         self
     }
 
-    // A record's field or a broken list's item ends its line.
+    // Whether a `,` ends its line: after a record's field, or after an item of a broken list.
     pub fn breaks_comma(self, stack: &[u32]) -> bool
         requires { ⌜ StackRoom self (now stack) ⌝ }
         ensures { λ r. ⌜ r ≡ atRecordFields (fieldsOf self)
@@ -427,9 +435,9 @@ impl Formatter {
     }
 }
 
-// A `(` in a broken signature is one deeper in it.
+// `sig_break_depth` after a `(`: in a broken signature it is one more.
 fn deeper(signature: SignatureDepth) -> SignatureDepth
-    requires { ⌜ depthOf (signature .0) < 4294967295 ⌝ }
+    requires { ⌜ depthOf (signature .0) < most32 ⌝ }
     ensures { λ r. ⌜ signatureOf (r .0) ≡ Option·map (λ d. d + 1) (signatureOf (signature .0)) ⌝ }
 {
     let broken = signature.0;
@@ -439,6 +447,7 @@ fn deeper(signature: SignatureDepth) -> SignatureDepth
     }
 }
 
+// `sig_break_depth` after a `)` that does not end a broken signature.
 fn shallower(signature: SignatureDepth) -> SignatureDepth
     ensures { λ r. ⌜ signatureOf (r .0) ≡ Option·map (λ d. d - 1) (signatureOf (signature .0)) ⌝ }
 {
@@ -449,11 +458,12 @@ fn shallower(signature: SignatureDepth) -> SignatureDepth
     }
 }
 
-// Whether the list that the token opens is wide: not where no comma is left, or all tokens together are not too wide.
+// Whether the list that the token opens is wider than `list_width`: not where no comma is left, nor where all
+// tokens together are not wider.
 pub fn list_is_wide(list_width: u32, ends: Ends, rows: &[u8], token: TokenAt) -> bool
     requires { ⌜ token .lead ≤ length (now rows) ⌝ }
     requires { ⌜ Ahead ends (token .lead) (now rows) ⌝ }
-    ensures { λ r. ⌜ ((text : List ℕ) → Here token (now (rows .entry)) text
+    ensures { λ r. ⌜ ((text : List ℕ) → AtToken token (now (rows .entry)) text
         (λ t ts. r ≡ shouldBreakList «list_width» (t ∷ ts))) ⌝ }
 {
     let lead = token.lead;

@@ -1,4 +1,4 @@
-// `format`: the loop over the tokens, and `push_token`: the arm of a token's kind.
+// `format`, the loop over the tokens, and `push_token`, the arm of a token's kind.
 use crate::Ends;
 use crate::Formatted;
 use crate::Formatter;
@@ -16,17 +16,20 @@ ghost use mathlib.Core.Path.{_≡_};
 ghost use Prim.Native.Nat.{ℕ, _+_, _≤_, _<_};
 ghost use lib.Dec.{eqb, ltb};
 ghost use lib.ListN.{length};
-ghost use Rattle.rows.specs.Row.{rowsOf};
+ghost use Rattle.shared.specs.Numbers.{most32};
+ghost use Rattle.rows.specs.Options.{mostIndentWidth};
+ghost use Rattle.rows.specs.Row.{rowSize};
 ghost use Rattle.definition.specs.PushToken.{arm, overflows};
-ghost use Rattle.formatter.specs.Pen.{Aside, on, fieldsOn, optionsOf};
+ghost use Rattle.formatter.specs.CodeState.{Locals, codeState, fieldsOn, optionsOf};
 ghost use Rattle.formatter.specs.Does.{Does};
-ghost use Rattle.formatter.specs.Token.{Ready, StackRoom, InRows, Ahead, Here};
+ghost use Rattle.formatter.specs.Token.{Ready, StackRoom, InRows, Ahead, AtToken};
 ghost use Rattle.formatter.specs.Parts.{returnsEarly, tookNext};
-ghost use Rattle.formatter.specs.Format.{Fresh, Walks, Laid, NextToken, NextPlace, onlyTokens};
+ghost use Rattle.formatter.specs.Format.{Fresh, CheckedRows, LaidOut, NextToken, NextPlace, NoTriviaIf};
 
 impl Formatter {
-    // Lays out all tokens of checked rows. `bare` tells that no trivia is among them, if the caller knows it. What
-    // `push_token` of format.rs does around its arms stands here: in a method between, the state would be copied.
+    // Lays out all tokens of checked rows into `out`, and tells how that ends. Where `bare` is true, no row
+    // is trivia. What `push_token` of format.rs does around its arms stands here: in a method between, the
+    // state would be copied.
     pub fn format(
         mut self,
         options: Options,
@@ -36,11 +39,11 @@ impl Formatter {
         text: &[u8],
         bare: bool,
     ) -> Formatted
-        requires { ⌜ Fresh self (now stack) × (options .«indent_width» ≤ 16) ⌝ }
-        requires { ⌜ Walks (now rows) (now text) ⌝ }
-        requires { ⌜ (bare ≡ true → onlyTokens (rowsOf (now rows)) ≡ true) ⌝ }
-        ensures { λ r. ⌜ Laid (now (rows .entry)) (now (text .entry)) (optionsOf options) (now (out .entry))
-            r (now (out .exit)) ⌝ }
+        requires { ⌜ Fresh self (now stack) × (options .«indent_width» ≤ mostIndentWidth) ⌝ }
+        requires { ⌜ CheckedRows (now rows) (now text) ⌝ }
+        requires { ⌜ NoTriviaIf bare (now rows) ⌝ }
+        ensures { λ r. ⌜ LaidOut (now (rows .entry)) (now (text .entry)) (optionsOf options)
+            (now (out .entry)) r (now (out .exit)) ⌝ }
     {
         let ends = ends_of(rows, options.list_width);
         let mut place = Place { at: 0, index: 0 };
@@ -52,11 +55,15 @@ impl Formatter {
             } else {
                 self = self.push_leading(options, out, rows, text, token);
                 if out.len() < self.len {
-                    return Formatted::Full(place.index as usize);
+                    return Formatted::Full {
+                        index: place.index as usize,
+                    };
                 }
             }
             if self.overflows(options, ends, rows, token) {
-                return Formatted::Deep(place.index as usize);
+                return Formatted::Deep {
+                    index: place.index as usize,
+                };
             }
             let trails = self.writes_trailing(stack, rows, token);
             self = self.push_token(options, ends, out, stack, rows, text, token, inline_close);
@@ -66,23 +73,29 @@ impl Formatter {
             let state = self.track_fn_state(token.kind);
             self.fn_state = state;
             if out.len() < self.len {
-                return Formatted::Full(place.index as usize);
+                return Formatted::Full {
+                    index: place.index as usize,
+                };
             }
             place = self.next_place(rows, token, bare);
-            if self.is_steady(rows, place.at) {
-                let ahead = self.push_steady(out, stack, rows, text, place.at, bare);
-                self = self.behind_steady(ahead);
+            if self.may_start_fast_tokens(rows, place.at) {
+                let ahead = self.push_fast_tokens(out, stack, rows, text, place.at, bare);
+                self = self.after_fast_tokens(ahead);
                 place = place_at(place, ahead.at);
-            } else if self.is_nested(bare, rows, place.at) {
-                let braces = self.push_nested(out, rows, place.at);
-                self = self.behind_braces(braces);
+            } else if self.may_start_fast_braces(bare, rows, place.at) {
+                let braces = self.push_fast_braces(out, rows, place.at);
+                self = self.after_fast_braces(braces);
                 place = place_at(place, braces.at);
             }
         }
-        Formatted::Finished(self.len, self.commas)
+        Formatted::Finished {
+            length: self.len,
+            commas: self.commas,
+        }
     }
 
-    // The arms, in the order of format.rs. `inline_close`: a one-line block's `}` stands right before the token.
+    // Does the arm of the token's kind; they stand in the order of format.rs. `inline_close` is true where
+    // the `}` of a one-line block stands right before the token.
     fn push_token(
         mut self,
         options: Options,
@@ -96,12 +109,12 @@ impl Formatter {
     ) -> Self
         requires { ⌜ Ready options self (now out) × StackRoom self (now stack) ⌝ }
         requires { ⌜ InRows token (now rows) (now text) × Ahead ends (token .lead) (now rows) ⌝ }
-        ensures { λ r. ⌜ Here token (now (rows .entry)) (now (text .entry))
-            (λ t ts. (x : Aside) → x .inlineClose ≡ «inline_close»
+        ensures { λ r. ⌜ AtToken token (now (rows .entry)) (now (text .entry))
+            (λ t ts. (x : Locals) → x .inlineClose ≡ «inline_close»
             → overflows (optionsOf options) t ts (fieldsOn self (now (stack .entry))) ≡ false
             → Does (arm (optionsOf options) (token .index) t ts) x
-            (on self (now (stack .entry)) (now (out .entry)))
-            (on r (now (stack .exit)) (now (out .exit)))) ⌝ }
+            (codeState self (now (stack .entry)) (now (out .entry)))
+            (codeState r (now (stack .exit)) (now (out .exit)))) ⌝ }
     {
         let kind = token.kind;
         match kind {
@@ -127,7 +140,7 @@ impl Formatter {
         }
     }
 
-    // A one-line block's `}` stands right before the token, without trivia between.
+    // Whether the `}` of a one-line block stands right before the token, without trivia between.
     fn takes_inline_close(self, token: TokenAt) -> bool
         ensures { λ r. ⌜ r ≡ eqb (token .lead) (token .own) && self .«just_closed_inline» ⌝ }
     {
@@ -137,11 +150,11 @@ impl Formatter {
         false
     }
 
-    // Refusal 4: the stack is full, and the token would open one more broken list.
+    // Whether refusal 4 is due: the stack is full, and the token would open one more broken list.
     fn overflows(self, options: Options, ends: Ends, rows: &[u8], token: TokenAt) -> bool
         requires { ⌜ token .lead ≤ length (now rows) ⌝ }
         requires { ⌜ Ahead ends (token .lead) (now rows) ⌝ }
-        ensures { λ r. ⌜ ((s text : List ℕ) → Here token (now (rows .entry)) text
+        ensures { λ r. ⌜ ((s text : List ℕ) → AtToken token (now (rows .entry)) text
             (λ t ts. r ≡ overflows (optionsOf options) t ts (fieldsOn self s))) ⌝ }
     {
         if self.break_count < 64 {
@@ -160,12 +173,12 @@ impl Formatter {
         false
     }
 
-    // Whether there is trailing trivia, and the arm does not return before it.
+    // Whether the token has trailing trivia, and its arm does not return before them.
     fn writes_trailing(self, stack: &[u32], rows: &[u8], token: TokenAt) -> bool
         requires { ⌜ StackRoom self (now stack) ⌝ }
-        requires { ⌜ (token .own + 16 ≤ token .next) × (token .next ≤ length (now rows)) ⌝ }
-        ensures { λ r. ⌜ ((text : List ℕ) → Here token (now (rows .entry)) text
-            (λ t ts. r ≡ ltb (token .own + 16) (token .next)
+        requires { ⌜ (token .own + rowSize ≤ token .next) × (token .next ≤ length (now rows)) ⌝ }
+        ensures { λ r. ⌜ ((text : List ℕ) → AtToken token (now (rows .entry)) text
+            (λ t ts. r ≡ ltb (token .own + rowSize) (token .next)
             && not (returnsEarly t ts (fieldsOn self (now (stack .entry)))))) ⌝ }
     {
         if token.next == token.own + ROW_BYTES {
@@ -180,9 +193,9 @@ impl Formatter {
         }
     }
 
-    // Where the next token's rows start, and its index. Behind `record E {}` the `}` was taken along.
+    // Where the next token's rows start, and its index. The `{` of `record E {}` took the `}` along.
     fn next_place(self, rows: &[u8], token: TokenAt, bare: bool) -> Place
-        requires { ⌜ (token .next ≤ length (now rows)) × (token .index < 4294967294) ⌝ }
+        requires { ⌜ (token .next ≤ length (now rows)) × (token .index + 1 < most32) ⌝ }
         requires { ⌜ (tookNext (token .kind) (self .prev .kind) ≡ true
             → NextToken (now rows) (token .next) bare) ⌝ }
         ensures { λ r. ⌜ NextPlace (now (rows .entry)) token (tookNext (token .kind) (self .prev .kind)) r ⌝ }

@@ -22,13 +22,16 @@ ghost use Rattle.rows.specs.Kinds.{Else, Other};
 ghost use Rattle.definition.specs.Emit.{isSome, trackFnState, trackMinus, pushLexeme};
 ghost use Rattle.definition.specs.Arms.{elseArm, elseOnNewLine, otherArm};
 ghost use Rattle.sink.specs.Tail.{tailBytes};
-ghost use Rattle.formatter.specs.Pen.{Aside, on, fieldsOf, formatterOf, optionsOf, signatureOf};
+ghost use Rattle.formatter.specs.CodeState.{Locals, codeState, fieldsOf, formatterOf};
+ghost use Rattle.formatter.specs.CodeState.{optionsOf, signatureOf};
 ghost use Rattle.formatter.specs.Does.{Does, Puts};
-ghost use Rattle.formatter.specs.Token.{Writable, Ready, InRows, Kept};
-ghost use Rattle.formatter.specs.Token.{Here, bareToken, lexemeOf, kindOf};
+ghost use Rattle.formatter.specs.Token.{CanWriteLexeme, Ready, InRows, Kept};
+ghost use Rattle.formatter.specs.Token.{IndentBounds, AtToken, bareToken, lexemeOf, kindOf, pastIndent};
 ghost use Rattle.formatter.specs.Parts.{gapSize, indentOrSpaceSize, emitTail};
 
 impl Formatter {
+    // `else` starts a line after the `}` of a block over several lines, or is a lexeme like others.
+    // `inline_close` is true where the `}` of a one-line block stands right before it.
     pub fn else_arm(
         mut self,
         options: Options,
@@ -40,10 +43,10 @@ impl Formatter {
     ) -> Self
         requires { ⌜ Ready options self (now out) ⌝ }
         requires { ⌜ InRows token (now rows) (now text) × (token .kind ≡ Else) ⌝ }
-        ensures { λ r. ⌜ Here token (now (rows .entry)) (now (text .entry))
-            (λ t ts. (s : List ℕ) (x : Aside) → x .inlineClose ≡ «inline_close»
-            → Does (elseArm (optionsOf options) t) x (on self s (now (out .entry)))
-            (on r s (now (out .exit)))) ⌝ }
+        ensures { λ r. ⌜ AtToken token (now (rows .entry)) (now (text .entry))
+            (λ t ts. (s : List ℕ) (x : Locals) → x .inlineClose ≡ «inline_close»
+            → Does (elseArm (optionsOf options) t) x (codeState self s (now (out .entry)))
+            (codeState r s (now (out .exit)))) ⌝ }
     {
         if self.else_on_new_line(inline_close) {
             let spaces = self.indent_size(options);
@@ -58,8 +61,9 @@ impl Formatter {
         self
     }
 
+    // Whether `else` starts a line.
     fn else_on_new_line(self, inline_close: bool) -> bool
-        ensures { λ r. ⌜ ((s : List ℕ) (x : Aside) → x .inlineClose ≡ «inline_close»
+        ensures { λ r. ⌜ ((s : List ℕ) (x : Locals) → x .inlineClose ≡ «inline_close»
             → r ≡ elseOnNewLine (formatterOf self s x)) ⌝ }
     {
         if self.in_one_line_block() {
@@ -74,7 +78,8 @@ impl Formatter {
         self.prev_is(kinds::RIGHT_BRACE)
     }
 
-    // `record` arms the record layout, a name leaves it armed, anything else disarms it.
+    // Any other token writes its lexeme. `record` sets `record_pending`, a name leaves it, anything else
+    // clears it.
     pub fn other_arm(
         mut self,
         options: Options,
@@ -85,7 +90,7 @@ impl Formatter {
     ) -> Self
         requires { ⌜ Ready options self (now out) ⌝ }
         requires { ⌜ InRows token (now rows) (now text) ⌝ }
-        ensures { λ r. ⌜ Here token (now (rows .entry)) (now (text .entry))
+        ensures { λ r. ⌜ AtToken token (now (rows .entry)) (now (text .entry))
             (λ t ts. Puts (otherArm (optionsOf options) t) self (now (out .entry)) r (now (out .exit))) ⌝ }
     {
         let kind = token.kind;
@@ -94,8 +99,8 @@ impl Formatter {
         self.push_lexeme(options, out, rows, text, token, kind)
     }
 
-    // The default token emission: indent, spacing, lexeme, unary `-` state. `kind` is the token's, a constant
-    // in most arms.
+    // Writes the spaces and the token's lexeme, and tracks `prev` and whether a `-` is unary. `kind` is the
+    // token's, a constant in most arms.
     pub fn push_lexeme(
         mut self,
         options: Options,
@@ -105,7 +110,7 @@ impl Formatter {
         token: TokenAt,
         kind: u32,
     ) -> Self
-        requires { ⌜ Writable options self (now out) ⌝ }
+        requires { ⌜ CanWriteLexeme options self (now out) ⌝ }
         requires { ⌜ InRows token (now rows) (now text) × (kind ≡ token .kind) ⌝ }
         ensures does { λ r. ⌜ Puts (pushLexeme (optionsOf options)
             (bareToken kind (lexemeOf token (now (rows .entry)) (now (text .entry)))))
@@ -118,7 +123,8 @@ impl Formatter {
         self
     }
 
-    // Spacing, lexeme and `prev`, without the unary `-` state; and what stands behind them.
+    // Writes the spaces, the token's lexeme and the tail after it, and tracks `prev`; it does not track
+    // whether a `-` is unary.
     pub fn emit_token_text(
         mut self,
         options: Options,
@@ -129,7 +135,7 @@ impl Formatter {
         kind: u32,
         tail: Tail,
     ) -> Self
-        requires { ⌜ Writable options self (now out) ⌝ }
+        requires { ⌜ CanWriteLexeme options self (now out) ⌝ }
         requires { ⌜ InRows token (now rows) (now text) × (kind ≡ token .kind) ⌝ }
         ensures does { λ r. ⌜ Puts (emitTail (optionsOf options)
             (bareToken kind (lexemeOf token (now (rows .entry)) (now (text .entry)))) (tailBytes tail))
@@ -145,11 +151,11 @@ impl Formatter {
         self
     }
 
-    // How many spaces stand before a token of the kind: the indent at a line's start, else one or none.
+    // How many spaces stand before a token of this kind: the indent at a line's start, else one or none.
     pub fn gap_before(self, options: Options, kind: u32) -> usize
-        requires { ⌜ (options .«indent_width» ≤ 16) × (self .indent ≤ 4294967295) ⌝ }
+        requires { ⌜ IndentBounds options self ⌝ }
         requires { ⌜ (kindOf (self .prev .kind) ≤ Other) × (kind ≤ Other) ⌝ }
-        ensures { λ r. ⌜ (r ≡ gapSize (optionsOf options) kind (fieldsOf self)) × (r < 68719476736) ⌝ }
+        ensures { λ r. ⌜ (r ≡ gapSize (optionsOf options) kind (fieldsOf self)) × (r < pastIndent) ⌝ }
     {
         if self.at_line_start {
             return self.indent_size(options);
@@ -162,10 +168,10 @@ impl Formatter {
         }
     }
 
-    // `push_trivia_gap`: the indent at a line's start, else a space.
+    // How many spaces `push_trivia_gap` of format.rs writes: the indent at a line's start, else one.
     pub fn indent_or_space(self, options: Options) -> usize
-        requires { ⌜ (options .«indent_width» ≤ 16) × (self .indent ≤ 4294967295) ⌝ }
-        ensures { λ r. ⌜ (r ≡ indentOrSpaceSize (optionsOf options) (fieldsOf self)) × (r < 68719476736) ⌝ }
+        requires { ⌜ IndentBounds options self ⌝ }
+        ensures { λ r. ⌜ (r ≡ indentOrSpaceSize (optionsOf options) (fieldsOf self)) × (r < pastIndent) ⌝ }
     {
         if self.at_line_start {
             return self.indent_size(options);
@@ -173,7 +179,7 @@ impl Formatter {
         1
     }
 
-    // Whether the last `-` is unary, once a token of the kind has come.
+    // `prev_minus_is_unary` after a token of this kind.
     fn minus_is_unary_after(self, kind: u32) -> bool
         ensures { λ r. ⌜ r ≡ trackMinus kind (fieldsOf self) .prevMinusIsUnary ⌝ }
     {
@@ -189,7 +195,8 @@ impl Formatter {
         }
     }
 
-    // Tracks `fn name (`: `fn_state` behind a token of the kind. A state of 0 is asked for first.
+    // `fn_state` after a token of this kind, which tracks `fn name (`. The state 0, which is most frequent,
+    // is asked for first.
     pub fn track_fn_state(self, kind: u32) -> u8
         ensures { λ r. ⌜ r ≡ trackFnState kind (fieldsOf self) .fnState ⌝ }
     {
@@ -210,6 +217,7 @@ impl Formatter {
         }
     }
 
+    // Whether the walk is in a broken signature.
     pub fn in_broken_signature(self) -> bool
         ensures { λ r. ⌜ r ≡ isSome (signatureOf (self .«sig_break_depth» .0)) ⌝ }
     {
@@ -222,7 +230,7 @@ impl Formatter {
     }
 }
 
-// A name behind `fn`.
+// `fn_state` after a name: 2 where `fn` stands before it.
 fn named_after(state: u8) -> u8
     ensures { λ r. ⌜ r ≡ cond (eqb state 1) 2 0 ⌝ }
 {

@@ -1,39 +1,45 @@
-// The formatter of format.rs: its state and its methods, under the names that they have there. The state goes
-// in and comes back by value. The output, the broken-group stack, the rows and the text are lent beside it.
+// The formatter of format.rs: its state and its methods, under the names that they have there. A method takes
+// the state by value and returns it. The output, the broken-group stack, the rows and the text are lent to
+// it.
 ghost use mathlib.Core.List.{List};
 ghost use mathlib.Core.Path.{_≡_};
 ghost use Prim.Native.Nat.{ℕ, _+_, _*_, _≤_, _<_};
 ghost use lib.ListN.{length};
+ghost use Rattle.shared.specs.Numbers.{most32};
 ghost use Rattle.definition.specs.Emit.{isAt};
 ghost use Rattle.definition.specs.Arms.{atRecordFields, inBrokenList, inOneLineBlock};
-ghost use Rattle.formatter.specs.Pen.{prevOf, fieldsOf, fieldsOn};
-ghost use Rattle.formatter.specs.Token.{StackRoom};
+ghost use Rattle.formatter.specs.CodeState.{prevOf, fieldsOf, fieldsOn};
+ghost use Rattle.formatter.specs.Token.{IndentBounds, StackRoom, pastIndent, stackSize};
 ghost use Rattle.formatter.specs.Format.{Fresh};
 
 pub mod braces;
 pub mod brackets;
+pub mod fast_braces;
+pub mod fast_tokens;
 pub mod format;
 pub mod lexeme;
 pub mod lines;
-pub mod nested;
-pub mod steady;
 pub mod token;
 pub mod trivia;
 
-// `prev`: an Option in format.rs. A field of an enum type cannot be assigned by itself, so each enum stands
-// in a struct.
+// The last token's kind: `prev`, an Option in format.rs.
 pub enum Prev {
+    // No token has come yet.
     Nothing,
+    // The last token has this kind.
     Kind(u32),
 }
 
+// A field of an enum type cannot be assigned by itself, so each enum stands in a struct.
 pub struct Before {
     pub kind: Prev,
 }
 
-// `suppress_newline_at`: an Option in format.rs.
+// Which Newline is swallowed: `suppress_newline_at`, an Option in format.rs.
 pub enum NewlineAt {
+    // No Newline is swallowed.
     Never,
+    // The token at this index is swallowed, if it is a Newline.
     Index(u32),
 }
 
@@ -41,13 +47,15 @@ pub struct Suppressed {
     pub at: NewlineAt,
 }
 
-// `sig_break_depth`: an Option in format.rs.
+// Where in a broken signature the walk is: `sig_break_depth`, an Option in format.rs.
 pub enum Broken {
+    // The walk is in no broken signature.
     Nowhere,
+    // The walk is inside this many parens of a broken signature.
     At(u32),
 }
 
-// Four separate counts.
+// Four counts, each with a type of its own so that none is taken for another.
 pub struct SignatureDepth(pub Broken);
 
 pub struct GroupDepth(pub usize);
@@ -56,8 +64,11 @@ pub struct InlineDepth(pub usize);
 
 pub struct RecordDepth(pub usize);
 
+// Where the `{` of a block over several lines stands.
 pub enum BraceStyle {
+    // It ends the line that opens the block.
     SameLine,
+    // It has a line of its own.
     Allman,
 }
 
@@ -68,8 +79,8 @@ pub struct Options {
     pub list_width: u32,
 }
 
-// A token's place: its kind, its index among the tokens, where its leading rows start, where its own row
-// does, and where its trailing rows end.
+// A token: its kind, its index among the tokens, where its leading rows start, where its own row starts, and
+// where its trailing rows end.
 pub struct TokenAt {
     pub kind: u32,
     pub index: u32,
@@ -78,9 +89,10 @@ pub struct TokenAt {
     pub next: usize,
 }
 
-// Behind the last Comma and behind the last `}` of all rows, or the rows' end where they were not looked for: from
-// there on no list breaks, and no block is one line. `width` is of all tokens together, as a list's width counts
-// them; 0 where it was not measured.
+// What all rows tell at once. `commas` and `braces` are the indexes after the last Comma and after the last
+// `}`, or the rows' end where they were not looked for: from there on no list breaks, and no block is one
+// line. `width` is the width of all tokens together, as a list's width counts them; it is 0 where it was not
+// measured.
 pub struct Ends {
     pub commas: usize,
     pub braces: usize,
@@ -88,8 +100,8 @@ pub struct Ends {
 }
 
 // The fields of format.rs under its names. The port adds `len`, the length of the text, which is one past the
-// output's end once something did not fit; `break_count`, the number of entries of the broken-group stack;
-// and `commas`, the number of inserted commas. Their order was found by counting instructions
+// output's end once something did not fit; `break_count`, the number of entries on the broken-group stack;
+// and `commas`, the number of inserted commas. The order of the fields was found by counting instructions
 // (docs/BENCHMARKS.md); the order of format.rs takes a tenth more.
 pub struct Formatter {
     pub fn_state: u8,
@@ -110,16 +122,20 @@ pub struct Formatter {
     pub prev: Before,
 }
 
-// How a layout ends: with the length of the text and the number of inserted commas, or with refusal 4 or 5 at a token.
+// How a layout ends.
 pub enum Formatted {
-    Finished(usize, usize),
-    Deep(usize),
-    Full(usize),
+    // All tokens are laid out: the text has this many bytes, and this many commas in it were inserted.
+    Finished { length: usize, commas: usize },
+    // Refusal 4: the broken-group stack is full, and the token at this index would open one more broken list.
+    Deep { index: usize },
+    // Refusal 5: the text of the token at this index does not fit the output.
+    Full { index: usize },
 }
 
 impl Formatter {
+    // The state before the first token.
     pub fn new() -> Self
-        ensures { λ r. ⌜ ((stack : List ℕ) → 64 ≤ length stack → Fresh r stack) ⌝ }
+        ensures { λ r. ⌜ ((stack : List ℕ) → stackSize ≤ length stack → Fresh r stack) ⌝ }
     {
         Formatter {
             fn_state: 0,
@@ -147,6 +163,7 @@ impl Formatter {
 
     // ---- tests that several arms make
 
+    // Whether the last token has this kind.
     pub fn prev_is(self, kind: u32) -> bool
         ensures { λ r. ⌜ r ≡ isAt (prevOf (self .prev .kind)) kind ⌝ }
     {
@@ -158,6 +175,7 @@ impl Formatter {
         }
     }
 
+    // Whether the walk is inside a block that stays on its line.
     pub fn in_one_line_block(self) -> bool
         ensures { λ r. ⌜ r ≡ inOneLineBlock (fieldsOf self) ⌝ }
     {
@@ -165,7 +183,7 @@ impl Formatter {
         0 < depth.0
     }
 
-    // Directly in a record.
+    // Whether the walk is directly inside a record, and in no brace within it.
     pub fn at_record_fields(self) -> bool
         ensures { λ r. ⌜ r ≡ atRecordFields (fieldsOf self) ⌝ }
     {
@@ -173,7 +191,7 @@ impl Formatter {
         self.in_record && depth.0 == 1
     }
 
-    // Directly in the innermost broken list.
+    // Whether the walk is directly inside the innermost broken list, and in no group within it.
     pub fn in_broken_list(self, stack: &[u32]) -> bool
         requires { ⌜ StackRoom self (now stack) ⌝ }
         ensures { λ r. ⌜ r ≡ inBrokenList (fieldsOn self (now (stack .entry))) ⌝ }
@@ -187,16 +205,16 @@ impl Formatter {
         false
     }
 
-    // `indent_str`: how many spaces it has.
+    // How many spaces an indent has: the length of `indent_str` in format.rs.
     pub fn indent_size(self, options: Options) -> usize
-        requires { ⌜ (options .«indent_width» ≤ 16) × (self .indent ≤ 4294967295) ⌝ }
-        ensures { λ r. ⌜ (r ≡ options .«indent_width» * self .indent) × (r < 68719476736) ⌝ }
+        requires { ⌜ IndentBounds options self ⌝ }
+        ensures { λ r. ⌜ (r ≡ options .«indent_width» * self .indent) × (r < pastIndent) ⌝ }
     {
         (options.indent_width as usize) * self.indent
     }
 }
 
-// The last kind is this one.
+// The field `prev` after a token of this kind.
 pub fn ended_by(kind: u32) -> Before
     ensures { λ r. ⌜ r .kind ≡ Prev.Kind kind ⌝ }
 {
@@ -205,9 +223,9 @@ pub fn ended_by(kind: u32) -> Before
     }
 }
 
-// A Newline right behind the token at `index` is swallowed.
-pub fn suppressed_behind(index: u32) -> Suppressed
-    requires { ⌜ index < 4294967295 ⌝ }
+// The field `suppress_newline_at` that swallows a Newline right after the token at `index`.
+pub fn suppressed_after(index: u32) -> Suppressed
+    requires { ⌜ index < most32 ⌝ }
     ensures { λ r. ⌜ r .at ≡ NewlineAt.Index (index + 1) ⌝ }
 {
     Suppressed {

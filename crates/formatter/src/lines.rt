@@ -13,35 +13,38 @@ ghost use mathlib.Core.List.{List};
 ghost use mathlib.Core.Path.{_≡_};
 ghost use Prim.Native.Nat.{ℕ, _+_, _≤_};
 ghost use lib.ListN.{length};
+ghost use Rattle.rows.specs.Row.{rowSize};
 ghost use Rattle.rows.specs.Token.{tokensOf};
 ghost use Rattle.definition.specs.Act.{nothing};
 ghost use Rattle.definition.specs.Emit.{isAt};
 ghost use Rattle.definition.specs.Arms.{newlineArm};
-ghost use Rattle.formatter.specs.Pen.{Aside, on, newlineOf, stateOf};
+ghost use Rattle.formatter.specs.CodeState.{Locals, codeState, newlineOf, stateOf};
 ghost use Rattle.formatter.specs.Does.{Puts};
-ghost use Rattle.formatter.specs.Token.{Here};
+ghost use Rattle.formatter.specs.Token.{AtToken};
 ghost use Rattle.formatter.specs.Parts.{feedsLine};
 
 impl Formatter {
+    // Eof changes nothing.
     pub fn eof_arm(self) -> Self
         ensures { λ r. ⌜ ((l : List ℕ) → Puts nothing self l r l) ⌝ }
     {
         self
     }
 
+    // Newline: it is swallowed, or writes a line feed, or is left out.
     pub fn newline_arm(mut self, out: &mut [u8], rows: &[u8], token: TokenAt) -> Self
-        requires { ⌜ token .own + 16 ≤ length (now rows) ⌝ }
-        ensures { λ r. ⌜ ((text : List ℕ) → Here token (now (rows .entry)) text
+        requires { ⌜ token .own + rowSize ≤ length (now rows) ⌝ }
+        ensures { λ r. ⌜ ((text : List ℕ) → AtToken token (now (rows .entry)) text
             (λ t ts. Puts (newlineArm (token .index) ts) self (now (out .entry)) r (now (out .exit)))) ⌝ }
     {
-        let behind = token.own + ROW_BYTES;
+        let after = token.own + ROW_BYTES;
         if self.suppresses(token.index) {
             let never = Suppressed {
                 at: NewlineAt::Never,
             };
             self.suppress_newline_at = never;
         } else {
-            if self.feeds(out, &rows[behind..]) {
+            if self.feeds(out, &rows[after..]) {
                 let len = write_byte(out, self.len, b'\n');
                 let newline = ended_by(kinds::NEWLINE);
                 self.len = len;
@@ -52,6 +55,7 @@ impl Formatter {
         self
     }
 
+    // Whether a Newline at this index is swallowed.
     fn suppresses(self, index: u32) -> bool
         ensures { λ r. ⌜ r ≡ isAt (newlineOf (self .«suppress_newline_at» .at)) index ⌝ }
     {
@@ -63,12 +67,12 @@ impl Formatter {
         }
     }
 
-    // Whether a Newline that is not suppressed is written: not at the text's start before a comment, not in a
-    // record or a one-line block, and no third line feed.
+    // Whether a Newline that is not swallowed writes a line feed, before the tokens of `rows`: not at the
+    // text's start before a comment, not in a record or a one-line block, and never a third line feed.
     fn feeds(self, out: &[u8], rows: &[u8]) -> bool
-        ensures { λ r. ⌜ ((s text : List ℕ) (x : Aside) → self .len ≤ length (now (out .entry))
+        ensures { λ r. ⌜ ((s text : List ℕ) (x : Locals) → self .len ≤ length (now (out .entry))
             → r ≡ feedsLine (tokensOf (now (rows .entry)) text) (stateOf x
-            (on self s (now (out .entry))))) ⌝ }
+            (codeState self s (now (out .entry))))) ⌝ }
     {
         let len = self.len;
         if len == 0 {

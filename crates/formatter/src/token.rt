@@ -1,4 +1,4 @@
-// A token's rows, and what all rows tell.
+// Which rows are a token's, and what all rows tell.
 use crate::Ends;
 use crate::TokenAt;
 use lookahead::behind_last;
@@ -10,7 +10,8 @@ use rows::row_at;
 ghost use mathlib.Core.Path.{_≡_};
 ghost use Prim.Native.Nat.{_+_, _-_, _*_, _/_, _≤_};
 ghost use lib.ListN.{length, drop};
-ghost use Rattle.rows.specs.Row.{rowsOf};
+ghost use Rattle.rows.specs.Checks.{mostRows, mostRowBytes};
+ghost use Rattle.rows.specs.Row.{rowSize, rowsOf};
 ghost use Rattle.formatter.specs.Format.{Ending, NextToken, TokenRows, runRows, ownRow, nextRow};
 
 // Where a token's rows start, and its index among the tokens.
@@ -19,13 +20,15 @@ pub struct Place {
     pub index: u32,
 }
 
-// The list width from which on all tokens are measured together; below it a list's measure ends within so many tokens.
+// From this list width on, all tokens are measured together; below it, a list's measure ends within so many
+// tokens.
 const WIDE: u32 = 1024;
 
-// The bytes of rows up to which nothing is looked for: 64 rows, in which each lookahead is short.
+// Up to this many bytes of rows nothing is looked for: in 64 rows each lookahead is short.
 const FEW: usize = 1024;
 
-// The token whose rows start at `lead`: its own row alone, where there is no trivia.
+// Finds the token whose rows start at `lead`, which has this index. Where `bare` is true, that is its own row
+// alone.
 pub fn token_at(rows: &[u8], lead: usize, index: u32, bare: bool) -> TokenAt
     requires { ⌜ NextToken (now rows) lead bare ⌝ }
     ensures { λ r. ⌜ TokenRows (now (rows .entry)) lead index r ⌝ }
@@ -38,8 +41,9 @@ pub fn token_at(rows: &[u8], lead: usize, index: u32, bare: bool) -> TokenAt
     token_of(rows, lead, own, next, index)
 }
 
+// The token of these three rows.
 fn token_of(rows: &[u8], lead: usize, own: usize, next: usize, index: u32) -> TokenAt
-    requires { ⌜ own + 16 ≤ length (now rows) ⌝ }
+    requires { ⌜ own + rowSize ≤ length (now rows) ⌝ }
     requires { ⌜ (own ≡ ownRow (now rows) lead) × (next ≡ nextRow (now rows) own) ⌝ }
     ensures { λ r. ⌜ TokenRows (now (rows .entry)) lead index r ⌝ }
 {
@@ -52,10 +56,10 @@ fn token_of(rows: &[u8], lead: usize, own: usize, next: usize, index: u32) -> To
     }
 }
 
-// Where the rows of a what end that start at `at`.
+// Returns the index after the rows of this what that start at `at`.
 fn rows_end(rows: &[u8], at: usize, what: u32) -> usize
     requires { ⌜ at ≤ length (now rows) ⌝ }
-    ensures { λ r. ⌜ r ≡ at + 16 * runRows what (rowsOf (drop at (now (rows .entry)))) ⌝ }
+    ensures { λ r. ⌜ r ≡ at + rowSize * runRows what (rowsOf (drop at (now (rows .entry)))) ⌝ }
 {
     let mut end = at;
     while ROW_BYTES <= rows.len() - end {
@@ -68,9 +72,10 @@ fn rows_end(rows: &[u8], at: usize, what: u32) -> usize
     end
 }
 
-// What stands for the last time in the rows, and how wide all tokens are, found once; few rows are not searched.
+// Finds where the last Comma and the last `}` stand in the rows, and how wide all tokens are. Few rows are
+// not searched.
 pub fn ends_of(rows: &[u8], list_width: u32) -> Ends
-    requires { ⌜ length (now rows) ≤ 1048560 ⌝ }
+    requires { ⌜ length (now rows) ≤ mostRowBytes ⌝ }
     ensures { λ r. ⌜ Ending (now (rows .entry)) r ⌝ }
 {
     if rows.len() <= FEW {
@@ -97,10 +102,11 @@ pub fn ends_of(rows: &[u8], list_width: u32) -> Ends
     }
 }
 
-// The place of the row at `at`: from `place` on, which stands before it, each row is a token's.
+// Returns the place of the row at `at`, where from `place` up to there each row is a token of its own.
 pub fn place_at(place: Place, at: usize) -> Place
-    requires { ⌜ (place .at ≤ at) × (at ≤ 1048560) × (place .index + (at - place .at) / 16 ≤ 65535) ⌝ }
-    ensures { λ r. ⌜ (r .at ≡ at) × (r .index ≡ place .index + (at - place .at) / 16) ⌝ }
+    requires { ⌜ (place .at ≤ at) × (at ≤ mostRowBytes)
+        × (place .index + (at - place .at) / rowSize ≤ mostRows) ⌝ }
+    ensures { λ r. ⌜ (r .at ≡ at) × (r .index ≡ place .index + (at - place .at) / rowSize) ⌝ }
 {
     let passed = (at - place.at) / ROW_BYTES;
     let index = place.index + passed as u32;

@@ -1,4 +1,4 @@
-// Leading and trailing trivia of `push_token`.
+// The leading and trailing trivia of `push_token`.
 use crate::Formatter;
 use crate::Options;
 use crate::TokenAt;
@@ -14,16 +14,18 @@ ghost use mathlib.Core.List.{List, []};
 ghost use mathlib.Core.Path.{_≡_};
 ghost use Prim.Native.Nat.{ℕ, _+_, _≤_, _<_};
 ghost use Rattle.rows.specs.Options;
+ghost use Rattle.rows.specs.Row.{rowSize};
 ghost use Rattle.rows.specs.Bounds.{Inside, rowOf};
 ghost use Rattle.rows.specs.Token.{triviaOf};
 ghost use Rattle.definition.specs.Emit.{leadAct, trailingTrivia};
 ghost use Rattle.sink.specs.Sink.{Writes};
-ghost use Rattle.formatter.specs.Pen.{optionsOf};
+ghost use Rattle.formatter.specs.CodeState.{optionsOf};
 ghost use Rattle.formatter.specs.Does.{Puts};
-ghost use Rattle.formatter.specs.Trivia.{Part, triviaIn, leadToken, trailBytes};
+ghost use Rattle.formatter.specs.Token.{IndentBounds};
+ghost use Rattle.formatter.specs.Trivia.{WholeRows, triviaIn, leadToken, trailBytes};
 
 impl Formatter {
-    // Where no trivia was seen, the mark of a one-line block's `}` goes.
+    // For a token without leading trivia: it clears `just_closed_inline`.
     pub fn clear_inline_close(mut self) -> Self
         ensures does { λ r. ⌜ ((o : Rattle.rows.specs.Options.Options) (l : List ℕ)
             → Puts (leadToken o []) self l r l) ⌝ }
@@ -33,7 +35,7 @@ impl Formatter {
         self
     }
 
-    // Writes the leading rows, of which there is one at least; the mark of a one-line block's `}` stays.
+    // Writes the token's leading rows, of which there is at least one; `just_closed_inline` stays as it is.
     pub fn push_leading(
         mut self,
         options: Options,
@@ -42,8 +44,9 @@ impl Formatter {
         text: &[u8],
         token: TokenAt,
     ) -> Self
-        requires { ⌜ (options .«indent_width» ≤ 16) × (self .indent ≤ 4294967295) ⌝ }
-        requires { ⌜ Part (now rows) (now text) (token .lead) (token .own) × (token .lead < token .own) ⌝ }
+        requires { ⌜ IndentBounds options self ⌝ }
+        requires { ⌜ WholeRows (now rows) (now text) (token .lead) (token .own) ⌝ }
+        requires { ⌜ token .lead < token .own ⌝ }
         ensures { λ r. ⌜ Puts (leadToken (optionsOf options)
             (triviaIn (now (rows .entry)) (now (text .entry)) (token .lead) (token .own)))
             self (now (out .entry)) r (now (out .exit)) ⌝ }
@@ -57,9 +60,9 @@ impl Formatter {
         self
     }
 
-    // Leading trivia never breaks a line by itself, but for a blank line.
+    // Writes one leading row. It never breaks a line by itself, unless it is a blank line.
     fn push_lead(mut self, options: Options, out: &mut [u8], text: &[u8], row: Row) -> Self
-        requires { ⌜ (options .«indent_width» ≤ 16) × (self .indent ≤ 4294967295) ⌝ }
+        requires { ⌜ IndentBounds options self ⌝ }
         requires { ⌜ Inside (now text) (rowOf row) ⌝ }
         ensures does { λ r. ⌜ Puts (leadAct (optionsOf options) (triviaOf (now (text .entry)) (rowOf row)))
             self (now (out .entry)) r (now (out .exit)) ⌝ }
@@ -78,10 +81,11 @@ impl Formatter {
         self
     }
 
+    // Writes the token's trailing rows.
     pub fn push_trailing(mut self, out: &mut [u8], rows: &[u8], text: &[u8], token: TokenAt) -> Self
-        requires { ⌜ Part (now rows) (now text) (token .own + 16) (token .next) ⌝ }
+        requires { ⌜ WholeRows (now rows) (now text) (token .own + rowSize) (token .next) ⌝ }
         ensures { λ r. ⌜ Puts (trailingTrivia
-            (triviaIn (now (rows .entry)) (now (text .entry)) (token .own + 16) (token .next)))
+            (triviaIn (now (rows .entry)) (now (text .entry)) (token .own + rowSize) (token .next)))
             self (now (out .entry)) r (now (out .exit)) ⌝ }
     {
         let end = token.next;
@@ -96,6 +100,7 @@ impl Formatter {
     }
 }
 
+// Writes one trailing row, and returns the text's length after it. A blank line writes nothing.
 fn push_trail(out: &mut [u8], len: usize, text: &[u8], row: Row) -> usize
     requires { ⌜ Inside (now text) (rowOf row) ⌝ }
     ensures { λ r. ⌜ Writes (now (out .entry)) len (trailBytes (triviaOf (now (text .entry)) (rowOf row)))

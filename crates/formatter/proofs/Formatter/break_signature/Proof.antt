@@ -17,8 +17,8 @@ indent-size-requires c κs = search needs
 write-signature-line-requires : tie.Need-write-signature-line-requires
 write-signature-line-requires c κs = search needs
 
-suppressed-behind-requires : tie.Need-suppressed-behind-requires
-suppressed-behind-requires c κs = search needs
+suppressed-after-requires : tie.Need-suppressed-after-requires
+suppressed-after-requires c κs = search needs
 
 ended-by-requires : tie.Need-ended-by-requires
 ended-by-requires c κs = search needs
@@ -31,7 +31,7 @@ same-length c = search needs
 
 returns : tie.Need-returns
 unfolding run said
-returns c = λ s x. does (sym (rw (c .before .before .ended-by .ensures, c .before .before .before .suppressed-behind .ensures))) refl (rw (append-nil, ← c .before .before .before .before .before .before .before .before .indent-size .ensures .0) (c .before .before .before .before .before .before .write-signature-line .ensures))
+returns c = λ s x. does (sym (rw (c .before .before .ended-by .ensures, c .before .before .before .suppressed-after .ensures))) refl (rw (append-nil, ← c .before .before .before .before .before .before .before .before .indent-size .ensures .0) (c .before .before .before .before .before .before .write-signature-line .ensures))
 
 pub break-signature-spec : {M : Type 1} → statement M
 break-signature-spec =
@@ -40,7 +40,7 @@ break-signature-spec =
     add-self
     indent-size-requires
     write-signature-line-requires
-    suppressed-behind-requires
+    suppressed-after-requires
     ended-by-requires
     add-t15
     same-length

@@ -4,7 +4,7 @@ use borrow.Author.Needs.{needs}
 use Rattle.definition.specs.Act.{run}
 use Rattle.definition.proofs.Said.{said}
 use Rattle.formatter.specs.Parts.{inlineCloseSize}
-use Rattle.formatter.specs.Pen.{optionsOf, fieldsOf}
+use Rattle.formatter.specs.CodeState.{optionsOf, fieldsOf}
 use Rattle.formatter.proofs.Does.{does}
 use Rattle.formatter.proofs.Gaps.{inline-close-gap, gapped}
 use Rattle.formatter.proofs.Formatter.close_inline.Statement.{statement}

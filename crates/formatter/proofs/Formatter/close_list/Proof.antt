@@ -2,7 +2,7 @@
 use mathlib.Core.Path.{sym}
 use borrow.Author.Needs.{needs}
 use Rattle.definition.specs.Emit.{onNewLine}
-use Rattle.formatter.specs.Pen.{optionsOf}
+use Rattle.formatter.specs.CodeState.{optionsOf}
 use Rattle.formatter.proofs.Does.{closing}
 use Rattle.formatter.proofs.Stack.{top-popped}
 use Rattle.formatter.proofs.Formatter.close_list.Statement.{statement}

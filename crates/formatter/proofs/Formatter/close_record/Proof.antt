@@ -5,7 +5,7 @@ use borrow.Author.Needs.{needs}
 use Rattle.shared.specs.Bytes.{rightBrace}
 use Rattle.rows.specs.Kinds.{Comma, LeftBrace}
 use Rattle.definition.specs.Emit.{prevIs, onNewLine}
-use Rattle.formatter.specs.Pen.{optionsOf}
+use Rattle.formatter.specs.CodeState.{optionsOf}
 use Rattle.formatter.proofs.Does.{closing, picked}
 use Rattle.formatter.proofs.Formatter.close_record.Statement.{statement}
 use Rattle.formatter.proofs.Formatter.close_record.Tie as tie

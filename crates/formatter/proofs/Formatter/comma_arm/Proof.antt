@@ -14,8 +14,8 @@ breaks-comma-requires c κs = search needs
 write-comma-line-requires : tie.Need-write-comma-line-requires
 write-comma-line-requires c κs = search needs
 
-suppressed-behind-requires : tie.Need-suppressed-behind-requires
-suppressed-behind-requires c κs = search needs
+suppressed-after-requires : tie.Need-suppressed-after-requires
+suppressed-after-requires c κs = search needs
 
 ended-by-requires : tie.Need-ended-by-requires
 ended-by-requires c κs = search needs
@@ -28,7 +28,7 @@ same-length c = search needs
 
 returns : tie.Need-returns
 unfolding commaArm run said
-returns c = λ t ts σ x. yes (λ n. told (c .before .before .before .before .before .before .before .breaks-comma .ensures) (c .before .before .before .before .before .before .if1 .taken)) (does (sym (rw (c .ended-by .ensures, c .before .suppressed-behind .ensures))) refl (c .before .before .before .before .write-comma-line .ensures))
+returns c = λ t ts σ x. yes (λ n. told (c .before .before .before .before .before .before .before .breaks-comma .ensures) (c .before .before .before .before .before .before .if1 .taken)) (does (sym (rw (c .ended-by .ensures, c .before .suppressed-after .ensures))) refl (c .before .before .before .before .write-comma-line .ensures))
 
 same-length-2 : tie.Need-same-length-2
 same-length-2 c = search needs
@@ -43,7 +43,7 @@ comma-arm-spec =
     (tie.spec
     breaks-comma-requires
     write-comma-line-requires
-    suppressed-behind-requires
+    suppressed-after-requires
     ended-by-requires
     push-lexeme-requires
     same-length

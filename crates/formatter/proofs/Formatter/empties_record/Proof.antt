@@ -3,12 +3,12 @@ use Prim.Native.Nat.{_+_}
 use borrow.Author.Needs.{needs}
 use Rattle.rows.specs.Kinds.{RightBrace}
 use Rattle.definition.specs.Arms.{nextIs}
-use Rattle.formatter.proofs.Looked.{looked-behind, part-is}
+use Rattle.formatter.proofs.Looked.{looked-after, part-is}
 use Rattle.formatter.proofs.Formatter.empties_record.Statement.{statement}
 use Rattle.formatter.proofs.Formatter.empties_record.Tie as tie
 
-add-behind : tie.Need-add-behind
-add-behind c = search needs
+add-after : tie.Need-add-after
+add-after c = search needs
 
 sub-next-is : tie.Need-sub-next-is
 sub-next-is c = search needs
@@ -23,7 +23,7 @@ next-is-requires : tie.Need-next-is-requires
 next-is-requires c κs = search needs
 
 returns : tie.Need-returns
-returns c = λ text t ts σ. rw (c .before .before .before .if1 .taken) (looked-behind σ (nextIs RightBrace) (part-is (c .before .before .before .before .before .args .token .own + 16) (c .before .before .before .before .before .args .rows .now)) (c .next-is .ensures text))
+returns c = λ text t ts σ. rw (c .before .before .before .if1 .taken) (looked-after σ (nextIs RightBrace) (part-is (c .before .before .before .before .before .args .token .own + 16) (c .before .before .before .before .before .args .rows .now)) (c .next-is .ensures text))
 
 returns-2 : tie.Need-returns-2
 returns-2 c = λ text t ts σ. rw (c .if1 .left)
@@ -32,7 +32,7 @@ pub empties-record-spec : {M : Type 1} → statement M
 empties-record-spec =
     tie.close
     (tie.spec
-    add-behind
+    add-after
     sub-next-is
     part-next-is-start
     part-next-is-end

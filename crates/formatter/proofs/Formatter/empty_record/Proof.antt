@@ -9,7 +9,7 @@ use Rattle.definition.specs.Emit.{tokenGap}
 use Rattle.definition.proofs.Said.{said}
 use Rattle.sink.proofs.Sink.{same-bytes}
 use Rattle.formatter.specs.Parts.{gapSize}
-use Rattle.formatter.specs.Pen.{optionsOf, fieldsOf}
+use Rattle.formatter.specs.CodeState.{optionsOf, fieldsOf}
 use Rattle.formatter.specs.Token.{lexemeOf}
 use Rattle.formatter.proofs.Blocks.{closed-up}
 use Rattle.formatter.proofs.Does.{does}

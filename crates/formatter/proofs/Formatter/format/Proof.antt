@@ -6,75 +6,77 @@ use native.Mathlib.Omega.{arith}
 use lib.ListN.{length}
 use borrow.Author.Needs.{needs}
 use Rattle.formatter.proofs.Loop.{Loop, Known, Placed, begins, few, small-indent, its-rows, lead-rows, trail-rows, ends-ahead}
-use Rattle.formatter.proofs.Loop.{Led, unled, led-by, lead-size, full-lead, led-size, ready, stack-room, deep-at}
+use Rattle.formatter.proofs.Loop.{LeadingDone, unled, led-by, lead-size, full-lead, led-size, ready, stack-room, deep-at}
 use Rattle.formatter.proofs.Loop.{Calls, written, left-out, withFnState, turn-size, full-turn, next-bounds, next-there-too, placed, further}
-use Rattle.formatter.proofs.Loop.{rows-left, past, steady-room, steadied, nested-place, nested-rows, nested-on}
+use Rattle.formatter.proofs.Loop.{rows-left, past, fast-tokens-room, past-fast-tokens, fast-braces-place, fast-braces-rows, past-fast-braces}
 use Rattle.formatter.proofs.Going.{laid-stopped, laid-done}
 use Rattle.formatter.proofs.Place.{next-token}
 use Rattle.formatter.specs.declared.TokenAt.{TokenAt}
-use Rattle.formatter.specs.Pen.{on, optionsOf}
+use Rattle.formatter.specs.CodeState.{codeState, optionsOf}
 use Rattle.shared.specs.Report.{deep, full}
 use Rattle.formatter.proofs.Formatter.format.Statement.{statement}
 use Rattle.formatter.proofs.Formatter.format.Tie as tie
 
 abbrev Inv-loop : tie.InvT-loop
-Inv-loop self₀ options out₀ stack₀ rows text bare ends place₀ self out stack place = Loop rows text (optionsOf options) stack₀ out₀ (place .index) (place .at) (on self stack out)
+Inv-loop self₀ options out₀ stack₀ rows text bare ends place₀ self out stack place = Loop rows text (optionsOf options) stack₀ out₀ (place .index) (place .at) (codeState self stack out)
 
 abbrev μ-loop : tie.MeasureT-loop
 μ-loop self₀ options out₀ stack₀ rows text bare ends place₀ self out stack place = length rows - place .at
 
--- ---- the way back, from each place that the answers start at to the one before it
+-- ---- the ways back: each leads from a place in the code to an earlier one
 
--- the function's entry, from the loop's head
+-- From the loop's head to the function's entry.
 abbrev entry : tie.At-loop Inv-loop μ-loop → tie.Start Inv-loop μ-loop
 entry c = c .before .before .before .before .before .before
 
--- the loop's head, from where the token is known
+-- From where the token is known to the loop's head.
 abbrev head : tie.After-token-at Inv-loop μ-loop → tie.At-loop Inv-loop μ-loop
 head c = c .before .before .before
 
--- where the token is known, from where its leading trivia were pushed, and from where they are written or there are none
+-- From where the leading trivia are pushed, and from where they are written or there are none, to where the token is known.
 abbrev token-pushed : tie.After-push-leading Inv-loop μ-loop → tie.After-token-at Inv-loop μ-loop
 token-pushed c = c .before .before .before .before .before
 
 abbrev token-led : tie.Joined2 Inv-loop μ-loop → tie.After-token-at Inv-loop μ-loop
 token-led c = c .before .before .before
 
--- where the leading trivia are written, from where the stack is not too deep
+-- From where the stack is not too deep to where the leading trivia are done.
 abbrev led : tie.Else4 Inv-loop μ-loop → tie.Joined2 Inv-loop μ-loop
 led c = c .before .before
 
--- where the stack is not too deep, from where the arm is done
+-- From where the arm is done to where the stack is not too deep.
 abbrev calm : tie.After-push-token Inv-loop μ-loop → tie.Else4 Inv-loop μ-loop
 calm c = c .before .before .before .before .before
 
--- where the arm is done, from where the trailing trivia are written or left out
+-- From where the trailing trivia are written or left out to where the arm is done.
 abbrev arm : tie.Joined5 Inv-loop μ-loop → tie.After-push-token Inv-loop μ-loop
 arm c = c .before .before .before .before .before
 
--- where the turn is done, from where its text is known to fit
+-- From where the turn's text is known to fit to where the turn is done.
 abbrev turn : tie.Else6 Inv-loop μ-loop → tie.After-track-fn-state Inv-loop μ-loop
 turn c = c .before .before
 
--- the loop's head, from where the next place is known
+-- From where the turn is done to where the token is known, and to where its leading trivia are done.
 abbrev token-turned : tie.After-track-fn-state Inv-loop μ-loop → tie.After-token-at Inv-loop μ-loop
 token-turned c = token-led (led (calm (arm (c .before))))
 
 abbrev led-turned : tie.After-track-fn-state Inv-loop μ-loop → tie.Joined2 Inv-loop μ-loop
 led-turned c = led (calm (arm (c .before)))
 
+-- From where the next place is known to the loop's head.
 abbrev head-placed : tie.After-next-place Inv-loop μ-loop → tie.At-loop Inv-loop μ-loop
 head-placed c = head (token-turned (turn (c .before)))
 
--- where the next place is known, from where fast tokens or braces are laid out
-abbrev place-tokens : tie.After-push-steady Inv-loop μ-loop → tie.After-next-place Inv-loop μ-loop
+-- From where fast tokens or fast braces are laid out to where the next place is known.
+abbrev place-tokens : tie.After-push-fast-tokens Inv-loop μ-loop → tie.After-next-place Inv-loop μ-loop
 place-tokens c = c .before .before .before .before .before
 
-abbrev place-braces : tie.After-push-nested Inv-loop μ-loop → tie.After-next-place Inv-loop μ-loop
+abbrev place-braces : tie.After-push-fast-braces Inv-loop μ-loop → tie.After-next-place Inv-loop μ-loop
 place-braces c = c .before .before .before .before .before .before
 
 -- ---- the facts by name
 
+-- What is known of the token, from the loop's head and from its call of `token_at`.
 abbrev KnownAt : tie.At-loop Inv-loop μ-loop → TokenAt → Type 0
 KnownAt c token =
     let a = entry c .args in
@@ -84,10 +86,10 @@ KnownAt c token =
 known : (c : tie.After-token-at Inv-loop μ-loop) → KnownAt (head c) (c .token-at .result)
 known c = record { checked = entry (head c) .pre .1 .0; loop = head c .loop .inv; inside = c .before .if1 .taken; its-token = c .token-at .ensures }
 
--- the leading trivia are written, or there are none
+-- The leading trivia are written and fit, or there are none.
 leading :
     (c : tie.Joined2 Inv-loop μ-loop)
-    → Led (optionsOf (entry (head (token-led c)) .args .options)) (entry (head (token-led c)) .args .rows .now) (entry (head (token-led c)) .args .text .now)
+    → LeadingDone (optionsOf (entry (head (token-led c)) .args .options)) (entry (head (token-led c)) .args .rows .now) (entry (head (token-led c)) .args .text .now)
     (token-led c .token-at .result) (head (token-led c) .loop .self) (head (token-led c) .loop .out) (c .if2 .self) (c .if2 .out)
 leading c =
     ⊎-elim
@@ -95,7 +97,7 @@ leading c =
     (λ w. led-by (w .2 .ensures) (w .6 .left) (w .7) (w .8))
     (c .if2 .came)
 
--- what the calls of the turn say, after the leading trivia
+-- What the calls of the turn say, after the leading trivia.
 abbrev CallsAt : tie.After-track-fn-state Inv-loop μ-loop → Type 0
 CallsAt c =
     let a = arm (c .before) in
@@ -125,7 +127,7 @@ calls c =
       tracked = c .track-fn-state .ensures;
     }
 
--- the invariant holds at the next place
+-- The invariant holds at the next place.
 abbrev PlacedAt : tie.After-next-place Inv-loop μ-loop → Type 0
 PlacedAt c =
     let a = entry (head-placed c) .args in
@@ -134,9 +136,9 @@ PlacedAt c =
     Placed (a .rows .now) (a .text .now) (optionsOf (a .options)) (a .stack .now) (a .out .now) (n .index) (n .at)
     (withFnState (t .track-fn-state .result) (t .before .if5 .self)) (arm (t .before) .push-token .last .1 .1 .1 .1 .0) (t .before .if5 .out) (a .bare)
 
-module _ (c : tie.Else6 Inv-loop μ-loop) where
-  lent : length (arm (turn c .before) .push-token .last .1 .1 .1 .1 .0) ≡ length (head (token-turned (turn c)) .loop .stack)
-  lent = turn c .before .before .before .stack .given
+-- The arm leaves the stack's length as it was.
+lent : (c : tie.Else6 Inv-loop μ-loop) → length (arm (turn c .before) .push-token .last .1 .1 .1 .1 .0) ≡ length (head (token-turned (turn c)) .loop .stack)
+lent c = turn c .before .before .before .stack .given
 
 at-place : (c : tie.After-next-place Inv-loop μ-loop) → PlacedAt c
 at-place c =
@@ -148,7 +150,7 @@ at-place c =
       only = e .pre .1 .1;
     }
 
--- and lies further on
+-- The next place lies further on.
 is-further : (c : tie.After-next-place Inv-loop μ-loop) → head-placed c .loop .place .at < c .next-place .result .at
 is-further c =
     let t = turn (c .before) in
@@ -179,7 +181,7 @@ push-leading-requires c κs =
     let p = lead-rows (known t) in
     ((entry (head t) .pre .0 .1, small-indent (known t)), (p, let a = p .ordered in omega (arith, c .before .if2 .left)))
 
--- the leading trivia do not fit: from the return, where they were pushed
+-- From the return where the leading trivia do not fit to where they are pushed.
 abbrev pushed : tie.After-struct-known4 Inv-loop μ-loop → tie.After-push-leading Inv-loop μ-loop
 pushed c = c .before .before .before .before .before
 
@@ -207,7 +209,7 @@ overflows-requires c κs =
     let d = ρ .next in
     (omega arith, ends-ahead θ (head (token-led c) .before .ends-of .ensures))
 
--- the stack is too deep: from the return, where the leading trivia are written
+-- From the return where the stack is too deep to where the leading trivia are done.
 abbrev led-deep : tie.After-struct-known5 Inv-loop μ-loop → tie.Joined2 Inv-loop μ-loop
 led-deep c = c .before .before .before
 
@@ -245,7 +247,7 @@ push-trailing-requires c κs = trail-rows (known (token-led (led (calm (c .befor
 track-fn-state-requires : tie.Need-track-fn-state-requires Inv-loop μ-loop
 track-fn-state-requires c κs = search needs
 
--- the turn's text does not fit: from the return, where the turn is done
+-- From the return where the turn's text does not fit to where the turn is done.
 abbrev turn-full : tie.After-struct-known7 Inv-loop μ-loop → tie.After-track-fn-state Inv-loop μ-loop
 turn-full c = c .before .before .before
 
@@ -272,29 +274,29 @@ next-place-requires c κs =
     let ν = leading (led-turned t) in
     (next-bounds θ ν (calls t) (c .if6 .left) (lent c), next-there-too θ ν (calls t) (c .if6 .left) (lent c) (entry (head (token-turned t)) .pre .1 .1))
 
-is-steady-requires : tie.Need-is-steady-requires Inv-loop μ-loop
-is-steady-requires c κs = rows-left (at-place c)
+may-start-fast-tokens-requires : tie.Need-may-start-fast-tokens-requires Inv-loop μ-loop
+may-start-fast-tokens-requires c κs = rows-left (at-place c)
 
-push-steady-requires : tie.Need-push-steady-requires Inv-loop μ-loop
-push-steady-requires c κs =
+push-fast-tokens-requires : tie.Need-push-fast-tokens-requires Inv-loop μ-loop
+push-fast-tokens-requires c κs =
     let s = c .before .before .before in
     let π = at-place (s .before) in
-    (steady-room π (s .is-steady .ensures (c .before .before .if7 .taken)), ((π .loop .going .room, π .checked), (π .loop .going .head, π .only)))
+    (fast-tokens-room π (s .may-start-fast-tokens .ensures (c .before .before .if7 .taken)), ((π .loop .going .room, π .checked), (π .loop .going .head, π .only)))
 
-behind-steady-requires : tie.Need-behind-steady-requires Inv-loop μ-loop
-behind-steady-requires c κs = search needs
+after-fast-tokens-requires : tie.Need-after-fast-tokens-requires Inv-loop μ-loop
+after-fast-tokens-requires c κs = search needs
 
 place-at-requires : tie.Need-place-at-requires Inv-loop μ-loop
 place-at-requires c κs =
     let s = c .before .before .before in
-    past (at-place (place-tokens s)) (s .push-steady .ensures .whole) (s .push-steady .ensures .head .within)
+    past (at-place (place-tokens s)) (s .push-fast-tokens .ensures .whole) (s .push-fast-tokens .ensures .head .within)
 
 loop-less : tie.Need-loop-less Inv-loop μ-loop
 loop-less c =
     let s = c .before .before .before .before in
     let f = is-further (place-tokens s) in
-    let a = s .push-steady .ensures .whole in
-    let b = s .push-steady .ensures .head .within in
+    let a = s .push-fast-tokens .ensures .whole in
+    let b = s .push-fast-tokens .ensures .head .within in
     let p = c .place-at .ensures .0 in
     omega arith
 
@@ -303,32 +305,32 @@ loop-again c =
     let s = c .before .before .before .before in
     let i = s .before .before .before in
     rw (c .place-at .ensures .0, c .place-at .ensures .1)
-    (steadied (at-place (place-tokens s)) (i .before .is-steady .ensures (i .if7 .taken)) (s .push-steady .ensures) (c .before .behind-steady .ensures))
+    (past-fast-tokens (at-place (place-tokens s)) (i .before .may-start-fast-tokens .ensures (i .if7 .taken)) (s .push-fast-tokens .ensures) (c .before .after-fast-tokens .ensures))
 
-is-nested-requires : tie.Need-is-nested-requires Inv-loop μ-loop
-is-nested-requires c κs = rows-left (at-place (c .before .before))
+may-start-fast-braces-requires : tie.Need-may-start-fast-braces-requires Inv-loop μ-loop
+may-start-fast-braces-requires c κs = rows-left (at-place (c .before .before))
 
-push-nested-requires : tie.Need-push-nested-requires Inv-loop μ-loop
-push-nested-requires c κs =
+push-fast-braces-requires : tie.Need-push-fast-braces-requires Inv-loop μ-loop
+push-fast-braces-requires c κs =
     let i = c .before in
     let π = at-place (i .before .before .before .before) in
-    let ρ = i .before .is-nested .ensures (i .if8 .taken) in
-    (nested-place π ρ, nested-rows π ρ)
+    let ρ = i .before .may-start-fast-braces .ensures (i .if8 .taken) in
+    (fast-braces-place π ρ, fast-braces-rows π ρ)
 
-behind-braces-requires : tie.Need-behind-braces-requires Inv-loop μ-loop
-behind-braces-requires c κs = search needs
+after-fast-braces-requires : tie.Need-after-fast-braces-requires Inv-loop μ-loop
+after-fast-braces-requires c κs = search needs
 
 place-at-requires-2 : tie.Need-place-at-requires-2 Inv-loop μ-loop
 place-at-requires-2 c κs =
     let b = c .before .before .before in
-    past (at-place (place-braces b)) (b .push-nested .ensures .whole) (b .push-nested .ensures .within)
+    past (at-place (place-braces b)) (b .push-fast-braces .ensures .whole) (b .push-fast-braces .ensures .within)
 
 loop-less-2 : tie.Need-loop-less-2 Inv-loop μ-loop
 loop-less-2 c =
     let s = c .before .before .before .before in
     let f = is-further (place-braces s) in
-    let a = s .push-nested .ensures .whole in
-    let b = s .push-nested .ensures .within in
+    let a = s .push-fast-braces .ensures .whole in
+    let b = s .push-fast-braces .ensures .within in
     let p = c .place-at2 .ensures .0 in
     omega arith
 
@@ -337,7 +339,7 @@ loop-again-2 c =
     let s = c .before .before .before .before in
     let i = s .before .before in
     rw (c .place-at2 .ensures .0, c .place-at2 .ensures .1)
-    (nested-on (at-place (place-braces s)) (i .before .is-nested .ensures (i .if8 .taken)) (s .push-nested .ensures) (c .before .behind-braces .ensures))
+    (past-fast-braces (at-place (place-braces s)) (i .before .may-start-fast-braces .ensures (i .if8 .taken)) (s .push-fast-braces .ensures) (c .before .after-fast-braces .ensures))
 
 loop-less-3 : tie.Need-loop-less-3 Inv-loop μ-loop
 loop-less-3 c =
@@ -388,15 +390,15 @@ format-spec =
     same-length-6
     returns-3
     next-place-requires
-    is-steady-requires
-    push-steady-requires
-    behind-steady-requires
+    may-start-fast-tokens-requires
+    push-fast-tokens-requires
+    after-fast-tokens-requires
     place-at-requires
     loop-less
     loop-again
-    is-nested-requires
-    push-nested-requires
-    behind-braces-requires
+    may-start-fast-braces-requires
+    push-fast-braces-requires
+    after-fast-braces-requires
     place-at-requires-2
     loop-less-2
     loop-again-2

@@ -1,7 +1,7 @@
 -- `formatter::Formatter::left_brace_arm` meets its contract. Assumes nothing.
 use borrow.Author.Needs.{needs}
 use Rattle.definition.specs.Arms.{emptyRecord}
-use Rattle.formatter.specs.Pen.{optionsOf}
+use Rattle.formatter.specs.CodeState.{optionsOf}
 use Rattle.formatter.proofs.Blocks.{brace}
 use Rattle.formatter.proofs.Does.{told, yes, no, seq}
 use Rattle.formatter.proofs.Formatter.left_brace_arm.Statement.{statement}

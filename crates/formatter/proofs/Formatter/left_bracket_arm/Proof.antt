@@ -2,7 +2,7 @@
 use mathlib.Core.Path.{_∙_}
 use borrow.Author.Needs.{needs}
 use Rattle.definition.specs.Arms.{leftBracketArm}
-use Rattle.formatter.specs.Pen.{optionsOf}
+use Rattle.formatter.specs.CodeState.{optionsOf}
 use Rattle.formatter.proofs.Does.{yes, no, told}
 use Rattle.formatter.proofs.Groups.{bracket-room}
 use Rattle.formatter.proofs.Formatter.left_bracket_arm.Statement.{statement}

@@ -3,7 +3,7 @@ use mathlib.Core.Path.{refl, sym, _∙_}
 use borrow.Author.Needs.{needs}
 use Rattle.definition.specs.Arms.{openGroup, leftParenArm}
 use Rattle.sink.proofs.Sink.{nothing}
-use Rattle.formatter.specs.Pen.{optionsOf}
+use Rattle.formatter.specs.CodeState.{optionsOf}
 use Rattle.formatter.proofs.Does.{seq, updated, yes, no, told}
 use Rattle.formatter.proofs.Groups.{its, paren-room}
 use Rattle.formatter.proofs.Formatter.left_paren_arm.Statement.{statement}

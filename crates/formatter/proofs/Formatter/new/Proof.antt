@@ -1,6 +1,6 @@
 -- `formatter::Formatter::new` meets its contract. Assumes nothing.
 use mathlib.Core.Path.{refl}
-use Rattle.formatter.specs.Pen.{topFirst}
+use Rattle.formatter.specs.CodeState.{topFirst}
 use Rattle.formatter.proofs.Formatter.new.Statement.{statement}
 use Rattle.formatter.proofs.Formatter.new.Tie as tie
 

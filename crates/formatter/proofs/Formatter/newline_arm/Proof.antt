@@ -7,15 +7,15 @@ use Rattle.definition.specs.Arms.{newlineArm}
 use Rattle.definition.proofs.Said.{said}
 use Rattle.sink.proofs.Sink.{nothing}
 use Rattle.formatter.specs.Parts.{feedsLine}
-use Rattle.formatter.specs.Pen.{on, stateOf}
+use Rattle.formatter.specs.CodeState.{codeState, stateOf}
 use Rattle.formatter.proofs.Does.{told, yes, no, stays, does, updated}
-use Rattle.formatter.proofs.Looked.{looked-behind, part-is}
+use Rattle.formatter.proofs.Looked.{looked-after, part-is}
 use Rattle.formatter.proofs.Newlines.{newline}
 use Rattle.formatter.proofs.Formatter.newline_arm.Statement.{statement}
 use Rattle.formatter.proofs.Formatter.newline_arm.Tie as tie
 
-add-behind : tie.Need-add-behind
-add-behind c = search needs
+add-after : tie.Need-add-after
+add-after c = search needs
 
 suppresses-requires : tie.Need-suppresses-requires
 suppresses-requires c κs = search needs
@@ -47,19 +47,19 @@ same-length c = search needs
 
 returns-2 : tie.Need-returns-2
 unfolding run said
-returns-2 c = λ text t ts σ s x. newline (c .before .before .before .before .before .before .before .before .before .before .before .before .before .before .args .token .index) ts (told (c .before .before .before .before .before .before .before .before .before .before .suppresses .ensures) (c .before .before .before .before .before .before .before .before .before .if1 .left)) (yes (λ n. told (looked-behind σ (λ l. feedsLine l (stateOf x (on (c .before .before .before .before .before .before .before .before .before .before .before .before .before .before .args .self) s (c .before .before .before .before .before .before .before .before .before .before .before .before .before .before .args .out .now)))) (part-is (c .before .before .before .before .before .before .before .before .before .before .before .before .before .before .args .token .own + 16) (c .before .before .before .before .before .before .before .before .before .before .before .before .before .before .args .rows .now)) (c .before .before .before .before .before .before .feeds .ensures s text x n)) (c .before .before .before .before .before .if2 .taken)) (does (sym (rw (c .ended-by .ensures))) refl (c .before .before .before .write-byte .ensures)))
+returns-2 c = λ text t ts σ s x. newline (c .before .before .before .before .before .before .before .before .before .before .before .before .before .before .args .token .index) ts (told (c .before .before .before .before .before .before .before .before .before .before .suppresses .ensures) (c .before .before .before .before .before .before .before .before .before .if1 .left)) (yes (λ n. told (looked-after σ (λ l. feedsLine l (stateOf x (codeState (c .before .before .before .before .before .before .before .before .before .before .before .before .before .before .args .self) s (c .before .before .before .before .before .before .before .before .before .before .before .before .before .before .args .out .now)))) (part-is (c .before .before .before .before .before .before .before .before .before .before .before .before .before .before .args .token .own + 16) (c .before .before .before .before .before .before .before .before .before .before .before .before .before .before .args .rows .now)) (c .before .before .before .before .before .before .feeds .ensures s text x n)) (c .before .before .before .before .before .if2 .taken)) (does (sym (rw (c .ended-by .ensures))) refl (c .before .before .before .write-byte .ensures)))
 
 same-length-2 : tie.Need-same-length-2
 same-length-2 c = search needs
 
 returns-3 : tie.Need-returns-3
-returns-3 c = λ text t ts σ s x. newline (c .before .before .before .before .before .before .before .before .before .args .token .index) ts (told (c .before .before .before .before .before .suppresses .ensures) (c .before .before .before .before .if1 .left)) (no (λ n. told (looked-behind σ (λ l. feedsLine l (stateOf x (on (c .before .before .before .before .before .before .before .before .before .args .self) s (c .before .before .before .before .before .before .before .before .before .args .out .now)))) (part-is (c .before .before .before .before .before .before .before .before .before .args .token .own + 16) (c .before .before .before .before .before .before .before .before .before .args .rows .now)) (c .before .feeds .ensures s text x n)) (c .if2 .left)) stays)
+returns-3 c = λ text t ts σ s x. newline (c .before .before .before .before .before .before .before .before .before .args .token .index) ts (told (c .before .before .before .before .before .suppresses .ensures) (c .before .before .before .before .if1 .left)) (no (λ n. told (looked-after σ (λ l. feedsLine l (stateOf x (codeState (c .before .before .before .before .before .before .before .before .before .args .self) s (c .before .before .before .before .before .before .before .before .before .args .out .now)))) (part-is (c .before .before .before .before .before .before .before .before .before .args .token .own + 16) (c .before .before .before .before .before .before .before .before .before .args .rows .now)) (c .before .feeds .ensures s text x n)) (c .if2 .left)) stays)
 
 pub newline-arm-spec : {M : Type 1} → statement M
 newline-arm-spec =
     tie.close
     (tie.spec
-    add-behind
+    add-after
     suppresses-requires
     sub-feeds
     part-feeds-start

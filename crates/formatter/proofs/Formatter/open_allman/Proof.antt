@@ -14,8 +14,8 @@ indent-size-requires c κs = search needs
 write-opener-line-requires : tie.Need-write-opener-line-requires
 write-opener-line-requires c κs = search needs
 
-suppressed-behind-requires : tie.Need-suppressed-behind-requires
-suppressed-behind-requires c κs = search needs
+suppressed-after-requires : tie.Need-suppressed-after-requires
+suppressed-after-requires c κs = search needs
 
 ended-by-requires : tie.Need-ended-by-requires
 ended-by-requires c κs = search needs
@@ -28,7 +28,7 @@ same-length c = search needs
 
 returns : tie.Need-returns
 unfolding run said
-returns c = λ s x. does (sym (rw (c .before .ended-by .ensures, c .before .before .suppressed-behind .ensures))) refl (rw (append-nil, ← c .before .before .before .before .before .before .before .indent-size .ensures .0) (c .before .before .before .before .before .write-opener-line .ensures))
+returns c = λ s x. does (sym (rw (c .before .ended-by .ensures, c .before .before .suppressed-after .ensures))) refl (rw (append-nil, ← c .before .before .before .before .before .before .before .indent-size .ensures .0) (c .before .before .before .before .before .write-opener-line .ensures))
 
 pub open-allman-spec : {M : Type 1} → statement M
 open-allman-spec =
@@ -36,7 +36,7 @@ open-allman-spec =
     (tie.spec
     indent-size-requires
     write-opener-line-requires
-    suppressed-behind-requires
+    suppressed-after-requires
     ended-by-requires
     add-self
     same-length

@@ -1,7 +1,7 @@
 -- `formatter::Formatter::open_block_multiline` meets its contract. Assumes nothing.
 use mathlib.Core.Path.{ap}
 use borrow.Author.Needs.{needs}
-use Rattle.formatter.specs.Pen.{optionsOf, styleOf}
+use Rattle.formatter.specs.CodeState.{optionsOf, styleOf}
 use Rattle.formatter.proofs.Blocks.{block-same-line, block-allman}
 use Rattle.formatter.proofs.Formatter.open_block_multiline.Statement.{statement}
 use Rattle.formatter.proofs.Formatter.open_block_multiline.Tie as tie

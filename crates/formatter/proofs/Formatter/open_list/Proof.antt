@@ -5,7 +5,7 @@ use native.Mathlib.Omega.{arith}
 use lib.ListN.{length}
 use borrow.Author.Needs.{needs}
 use Rattle.sink.proofs.Sink.{nothing}
-use Rattle.formatter.specs.Pen.{optionsOf}
+use Rattle.formatter.specs.CodeState.{optionsOf}
 use Rattle.formatter.specs.Token.{bareToken, lexemeOf}
 use Rattle.formatter.proofs.Does.{updated}
 use Rattle.formatter.proofs.Groups.{list-opens}
@@ -19,8 +19,8 @@ emit-token-text-requires c κs = search needs
 add-inner : tie.Need-add-inner
 add-inner c = search needs
 
-suppressed-behind-requires : tie.Need-suppressed-behind-requires
-suppressed-behind-requires c κs = search needs
+suppressed-after-requires : tie.Need-suppressed-after-requires
+suppressed-after-requires c κs = search needs
 
 cast-push-entry : tie.Need-cast-push-entry
 cast-push-entry c = search needs
@@ -41,7 +41,7 @@ same-length-2 : tie.Need-same-length-2
 same-length-2 c = search needs
 
 returns : tie.Need-returns
-returns c = λ few x. let a = c .before .before .before .before .before .before .before .before .before .before .before .before .before .before .before .before .args in let z = c .before .before .before .before .before .before .before .before .before .before .before .before .before .before .before .before .pre .0 .1 .size in let e = c .before .before .before .before .before .before .before .before .before .before .emit-token-text in let k = e .ensures .1 .count in let room : e .result .«break_count» < length (a .stack .now) = omega arith in list-opens (optionsOf (a .options)) (a .token .index) (bareToken (a .kind) (lexemeOf (a .token) (a .rows .now) (a .text .now))) (e .ensures .0 _ x) (updated (sym (rw (c .before .before .before .push-entry .ensures, top-pushed (e .result .«break_count») (a .stack .now) _ room, c .before .before .before .before .before .suppressed-behind .ensures))) refl nothing)
+returns c = λ few x. let a = c .before .before .before .before .before .before .before .before .before .before .before .before .before .before .before .before .args in let z = c .before .before .before .before .before .before .before .before .before .before .before .before .before .before .before .before .pre .0 .1 .size in let e = c .before .before .before .before .before .before .before .before .before .before .emit-token-text in let k = e .ensures .1 .count in let room : e .result .«break_count» < length (a .stack .now) = omega arith in list-opens (optionsOf (a .options)) (a .token .index) (bareToken (a .kind) (lexemeOf (a .token) (a .rows .now) (a .text .now))) (e .ensures .0 _ x) (updated (sym (rw (c .before .before .before .push-entry .ensures, top-pushed (e .result .«break_count») (a .stack .now) _ room, c .before .before .before .before .before .suppressed-after .ensures))) refl nothing)
 
 pub open-list-spec : {M : Type 1} → statement M
 open-list-spec =
@@ -49,7 +49,7 @@ open-list-spec =
     (tie.spec
     emit-token-text-requires
     add-inner
-    suppressed-behind-requires
+    suppressed-after-requires
     cast-push-entry
     push-entry-requires
     add-self

@@ -1,7 +1,7 @@
 -- `formatter::Formatter::open_one_line` meets its contract. Assumes nothing.
 use mathlib.Core.Path.{refl, sym}
 use borrow.Author.Needs.{needs}
-use Rattle.formatter.specs.Pen.{optionsOf}
+use Rattle.formatter.specs.CodeState.{optionsOf}
 use Rattle.formatter.proofs.Blocks.{one-line}
 use Rattle.formatter.proofs.Formatter.open_one_line.Statement.{statement}
 use Rattle.formatter.proofs.Formatter.open_one_line.Tie as tie

@@ -5,7 +5,7 @@ use Rattle.lookahead.proofs.Sizes.{sig-tokens}
 use Rattle.lookahead.specs.Measure.{shouldBreakSig}
 use Rattle.definition.specs.Arms.{openGroup}
 use Rattle.sink.proofs.Sink.{nothing}
-use Rattle.formatter.specs.Pen.{optionsOf}
+use Rattle.formatter.specs.CodeState.{optionsOf}
 use Rattle.formatter.proofs.Does.{seq, updated, yes, no, told}
 use Rattle.formatter.proofs.Groups.{its}
 use Rattle.formatter.proofs.Looked.{looked, part-is}

@@ -1,7 +1,7 @@
 -- `formatter::Formatter::overflows` meets its contract. Assumes nothing.
 use Rattle.formatter.proofs.Overflow.{not-full, full-signature, full-paren, full-bracket, full-other}
 use Rattle.formatter.proofs.Does.{told}
-use Rattle.formatter.specs.Pen.{optionsOf}
+use Rattle.formatter.specs.CodeState.{optionsOf}
 use mathlib.Core.Path.{_∙_}
 use borrow.Author.Needs.{needs}
 use Rattle.formatter.proofs.Formatter.overflows.Statement.{statement}

@@ -2,7 +2,7 @@
 use Rattle.formatter.proofs.Gaps.{gapped, indent-or-space}
 use Rattle.formatter.proofs.Does.{does-then}
 use Rattle.formatter.proofs.Comments.{blank-row, lead-comment}
-use Rattle.formatter.specs.Pen.{optionsOf, formatterOf}
+use Rattle.formatter.specs.CodeState.{optionsOf, formatterOf}
 use Rattle.sink.proofs.Sink.{andThen}
 use Rattle.rows.specs.Bounds.{rowOf}
 use Rattle.definition.proofs.Said.{said}

@@ -1,6 +1,6 @@
 -- `formatter::Formatter::push_leading` meets its contract. Assumes nothing.
-use Rattle.formatter.proofs.Comments.{LeadsLeft, lead-behind, leads-behind, leads-whole, row-inside, row-within}
-use Rattle.formatter.specs.Pen.{optionsOf}
+use Rattle.formatter.proofs.Comments.{LeadsLeft, lead-after, leads-after, leads-whole, row-inside, row-within}
+use Rattle.formatter.specs.CodeState.{optionsOf}
 use borrow.Author.Needs.{needs}
 use native.Mathlib.Omega.{arith}
 use Prim.Native.Nat.{_-_}
@@ -29,13 +29,13 @@ loop-less : tie.Need-loop-less Inv-loop μ-loop
 loop-less c = omega arith
 
 loop-again : tie.Need-loop-again Inv-loop μ-loop
-loop-again c = leads-behind (c .before .before .before .before .before .before .loop .inv) (c .before .before .before .before .before .loop-test .taken) (c .before .before .before .row-at .ensures) (search needs) (c .before .before .push-lead .ensures .1) (c .before .before .push-lead .ensures .0)
+loop-again c = leads-after (c .before .before .before .before .before .before .loop .inv) (c .before .before .before .before .before .loop-test .taken) (c .before .before .before .row-at .ensures) (search needs) (c .before .before .push-lead .ensures .1) (c .before .before .push-lead .ensures .0)
 
 same-length : tie.Need-same-length Inv-loop μ-loop
 same-length c = c .before .loop .inv .size
 
 returns : tie.Need-returns Inv-loop μ-loop
-returns c = lead-behind (c .before .loop .inv) (c .loop-test .left) (c .before .before .before .before .before .pre .1 .0) (c .before .before .before .before .before .pre .1 .1)
+returns c = lead-after (c .before .loop .inv) (c .loop-test .left) (c .before .before .before .before .before .pre .1 .0) (c .before .before .before .before .before .pre .1 .1)
 
 pub push-leading-spec : {M : Type 1} → statement M
 push-leading-spec =

@@ -2,7 +2,7 @@
 use mathlib.Core.Path.{refl}
 use borrow.Author.Needs.{needs}
 use Rattle.sink.proofs.Sink.{nothing}
-use Rattle.formatter.specs.Pen.{optionsOf}
+use Rattle.formatter.specs.CodeState.{optionsOf}
 use Rattle.formatter.specs.Token.{bareToken, lexemeOf}
 use Rattle.formatter.proofs.Does.{updated}
 use Rattle.formatter.proofs.Lexemes.{pushed}

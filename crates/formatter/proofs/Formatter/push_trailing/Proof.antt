@@ -1,5 +1,5 @@
 -- `formatter::Formatter::push_trailing` meets its contract. Assumes nothing.
-use Rattle.formatter.proofs.Comments.{TrailsLeft, row-inside, row-within, trailing-does, trails-behind, trails-none, trails-whole}
+use Rattle.formatter.proofs.Comments.{TrailsLeft, row-inside, row-within, trailing-does, trails-after, trails-none, trails-whole}
 use native.Mathlib.Omega.{arith}
 use Prim.Native.Nat.{_-_}
 use mathlib.Core.Path.{refl}
@@ -31,7 +31,7 @@ loop-less : tie.Need-loop-less Inv-loop μ-loop
 loop-less c = omega arith
 
 loop-again : tie.Need-loop-again Inv-loop μ-loop
-loop-again c = trails-behind (c .before .before .before .before .before .before .loop .inv) (c .before .before .before .before .before .loop-test .taken) (c .before .before .before .row-at .ensures) (c .before .before .push-trail .ensures)
+loop-again c = trails-after (c .before .before .before .before .before .before .loop .inv) (c .before .before .before .before .before .loop-test .taken) (c .before .before .before .row-at .ensures) (c .before .before .push-trail .ensures)
 
 same-length : tie.Need-same-length Inv-loop μ-loop
 same-length c = trails-none (c .before .loop .inv) (c .loop-test .left) .size

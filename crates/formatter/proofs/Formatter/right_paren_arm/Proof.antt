@@ -4,7 +4,7 @@ use borrow.Author.Needs.{needs}
 use Rattle.definition.specs.Act.{run}
 use Rattle.definition.specs.Arms.{closeGroup, rightParenArm}
 use Rattle.sink.proofs.Sink.{nothing}
-use Rattle.formatter.specs.Pen.{optionsOf}
+use Rattle.formatter.specs.CodeState.{optionsOf}
 use Rattle.formatter.proofs.Does.{seq, updated, yes, no, told, same-run}
 use Rattle.formatter.proofs.Groups.{its, signature-closes}
 use Rattle.formatter.proofs.Formatter.right_paren_arm.Statement.{statement}

@@ -4,7 +4,7 @@ use borrow.Author.Needs.{needs}
 use lib.Dec.{eqb}
 use Rattle.rows.specs.Kinds.{Identifier, Newline}
 use Rattle.definition.specs.Emit.{isSome}
-use Rattle.formatter.specs.Pen.{signatureOf}
+use Rattle.formatter.specs.CodeState.{signatureOf}
 use Rattle.formatter.proofs.Lexemes.{idle}
 use Rattle.formatter.proofs.Does.{told}
 use Rattle.formatter.proofs.Formatter.track_fn_state.Statement.{statement}

@@ -2,7 +2,7 @@
 use mathlib.Core.List.{append-nil}
 use borrow.Author.Needs.{needs}
 use Rattle.formatter.specs.Parts.{indentOrSpaceSize}
-use Rattle.formatter.specs.Pen.{optionsOf, fieldsOf}
+use Rattle.formatter.specs.CodeState.{optionsOf, fieldsOf}
 use Rattle.formatter.proofs.Does.{told}
 use Rattle.formatter.proofs.Gaps.{indent-or-space, gapped}
 use Rattle.formatter.proofs.Formatter.write_inline_opener.Statement.{statement}
