@@ -12,7 +12,7 @@ use sink::comments::write_trail;
 use sink::write::write_spaces;
 ghost use mathlib.Core.List.{List, []};
 ghost use mathlib.Core.Path.{_≡_};
-ghost use Prim.Native.Nat.{ℕ, _+_, _≤_, _<_};
+ghost use Prim.Native.Nat.{ℕ, _+_, _<_};
 ghost use Rattle.rows.specs.Options;
 ghost use Rattle.rows.specs.Row.{rowSize};
 ghost use Rattle.rows.specs.Bounds.{Inside, rowOf};
