@@ -31,7 +31,14 @@ same-length c = search needs
 
 returns : tie.Need-returns
 unfolding run said
-returns c = λ s x. does (sym (rw (c .before .before .ended-by .ensures, c .before .before .before .suppressed-after .ensures))) refl (rw (append-nil, ← c .before .before .before .before .before .before .before .before .indent-size .ensures .0) (c .before .before .before .before .before .before .write-signature-line .ensures))
+returns c =
+    let at-suppressed-after = c .before .before .before in
+    let at-write-signature-line = at-suppressed-after .before .before .before in
+    let at-indent-size = at-write-signature-line .before .before in
+    λ s x.
+    does
+    (sym (rw (c .before .before .ended-by .ensures, at-suppressed-after .suppressed-after .ensures))) refl
+    (rw (append-nil, ← at-indent-size .indent-size .ensures .0) (at-write-signature-line .write-signature-line .ensures))
 
 pub break-signature-spec : {M : Type 1} → statement M
 break-signature-spec =

@@ -27,7 +27,14 @@ same-length c = search needs
 
 returns : tie.Need-returns
 unfolding run said
-returns c = λ s x. does (sym (rw (c .ended-by .ensures, c .before .record-depth-outside .ensures, c .before .before .before .before .before .before .before .less .ensures))) refl (rw (← c .before .before .before .before .before .before .before .less .ensures, ← c .before .before .before .before .before .before .indent-size .ensures .0) (c .before .before .before .before .write-closer .ensures))
+returns c =
+    let at-write-closer = c .before .before .before .before in
+    let at-indent-size = at-write-closer .before .before in
+    let at-less = at-indent-size .before in
+    λ s x.
+    does
+    (sym (rw (c .ended-by .ensures, c .before .record-depth-outside .ensures, at-less .less .ensures))) refl
+    (rw (← at-less .less .ensures, ← at-indent-size .indent-size .ensures .0) (at-write-closer .write-closer .ensures))
 
 pub close-block-spec : {M : Type 1} → statement M
 close-block-spec =

@@ -27,7 +27,17 @@ same-length c = search needs
 
 returns : tie.Need-returns
 unfolding run said
-returns c = λ s x. does (sym (rw (c .ended-by .ensures, c .before .less .ensures))) refl (gapped (inlineCloseSize (optionsOf (c .before .before .before .before .before .before .before .before .before .args .options)) (fieldsOf (c .before .before .before .before .before .before .before .before .before .args .self))) _ _ (inline-close-gap (optionsOf (c .before .before .before .before .before .before .before .before .before .args .options)) (fieldsOf (c .before .before .before .before .before .before .before .before .before .args .self))) (c .before .before .before .before .before .before .before .inline-close-gap .ensures .0) (c .before .before .before .before .before .write-brace .ensures))
+returns c =
+    let at-write-brace = c .before .before .before .before .before in
+    let at-inline-close-gap = at-write-brace .before .before in
+    let entry = at-inline-close-gap .before .before in
+    λ s x.
+    does
+    (sym (rw (c .ended-by .ensures, c .before .less .ensures))) refl
+    (gapped
+    (inlineCloseSize (optionsOf (entry .args .options)) (fieldsOf (entry .args .self))) _ _
+    (inline-close-gap (optionsOf (entry .args .options)) (fieldsOf (entry .args .self))) (at-inline-close-gap .inline-close-gap .ensures .0)
+    (at-write-brace .write-brace .ensures))
 
 pub close-inline-spec : {M : Type 1} → statement M
 close-inline-spec =

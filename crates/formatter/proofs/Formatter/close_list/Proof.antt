@@ -36,7 +36,19 @@ same-length : tie.Need-same-length
 same-length c = search needs
 
 returns : tie.Need-returns
-returns c = λ s x. closing (onNewLine (optionsOf (c .before .before .before .before .before .before .before .before .before .before .before .before .before .args .options))) _ (c .before .before .before .before .before .before .before .before .before .before .before .before .before .args .wanted) (sym (rw (c .before .before .before .before .ended-by .ensures, c .before .before .before .before .before .before .before .before .before .before .before .less .ensures, c .before .before .before .before .before .before .before .before .before .before .less2 .ensures, c .before .before .less3 .ensures, top-popped))) (rw (c .before .count-comma .ensures .0)) (rw (← c .before .before .before .before .before .before .before .before .before .before .less2 .ensures, ← c .before .before .before .before .before .before .before .before .before .indent-size .ensures .0) (c .before .before .before .before .before .before .before .write-closer .ensures))
+returns c =
+    let at-ended-by = c .before .before .before .before in
+    let at-write-closer = at-ended-by .before .before .before in
+    let at-indent-size = at-write-closer .before .before in
+    let at-less2 = at-indent-size .before in
+    let at-less = at-less2 .before in
+    let entry = at-less .before .before in
+    λ s x.
+    closing (onNewLine (optionsOf (entry .args .options))) _
+    (entry .args .wanted)
+    (sym (rw (at-ended-by .ended-by .ensures, at-less .less .ensures, at-less2 .less2 .ensures, c .before .before .less3 .ensures, top-popped)))
+    (rw (c .before .count-comma .ensures .0))
+    (rw (← at-less2 .less2 .ensures, ← at-indent-size .indent-size .ensures .0) (at-write-closer .write-closer .ensures))
 
 pub close-list-spec : {M : Type 1} → statement M
 close-list-spec =

@@ -35,7 +35,20 @@ same-length : tie.Need-same-length
 same-length c = search needs
 
 returns : tie.Need-returns
-returns c = λ s x. picked (λ f. prevIs Comma f || prevIs LeftBrace f) (c .before .before .before .before .before .before .before .before .before .wants-record-comma .result) (c .before .before .before .before .before .before .before .before .before .wants-record-comma .ensures) (closing (onNewLine (optionsOf (c .before .before .before .before .before .before .before .before .before .before .before .args .options))) rightBrace (c .before .before .before .before .before .before .before .before .before .wants-record-comma .result) (sym (rw (c .before .before .ended-by .ensures, c .before .before .before .before .before .before .before .before .less .ensures))) (rw (c .before .count-comma .ensures .0)) (rw (← c .before .before .before .before .before .before .before .before .less .ensures, ← c .before .before .before .before .before .before .before .indent-size .ensures .0) (c .before .before .before .before .before .write-closer .ensures)))
+returns c =
+    let at-write-closer = c .before .before .before .before .before in
+    let at-indent-size = at-write-closer .before .before in
+    let at-less = at-indent-size .before in
+    let at-wants-record-comma = at-less .before in
+    let entry = at-wants-record-comma .before .before in
+    λ s x.
+    picked
+    (λ f. prevIs Comma f || prevIs LeftBrace f) (at-wants-record-comma .wants-record-comma .result)
+    (at-wants-record-comma .wants-record-comma .ensures)
+    (closing (onNewLine (optionsOf (entry .args .options)))
+    rightBrace (at-wants-record-comma .wants-record-comma .result) (sym (rw (c .before .before .ended-by .ensures, at-less .less .ensures)))
+    (rw (c .before .count-comma .ensures .0))
+    (rw (← at-less .less .ensures, ← at-indent-size .indent-size .ensures .0) (at-write-closer .write-closer .ensures)))
 
 pub close-record-spec : {M : Type 1} → statement M
 close-record-spec =

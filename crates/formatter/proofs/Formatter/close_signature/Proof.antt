@@ -27,7 +27,14 @@ same-length c = search needs
 
 returns : tie.Need-returns
 unfolding run said
-returns c = λ s x. does (sym (rw (c .before .before .before .ended-by .ensures, c .before .less .ensures, c .less2 .ensures))) refl (rw (← c .before .before .before .before .before .before .before .before .indent-size .ensures .0) (c .before .before .before .before .before .before .write-closer .ensures))
+returns c =
+    let at-ended-by = c .before .before .before in
+    let at-write-closer = at-ended-by .before .before .before in
+    let at-indent-size = at-write-closer .before .before in
+    λ s x.
+    does
+    (sym (rw (at-ended-by .ended-by .ensures, c .before .less .ensures, c .less2 .ensures))) refl
+    (rw (← at-indent-size .indent-size .ensures .0) (at-write-closer .write-closer .ensures))
 
 pub close-signature-spec : {M : Type 1} → statement M
 close-signature-spec =

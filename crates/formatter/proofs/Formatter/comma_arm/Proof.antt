@@ -28,14 +28,28 @@ same-length c = search needs
 
 returns : tie.Need-returns
 unfolding commaArm run said
-returns c = λ t ts σ x. yes (λ n. told (c .before .before .before .before .before .before .before .breaks-comma .ensures) (c .before .before .before .before .before .before .if1 .taken)) (does (sym (rw (c .ended-by .ensures, c .before .suppressed-after .ensures))) refl (c .before .before .before .before .write-comma-line .ensures))
+returns c =
+    let at-write-comma-line = c .before .before .before .before in
+    let at-if1 = at-write-comma-line .before .before in
+    let at-breaks-comma = at-if1 .before in
+    λ t ts σ x.
+    yes
+    (λ n. told (at-breaks-comma .breaks-comma .ensures) (at-if1 .if1 .taken))
+    (does (sym (rw (c .ended-by .ensures, c .before .suppressed-after .ensures))) refl (at-write-comma-line .write-comma-line .ensures))
 
 same-length-2 : tie.Need-same-length-2
 same-length-2 c = search needs
 
 returns-2 : tie.Need-returns-2
 unfolding commaArm
-returns-2 c = λ t ts σ x. no (λ n. told (c .before .before .before .before .before .breaks-comma .ensures) (c .before .before .before .before .if1 .left)) (rw (σ .kind, σ .lexeme, c .before .before .before .before .before .before .before .before .before .before .pre .1 .1) (c .before .before .push-lexeme .ensures .0 _ x))
+returns-2 c =
+    let at-if1 = c .before .before .before .before in
+    let at-breaks-comma = at-if1 .before in
+    let entry = at-breaks-comma .before .before .before .before .before in
+    λ t ts σ x.
+    no
+    (λ n. told (at-breaks-comma .breaks-comma .ensures) (at-if1 .if1 .left))
+    (rw (σ .kind, σ .lexeme, entry .pre .1 .1) (c .before .before .push-lexeme .ensures .0 _ x))
 
 pub comma-arm-spec : {M : Type 1} → statement M
 comma-arm-spec =

@@ -28,14 +28,29 @@ same-length c = search needs
 
 returns : tie.Need-returns
 unfolding elseArm run said
-returns c = λ t ts σ s x e. yes (λ n. told (c .before .before .before .before .before .before .before .else-on-new-line .ensures s x e) (c .before .before .before .before .before .before .if1 .taken)) (does (rw (c .ended-by .ensures)) refl (rw (c .before .before .before .before .before .indent-size .ensures .0) at (c .before .before .before .write-else .ensures)))
+returns c =
+    let at-write-else = c .before .before .before in
+    let at-indent-size = at-write-else .before .before in
+    let at-if1 = at-indent-size .before in
+    let at-else-on-new-line = at-if1 .before in
+    λ t ts σ s x e.
+    yes
+    (λ n. told (at-else-on-new-line .else-on-new-line .ensures s x e) (at-if1 .if1 .taken))
+    (does (rw (c .ended-by .ensures)) refl (rw (at-indent-size .indent-size .ensures .0) at (at-write-else .write-else .ensures)))
 
 same-length-2 : tie.Need-same-length-2
 same-length-2 c = search needs
 
 returns-2 : tie.Need-returns-2
 unfolding elseArm
-returns-2 c = λ t ts σ s x e. no (λ n. told (c .before .before .before .before .before .else-on-new-line .ensures s x e) (c .before .before .before .before .if1 .left)) (rw (σ .kind, σ .lexeme, c .before .before .before .before .before .before .before .before .before .pre .1 .1) (c .before .before .push-lexeme .ensures .0 s x))
+returns-2 c =
+    let at-if1 = c .before .before .before .before in
+    let at-else-on-new-line = at-if1 .before in
+    let entry = at-else-on-new-line .before .before .before .before in
+    λ t ts σ s x e.
+    no
+    (λ n. told (at-else-on-new-line .else-on-new-line .ensures s x e) (at-if1 .if1 .left))
+    (rw (σ .kind, σ .lexeme, entry .pre .1 .1) (c .before .before .push-lexeme .ensures .0 s x))
 
 pub else-arm-spec : {M : Type 1} → statement M
 else-arm-spec =

@@ -21,7 +21,13 @@ prev-is-requires : tie.Need-prev-is-requires
 prev-is-requires c κs = search needs
 
 returns-4 : tie.Need-returns-4
-returns-4 c = λ s x e. rw (no-depth _ (told (c .before .before .before .before .in-one-line-block .ensures) (c .before .before .before .if1 .left)), c .before .before .if2 .left, e, c .before .if3 .left) (c .prev-is .ensures)
+returns-4 c =
+    let at-if1 = c .before .before .before in
+    let at-in-one-line-block = at-if1 .before in
+    λ s x e.
+    rw
+    (no-depth _ (told (at-in-one-line-block .in-one-line-block .ensures) (at-if1 .if1 .left)), c .before .before .if2 .left, e, c .before .if3 .left)
+    (c .prev-is .ensures)
 
 pub else-on-new-line-spec : {M : Type 1} → statement M
 else-on-new-line-spec =

@@ -23,7 +23,12 @@ next-is-requires : tie.Need-next-is-requires
 next-is-requires c κs = search needs
 
 returns : tie.Need-returns
-returns c = λ text t ts σ. rw (c .before .before .before .if1 .taken) (looked-after σ (nextIs RightBrace) (part-is (c .before .before .before .before .before .args .token .own + 16) (c .before .before .before .before .before .args .rows .now)) (c .next-is .ensures text))
+returns c =
+    let at-if1 = c .before .before .before in
+    let entry = at-if1 .before .before in
+    λ text t ts σ.
+    rw (at-if1 .if1 .taken)
+    (looked-after σ (nextIs RightBrace) (part-is (entry .args .token .own + 16) (entry .args .rows .now)) (c .next-is .ensures text))
 
 returns-2 : tie.Need-returns-2
 returns-2 c = λ text t ts σ. rw (c .if1 .left)

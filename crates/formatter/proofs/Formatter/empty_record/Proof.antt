@@ -31,7 +31,18 @@ same-length c = search needs
 
 returns : tie.Need-returns
 unfolding run said emptyRecord
-returns c = λ s x. let o = optionsOf (c .before .before .before .before .before .before .before .before .before .args .options) in let f = fieldsOf (c .before .before .before .before .before .before .before .before .before .args .self) in let w = lexemeOf (c .before .before .before .before .before .before .before .before .before .args .token) (c .before .before .before .before .before .before .before .before .before .args .rows .now) (c .before .before .before .before .before .before .before .before .before .args .text .now) in does (sym (rw (c .ended-by .ensures))) refl (same-bytes (closed-up (tokenGap o LeftBrace f) w (bytes "{}")) (gapped (gapSize o LeftBrace f) _ _ (token-gap o f LeftBrace) (c .before .before .before .before .before .gap-before .ensures .0) (c .before .before .before .write-token .ensures)))
+returns c =
+    let at-write-token = c .before .before .before in
+    let at-gap-before = at-write-token .before .before in
+    let entry = at-gap-before .before .before .before .before in
+    λ s x.
+    let o = optionsOf (entry .args .options) in
+    let f = fieldsOf (entry .args .self) in
+    let w = lexemeOf (entry .args .token) (entry .args .rows .now) (entry .args .text .now) in
+    does (sym (rw (c .ended-by .ensures))) refl
+    (same-bytes
+    (closed-up (tokenGap o LeftBrace f) w (bytes "{}"))
+    (gapped (gapSize o LeftBrace f) _ _ (token-gap o f LeftBrace) (at-gap-before .gap-before .ensures .0) (at-write-token .write-token .ensures)))
 
 pub empty-record-spec : {M : Type 1} → statement M
 empty-record-spec =

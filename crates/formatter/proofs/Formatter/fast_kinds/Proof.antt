@@ -40,7 +40,14 @@ add-result-4 : tie.Need-add-result-4
 add-result-4 c = search needs
 
 returns : tie.Need-returns
-returns c = rw (c .before .before .before .before .before .before .kinds-if .ensures .0, c .before .before .before .before .before .before .before .breaks-comma .ensures, c .before .before .before .before .kinds-if2 .ensures .0, c .before .before .before .before .before .prev-is .ensures, c .before .before .kinds-if3 .ensures .0, c .before .before .before .in-broken-signature .ensures, c .kinds-if4 .ensures .0, c .before .nothing-is-broken .ensures)
+returns c =
+    let at-in-broken-signature = c .before .before .before in
+    let at-kinds-if2 = at-in-broken-signature .before in
+    let at-prev-is = at-kinds-if2 .before in
+    let at-kinds-if = at-prev-is .before in
+    let at-breaks-comma = at-kinds-if .before in
+    rw
+    (at-kinds-if .kinds-if .ensures .0, at-breaks-comma .breaks-comma .ensures, at-kinds-if2 .kinds-if2 .ensures .0, at-prev-is .prev-is .ensures, c .before .before .kinds-if3 .ensures .0, at-in-broken-signature .in-broken-signature .ensures, c .kinds-if4 .ensures .0, c .before .nothing-is-broken .ensures)
 
 pub fast-kinds-spec : {M : Type 1} → statement M
 fast-kinds-spec =

@@ -30,19 +30,53 @@ same-length c = search needs
 
 returns : tie.Need-returns
 unfolding emptyRecord
-returns c = λ t ts σ s x. brace (optionsOf (c .before .before .before .before .before .before .before .before .before .args .options)) (c .before .before .before .before .before .before .before .before .before .args .token .index) t ts (yes (λ n. told (c .before .before .before .before .before .empties-record .ensures _ t ts σ) (c .before .before .before .before .if1 .taken)) (rw (σ .kind, c .before .before .before .before .before .before .before .before .before .pre .1 .1, σ .lexeme) (c .before .before .empty-record .ensures s x)))
+returns c =
+    let at-if1 = c .before .before .before .before in
+    let at-empties-record = at-if1 .before in
+    let entry = at-empties-record .before .before .before .before in
+    λ t ts σ s x.
+    brace (optionsOf (entry .args .options))
+    (entry .args .token .index) t ts
+    (yes
+    (λ n. told (at-empties-record .empties-record .ensures _ t ts σ) (at-if1 .if1 .taken))
+    (rw (σ .kind, entry .pre .1 .1, σ .lexeme) (c .before .before .empty-record .ensures s x)))
 
 same-length-2 : tie.Need-same-length-2
 same-length-2 c = search needs
 
 returns-2 : tie.Need-returns-2
-returns-2 c = λ t ts σ s x. brace (optionsOf (c .before .before .before .before .before .before .before .before .before .before .before .before .args .options)) (c .before .before .before .before .before .before .before .before .before .before .before .before .args .token .index) t ts (no (λ n. told (c .before .before .before .before .before .before .before .before .empties-record .ensures _ t ts σ) (c .before .before .before .before .before .before .before .if1 .left)) (yes (λ n. told (c .before .before .before .before .before .before .opens-block .ensures _ t ts σ) (c .before .before .before .before .before .if2 .taken)) (seq (c .before .before .before .before .enter-record .ensures .0 _ s x) (c .before .before .open-block-multiline .ensures s _))))
+returns-2 c =
+    let at-enter-record = c .before .before .before .before in
+    let at-if2 = at-enter-record .before in
+    let at-opens-block = at-if2 .before in
+    let at-if1 = at-opens-block .before in
+    let at-empties-record = at-if1 .before in
+    let entry = at-empties-record .before .before .before .before in
+    λ t ts σ s x.
+    brace (optionsOf (entry .args .options))
+    (entry .args .token .index) t ts
+    (no
+    (λ n. told (at-empties-record .empties-record .ensures _ t ts σ) (at-if1 .if1 .left))
+    (yes
+    (λ n. told (at-opens-block .opens-block .ensures _ t ts σ) (at-if2 .if2 .taken))
+    (seq (at-enter-record .enter-record .ensures .0 _ s x) (c .before .before .open-block-multiline .ensures s _))))
 
 same-length-3 : tie.Need-same-length-3
 same-length-3 c = search needs
 
 returns-3 : tie.Need-returns-3
-returns-3 c = λ t ts σ s x. brace (optionsOf (c .before .before .before .before .before .before .before .before .before .before .before .args .options)) (c .before .before .before .before .before .before .before .before .before .before .before .args .token .index) t ts (no (λ n. told (c .before .before .before .before .before .before .before .empties-record .ensures _ t ts σ) (c .before .before .before .before .before .before .if1 .left)) (no (λ n. told (c .before .before .before .before .before .opens-block .ensures _ t ts σ) (c .before .before .before .before .if2 .left)) (c .before .before .open-one-line .ensures s x)))
+returns-3 c =
+    let at-if2 = c .before .before .before .before in
+    let at-opens-block = at-if2 .before in
+    let at-if1 = at-opens-block .before in
+    let at-empties-record = at-if1 .before in
+    let entry = at-empties-record .before .before .before .before in
+    λ t ts σ s x.
+    brace (optionsOf (entry .args .options))
+    (entry .args .token .index) t ts
+    (no
+    (λ n. told (at-empties-record .empties-record .ensures _ t ts σ) (at-if1 .if1 .left))
+    (no (λ n. told (at-opens-block .opens-block .ensures _ t ts σ) (at-if2 .if2 .left)) (c .before .before .open-one-line .ensures s x)))
 
 pub left-brace-arm-spec : {M : Type 1} → statement M
 left-brace-arm-spec =

@@ -25,14 +25,32 @@ same-length-2 c = search needs
 
 returns : tie.Need-returns
 unfolding leftBracketArm
-returns c = λ t ts σ v x. let r = told (c .before .before .before .before .before .before .before .before .breaks-list .ensures _ t ts σ) (c .before .before .before .before .before .before .before .if1 .taken) in yes (λ n. r) (rw (σ .kind, σ .lexeme, c .before .before .before .before .before .before .before .before .before .before .before .before .before .pre .1 .1) (c .before .before .before .before .open-list .ensures (bracket-room (optionsOf (c .before .before .before .before .before .before .before .before .before .before .before .before .before .args .options)) t ts (c .before .before .before .before .before .before .before .before .before .before .before .before .before .args .self) (c .before .before .before .before .before .before .before .before .before .before .before .before .before .args .stack .now) v (σ .kind ∙ c .before .before .before .before .before .before .before .before .before .before .before .before .before .pre .1 .1) r) x))
+returns c =
+    let at-open-list = c .before .before .before .before in
+    let at-if1 = at-open-list .before .before .before in
+    let at-breaks-list = at-if1 .before in
+    let entry = at-breaks-list .before .before .before .before .before in
+    λ t ts σ v x.
+    let r = told (at-breaks-list .breaks-list .ensures _ t ts σ) (at-if1 .if1 .taken) in
+    yes
+    (λ n. r)
+    (rw (σ .kind, σ .lexeme, entry .pre .1 .1)
+    (at-open-list .open-list .ensures
+    (bracket-room (optionsOf (entry .args .options)) t ts (entry .args .self) (entry .args .stack .now) v (σ .kind ∙ entry .pre .1 .1) r) x))
 
 same-length-3 : tie.Need-same-length-3
 same-length-3 c = search needs
 
 returns-2 : tie.Need-returns-2
 unfolding leftBracketArm
-returns-2 c = λ t ts σ v x. no (λ n. told (c .before .before .before .before .before .breaks-list .ensures _ t ts σ) (c .before .before .before .before .if1 .left)) (rw (σ .kind, σ .lexeme, c .before .before .before .before .before .before .before .before .before .before .pre .1 .1) (c .before .before .open-group .ensures _ x))
+returns-2 c =
+    let at-if1 = c .before .before .before .before in
+    let at-breaks-list = at-if1 .before in
+    let entry = at-breaks-list .before .before .before .before .before in
+    λ t ts σ v x.
+    no
+    (λ n. told (at-breaks-list .breaks-list .ensures _ t ts σ) (at-if1 .if1 .left))
+    (rw (σ .kind, σ .lexeme, entry .pre .1 .1) (c .before .before .open-group .ensures _ x))
 
 pub left-bracket-arm-spec : {M : Type 1} → statement M
 left-bracket-arm-spec =

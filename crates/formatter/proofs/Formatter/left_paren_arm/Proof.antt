@@ -32,7 +32,11 @@ same-length c = search needs
 
 returns : tie.Need-returns
 unfolding leftParenArm
-returns c = λ t ts σ v x. yes (λ n. told (c .before .before .before .before .before .at-signature .ensures) (c .before .before .before .before .if1 .taken)) (c .before .before .open-signature .ensures t ts σ _ x)
+returns c =
+    let at-if1 = c .before .before .before .before in
+    let at-at-signature = at-if1 .before in
+    λ t ts σ v x.
+    yes (λ n. told (at-at-signature .at-signature .ensures) (at-if1 .if1 .taken)) (c .before .before .open-signature .ensures t ts σ _ x)
 
 same-length-2 : tie.Need-same-length-2
 same-length-2 c = search needs
@@ -42,14 +46,44 @@ same-length-3 c = search needs
 
 returns-2 : tie.Need-returns-2
 unfolding leftParenArm
-returns-2 c = λ t ts σ v x. let a = told (c .before .before .before .before .before .before .before .before .before .before .at-signature .ensures) (c .before .before .before .before .before .before .before .before .before .if1 .left) in let r = told (c .before .before .before .before .before .before .before .before .breaks-list .ensures _ t ts σ) (c .before .before .before .before .before .before .before .if2 .taken) in no (λ n. a) (yes (λ n. r) (rw (σ .kind, σ .lexeme, c .before .before .before .before .before .before .before .before .before .before .before .before .before .before .before .pre .1 .1) (c .before .before .before .before .open-list .ensures (paren-room (optionsOf (c .before .before .before .before .before .before .before .before .before .before .before .before .before .before .before .args .options)) t ts (c .before .before .before .before .before .before .before .before .before .before .before .before .before .before .before .args .self) (c .before .before .before .before .before .before .before .before .before .before .before .before .before .before .before .args .stack .now) v (σ .kind ∙ c .before .before .before .before .before .before .before .before .before .before .before .before .before .before .before .pre .1 .1) a r) x)))
+returns-2 c =
+    let at-open-list = c .before .before .before .before in
+    let at-if2 = at-open-list .before .before .before in
+    let at-breaks-list = at-if2 .before in
+    let at-if1 = at-breaks-list .before in
+    let at-at-signature = at-if1 .before in
+    let entry = at-at-signature .before .before .before .before .before in
+    λ t ts σ v x.
+    let a = told (at-at-signature .at-signature .ensures) (at-if1 .if1 .left) in
+    let r = told (at-breaks-list .breaks-list .ensures _ t ts σ) (at-if2 .if2 .taken) in
+    no
+    (λ n. a)
+    (yes
+    (λ n. r)
+    (rw (σ .kind, σ .lexeme, entry .pre .1 .1)
+    (at-open-list .open-list .ensures
+    (paren-room (optionsOf (entry .args .options)) t ts (entry .args .self) (entry .args .stack .now) v (σ .kind ∙ entry .pre .1 .1) a r) x)))
 
 same-length-4 : tie.Need-same-length-4
 same-length-4 c = search needs
 
 returns-3 : tie.Need-returns-3
 unfolding leftParenArm
-returns-3 c = λ t ts σ v x. no (λ n. told (c .before .before .before .before .before .before .before .before .at-signature .ensures) (c .before .before .before .before .before .before .before .if1 .left)) (no (λ n. told (c .before .before .before .before .before .before .breaks-list .ensures _ t ts σ) (c .before .before .before .before .before .if2 .left)) (seq (updated (sym (rw (c .before .before .before .before .deeper .ensures))) refl nothing) (its σ (c .before .before .before .before .before .before .before .before .before .before .before .before .before .pre .1 .1) (openGroup (optionsOf (c .before .before .before .before .before .before .before .before .before .before .before .before .before .args .options))) (c .before .before .open-group .ensures _ _))))
+returns-3 c =
+    let at-deeper = c .before .before .before .before in
+    let at-if2 = at-deeper .before in
+    let at-breaks-list = at-if2 .before in
+    let at-if1 = at-breaks-list .before in
+    let at-at-signature = at-if1 .before in
+    let entry = at-at-signature .before .before .before .before .before in
+    λ t ts σ v x.
+    no
+    (λ n. told (at-at-signature .at-signature .ensures) (at-if1 .if1 .left))
+    (no
+    (λ n. told (at-breaks-list .breaks-list .ensures _ t ts σ) (at-if2 .if2 .left))
+    (seq
+    (updated (sym (rw (at-deeper .deeper .ensures))) refl nothing)
+    (its σ (entry .pre .1 .1) (openGroup (optionsOf (entry .args .options))) (c .before .before .open-group .ensures _ _))))
 
 pub left-paren-arm-spec : {M : Type 1} → statement M
 left-paren-arm-spec =

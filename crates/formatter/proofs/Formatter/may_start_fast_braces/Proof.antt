@@ -34,7 +34,17 @@ returns-7 : tie.Need-returns-7
 returns-7 c = λ e. impossible′ e
 
 returns-8 : tie.Need-returns-8
-returns-8 c = λ e. record { bare = not-false _ (c .before .before .before .before .if4 .left); mid-line = c .before .before .before .if5 .left; no-record = c .before .before .if6 .left; outside = c .before .if7 .left; no-fn = eqb-true _ 0 e }
+returns-8 c =
+    let at-if5 = c .before .before .before in
+    let at-if4 = at-if5 .before in
+    λ e.
+    record {
+      bare = not-false _ (at-if4 .if4 .left);
+      mid-line = at-if5 .if5 .left;
+      no-record = c .before .before .if6 .left;
+      outside = c .before .if7 .left;
+      no-fn = eqb-true _ 0 e;
+    }
 
 pub may-start-fast-braces-spec : {M : Type 1} → statement M
 may-start-fast-braces-spec =

@@ -33,7 +33,14 @@ returns-6 : tie.Need-returns-6
 returns-6 c = λ e. record { mid-line = c .before .before .before .before .if4 .left; not-closed = c .before .before .before .if5 .left; no-fn = λ s. eqb-true _ 0 e }
 
 returns-7 : tie.Need-returns-7
-returns-7 c = λ e. record { mid-line = c .before .before .before .if4 .left; not-closed = c .before .before .if5 .left; no-fn = λ s. impossible (sym s ∙ told (c .before .in-broken-signature .ensures) (c .if6 .left)) }
+returns-7 c =
+    let at-if4 = c .before .before .before in
+    λ e.
+    record {
+      mid-line = at-if4 .if4 .left;
+      not-closed = c .before .before .if5 .left;
+      no-fn = λ s. impossible (sym s ∙ told (c .before .in-broken-signature .ensures) (c .if6 .left));
+    }
 
 pub may-start-fast-tokens-spec : {M : Type 1} → statement M
 may-start-fast-tokens-spec = tie.close (tie.spec returns row-at-requires returns-2 returns-3 returns-4 returns-5 in-broken-signature-requires returns-6 returns-7)

@@ -47,13 +47,44 @@ same-length c = search needs
 
 returns-2 : tie.Need-returns-2
 unfolding run said
-returns-2 c = λ text t ts σ s x. newline (c .before .before .before .before .before .before .before .before .before .before .before .before .before .before .args .token .index) ts (told (c .before .before .before .before .before .before .before .before .before .before .suppresses .ensures) (c .before .before .before .before .before .before .before .before .before .if1 .left)) (yes (λ n. told (looked-after σ (λ l. feedsLine l (stateOf x (codeState (c .before .before .before .before .before .before .before .before .before .before .before .before .before .before .args .self) s (c .before .before .before .before .before .before .before .before .before .before .before .before .before .before .args .out .now)))) (part-is (c .before .before .before .before .before .before .before .before .before .before .before .before .before .before .args .token .own + 16) (c .before .before .before .before .before .before .before .before .before .before .before .before .before .before .args .rows .now)) (c .before .before .before .before .before .before .feeds .ensures s text x n)) (c .before .before .before .before .before .if2 .taken)) (does (sym (rw (c .ended-by .ensures))) refl (c .before .before .before .write-byte .ensures)))
+returns-2 c =
+    let at-write-byte = c .before .before .before in
+    let at-if2 = at-write-byte .before .before in
+    let at-feeds = at-if2 .before in
+    let at-if1 = at-feeds .before .before .before in
+    let at-suppresses = at-if1 .before in
+    let entry = at-suppresses .before .before .before .before in
+    λ text t ts σ s x.
+    newline (entry .args .token .index) ts
+    (told (at-suppresses .suppresses .ensures) (at-if1 .if1 .left))
+    (yes
+    (λ n.
+    told
+    (looked-after σ
+    (λ l. feedsLine l (stateOf x (codeState (entry .args .self) s (entry .args .out .now))))
+    (part-is (entry .args .token .own + 16) (entry .args .rows .now)) (at-feeds .feeds .ensures s text x n))
+    (at-if2 .if2 .taken))
+    (does (sym (rw (c .ended-by .ensures))) refl (at-write-byte .write-byte .ensures)))
 
 same-length-2 : tie.Need-same-length-2
 same-length-2 c = search needs
 
 returns-3 : tie.Need-returns-3
-returns-3 c = λ text t ts σ s x. newline (c .before .before .before .before .before .before .before .before .before .args .token .index) ts (told (c .before .before .before .before .before .suppresses .ensures) (c .before .before .before .before .if1 .left)) (no (λ n. told (looked-after σ (λ l. feedsLine l (stateOf x (codeState (c .before .before .before .before .before .before .before .before .before .args .self) s (c .before .before .before .before .before .before .before .before .before .args .out .now)))) (part-is (c .before .before .before .before .before .before .before .before .before .args .token .own + 16) (c .before .before .before .before .before .before .before .before .before .args .rows .now)) (c .before .feeds .ensures s text x n)) (c .if2 .left)) stays)
+returns-3 c =
+    let at-if1 = c .before .before .before .before in
+    let at-suppresses = at-if1 .before in
+    let entry = at-suppresses .before .before .before .before in
+    λ text t ts σ s x.
+    newline (entry .args .token .index) ts
+    (told (at-suppresses .suppresses .ensures) (at-if1 .if1 .left))
+    (no
+    (λ n.
+    told
+    (looked-after σ
+    (λ l. feedsLine l (stateOf x (codeState (entry .args .self) s (entry .args .out .now))))
+    (part-is (entry .args .token .own + 16) (entry .args .rows .now)) (c .before .feeds .ensures s text x n))
+    (c .if2 .left))
+    stays)
 
 pub newline-arm-spec : {M : Type 1} → statement M
 newline-arm-spec =

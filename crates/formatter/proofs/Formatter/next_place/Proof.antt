@@ -21,7 +21,12 @@ add-t10 : tie.Need-add-t10
 add-t10 c = search needs
 
 returns : tie.Need-returns
-returns c = rw (eq-eqb _ _ (c .before .before .before .if1 .taken), told (c .before .before .prev-is .ensures) (c .before .if2 .taken)) (record { at = c .token-at .ensures .next ∙ ap (nextRow (c .before .before .before .before .before .before .before .args .rows .now)) (c .token-at .ensures .own); index = omega arith })
+returns c =
+    let at-if1 = c .before .before .before in
+    let entry = at-if1 .before .before .before .before in
+    rw
+    (eq-eqb _ _ (at-if1 .if1 .taken), told (c .before .before .prev-is .ensures) (c .before .if2 .taken))
+    (record { at = c .token-at .ensures .next ∙ ap (nextRow (entry .args .rows .now)) (c .token-at .ensures .own); index = omega arith })
 
 returns-2 : tie.Need-returns-2
 returns-2 c = rw (eq-eqb _ _ (c .before .before .if1 .taken), told (c .before .prev-is .ensures) (c .if2 .left)) (record { at = refl; index = refl })

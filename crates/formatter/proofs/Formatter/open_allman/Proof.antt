@@ -28,7 +28,13 @@ same-length c = search needs
 
 returns : tie.Need-returns
 unfolding run said
-returns c = λ s x. does (sym (rw (c .before .ended-by .ensures, c .before .before .suppressed-after .ensures))) refl (rw (append-nil, ← c .before .before .before .before .before .before .before .indent-size .ensures .0) (c .before .before .before .before .before .write-opener-line .ensures))
+returns c =
+    let at-write-opener-line = c .before .before .before .before .before in
+    let at-indent-size = at-write-opener-line .before .before in
+    λ s x.
+    does
+    (sym (rw (c .before .ended-by .ensures, c .before .before .suppressed-after .ensures))) refl
+    (rw (append-nil, ← at-indent-size .indent-size .ensures .0) (at-write-opener-line .write-opener-line .ensures))
 
 pub open-allman-spec : {M : Type 1} → statement M
 open-allman-spec =

@@ -22,13 +22,23 @@ same-length : tie.Need-same-length
 same-length c = search needs
 
 returns : tie.Need-returns
-returns c = λ s x. block-same-line (optionsOf (c .before .before .before .before .before .before .before .args .options)) (c .before .before .before .before .before .before .before .args .index) (ap styleOf (c .before .before .before .before .enum-told .given .1)) (c .before .before .open-same-line .ensures s x)
+returns c =
+    let at-enum-told = c .before .before .before .before in
+    let entry = at-enum-told .before .before .before in
+    λ s x.
+    block-same-line (optionsOf (entry .args .options))
+    (entry .args .index) (ap styleOf (at-enum-told .enum-told .given .1)) (c .before .before .open-same-line .ensures s x)
 
 same-length-2 : tie.Need-same-length-2
 same-length-2 c = search needs
 
 returns-2 : tie.Need-returns-2
-returns-2 c = λ s x. block-allman (optionsOf (c .before .before .before .before .before .before .before .args .options)) (c .before .before .before .before .before .before .before .args .index) (ap styleOf (c .before .before .before .before .enum-told2 .given .1)) (c .before .before .open-allman .ensures s x)
+returns-2 c =
+    let at-enum-told2 = c .before .before .before .before in
+    let entry = at-enum-told2 .before .before .before in
+    λ s x.
+    block-allman (optionsOf (entry .args .options))
+    (entry .args .index) (ap styleOf (at-enum-told2 .enum-told2 .given .1)) (c .before .before .open-allman .ensures s x)
 
 pub open-block-multiline-spec : {M : Type 1} → statement M
 open-block-multiline-spec =

@@ -19,7 +19,10 @@ same-length : tie.Need-same-length
 same-length c = search needs
 
 returns : tie.Need-returns
-returns c = λ s x. one-line (optionsOf (c .before .before .before .before .before .before .before .before .args .options)) (sym (rw (c .ended-by .ensures))) refl (c .before .before .before .before .write-inline-opener .ensures)
+returns c =
+    let at-write-inline-opener = c .before .before .before .before in
+    let entry = at-write-inline-opener .before .before .before .before in
+    λ s x. one-line (optionsOf (entry .args .options)) (sym (rw (c .ended-by .ensures))) refl (at-write-inline-opener .write-inline-opener .ensures)
 
 pub open-one-line-spec : {M : Type 1} → statement M
 open-one-line-spec =

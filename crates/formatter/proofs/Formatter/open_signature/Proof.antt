@@ -34,13 +34,39 @@ same-length : tie.Need-same-length
 same-length c = search needs
 
 returns : tie.Need-returns
-returns c = λ t ts σ s x. seq (updated refl refl nothing) (yes (λ n. told (looked σ (shouldBreakSig (c .before .before .before .before .before .before .before .before .before .before .args .options .«fn_sig_width»)) (part-is (c .before .before .before .before .before .before .before .before .before .before .args .token .lead) (c .before .before .before .before .before .before .before .before .before .before .args .rows .now)) (sig-tokens _ _ _ (c .before .before .before .before .before .should-break-sig .ensures))) (c .before .before .before .before .if1 .taken)) (c .before .before .break-signature .ensures s _))
+returns c =
+    let at-if1 = c .before .before .before .before in
+    let at-should-break-sig = at-if1 .before in
+    let entry = at-should-break-sig .before .before .before .before .before in
+    λ t ts σ s x.
+    seq (updated refl refl nothing)
+    (yes
+    (λ n.
+    told
+    (looked σ
+    (shouldBreakSig (entry .args .options .«fn_sig_width»)) (part-is (entry .args .token .lead) (entry .args .rows .now))
+    (sig-tokens _ _ _ (at-should-break-sig .should-break-sig .ensures)))
+    (at-if1 .if1 .taken))
+    (c .before .before .break-signature .ensures s _))
 
 same-length-2 : tie.Need-same-length-2
 same-length-2 c = search needs
 
 returns-2 : tie.Need-returns-2
-returns-2 c = λ t ts σ s x. seq (updated refl refl nothing) (no (λ n. told (looked σ (shouldBreakSig (c .before .before .before .before .before .before .before .before .before .before .args .options .«fn_sig_width»)) (part-is (c .before .before .before .before .before .before .before .before .before .before .args .token .lead) (c .before .before .before .before .before .before .before .before .before .before .args .rows .now)) (sig-tokens _ _ _ (c .before .before .before .before .before .should-break-sig .ensures))) (c .before .before .before .before .if1 .left)) (its σ (c .before .before .before .before .before .before .before .before .before .before .pre .1 .1) (openGroup (optionsOf (c .before .before .before .before .before .before .before .before .before .before .args .options))) (c .before .before .open-group .ensures s _)))
+returns-2 c =
+    let at-if1 = c .before .before .before .before in
+    let at-should-break-sig = at-if1 .before in
+    let entry = at-should-break-sig .before .before .before .before .before in
+    λ t ts σ s x.
+    seq (updated refl refl nothing)
+    (no
+    (λ n.
+    told
+    (looked σ
+    (shouldBreakSig (entry .args .options .«fn_sig_width»)) (part-is (entry .args .token .lead) (entry .args .rows .now))
+    (sig-tokens _ _ _ (at-should-break-sig .should-break-sig .ensures)))
+    (at-if1 .if1 .left))
+    (its σ (entry .pre .1 .1) (openGroup (optionsOf (entry .args .options))) (c .before .before .open-group .ensures s _)))
 
 pub open-signature-spec : {M : Type 1} → statement M
 open-signature-spec =

@@ -22,7 +22,15 @@ returns-3 : tie.Need-returns-3
 returns-3 c = λ text t ts σ. rw (c .before .before .before .if1 .left, c .before .before .if2 .left, told (c .before .in-one-line-block .ensures) (c .if3 .taken))
 
 returns-4 : tie.Need-returns-4
-returns-4 c = λ text t ts σ. rw (c .before .before .before .before .before .if1 .left, c .before .before .before .before .if2 .left, told (c .before .before .before .in-one-line-block .ensures) (c .before .before .if3 .left)) (ap not (looked σ blockIsSingleLine refl (λ b. sym (no-brace _ text (c .before .before .before .before .before .before .before .pre .1 .braces (c .if4 .taken))))))
+returns-4 c =
+    let at-in-one-line-block = c .before .before .before in
+    let at-if2 = at-in-one-line-block .before in
+    let at-if1 = at-if2 .before in
+    let entry = at-if1 .before .before in
+    λ text t ts σ.
+    rw
+    (at-if1 .if1 .left, at-if2 .if2 .left, told (at-in-one-line-block .in-one-line-block .ensures) (c .before .before .if3 .left))
+    (ap not (looked σ blockIsSingleLine refl (λ b. sym (no-brace _ text (entry .pre .1 .braces (c .if4 .taken))))))
 
 sub-block-is-single-line : tie.Need-sub-block-is-single-line
 sub-block-is-single-line c = search needs
@@ -37,7 +45,16 @@ block-is-single-line-requires : tie.Need-block-is-single-line-requires
 block-is-single-line-requires c κs = search needs
 
 returns-5 : tie.Need-returns-5
-returns-5 c = λ text t ts σ. rw (c .before .before .before .before .before .before .before .if1 .left, c .before .before .before .before .before .before .if2 .left, told (c .before .before .before .before .before .in-one-line-block .ensures) (c .before .before .before .before .if3 .left)) (ap not (looked σ blockIsSingleLine (part-is (c .before .before .before .before .before .before .before .before .before .args .token .lead) (c .before .before .before .before .before .before .before .before .before .args .rows .now)) (λ b. c .block-is-single-line .ensures text)))
+returns-5 c =
+    let at-if3 = c .before .before .before .before in
+    let at-in-one-line-block = at-if3 .before in
+    let at-if2 = at-in-one-line-block .before in
+    let at-if1 = at-if2 .before in
+    let entry = at-if1 .before .before in
+    λ text t ts σ.
+    rw
+    (at-if1 .if1 .left, at-if2 .if2 .left, told (at-in-one-line-block .in-one-line-block .ensures) (at-if3 .if3 .left))
+    (ap not (looked σ blockIsSingleLine (part-is (entry .args .token .lead) (entry .args .rows .now)) (λ b. c .block-is-single-line .ensures text)))
 
 pub opens-block-spec : {M : Type 1} → statement M
 opens-block-spec =

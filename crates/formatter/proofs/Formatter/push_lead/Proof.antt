@@ -20,7 +20,10 @@ same-length c = search needs
 
 returns : tie.Need-returns
 unfolding run said
-returns c = (λ s x. rw (blank-row (c .before .before .before .before .before .before .before .before .args .text .now) (rowOf (c .before .before .before .before .before .before .before .before .args .row)) (c .before .before .before .before .if1 .taken)) (does-then refl refl (c .before .before .write-blank-line .ensures)), refl)
+returns c =
+    let at-if1 = c .before .before .before .before in
+    let entry = at-if1 .before .before .before .before in
+    (λ s x. rw (blank-row (entry .args .text .now) (rowOf (entry .args .row)) (at-if1 .if1 .taken)) (does-then refl refl (c .before .before .write-blank-line .ensures)), refl)
 
 indent-or-space-requires : tie.Need-indent-or-space-requires
 indent-or-space-requires c κs = search needs
@@ -35,7 +38,11 @@ same-length-2 : tie.Need-same-length-2
 same-length-2 c = search needs
 
 returns-2 : tie.Need-returns-2
-returns-2 c = (λ s x. lead-comment (optionsOf (c .before .before .before .before .before .before .before .before .before .before .before .before .before .args .options)) (c .before .before .before .before .before .before .before .before .before .before .before .before .before .args .text .now) (rowOf (c .before .before .before .before .before .before .before .before .before .before .before .before .before .args .row)) (search needs) refl refl (gapped _ _ _ (indent-or-space (optionsOf (c .before .before .before .before .before .before .before .before .before .before .before .before .before .args .options)) (formatterOf (c .before .before .before .before .before .before .before .before .before .before .before .before .before .args .self) s x)) (c .before .before .before .before .before .before .before .before .indent-or-space .ensures .0) (andThen (c .before .before .before .before .before .before .write-spaces .ensures) (c .before .before .write-lead .ensures))), refl)
+returns-2 c =
+    let at-write-spaces = c .before .before .before .before .before .before in
+    let at-indent-or-space = at-write-spaces .before .before in
+    let entry = at-indent-or-space .before .before .before .before .before in
+    (λ s x. lead-comment (optionsOf (entry .args .options)) (entry .args .text .now) (rowOf (entry .args .row)) (search needs) refl refl (gapped _ _ _ (indent-or-space (optionsOf (entry .args .options)) (formatterOf (entry .args .self) s x)) (at-indent-or-space .indent-or-space .ensures .0) (andThen (at-write-spaces .write-spaces .ensures) (c .before .before .write-lead .ensures))), refl)
 
 pub push-lead-spec : {M : Type 1} → statement M
 push-lead-spec =

@@ -20,16 +20,30 @@ row-at-requires : tie.Need-row-at-requires Inv-loop μ-loop
 row-at-requires c κs = row-within (c .before .before .loop .inv .part) (c .before .loop-test .taken)
 
 push-lead-requires : tie.Need-push-lead-requires Inv-loop μ-loop
-push-lead-requires c κs = ((c .before .before .before .before .before .before .before .pre .0 .0, c .before .before .before .loop .inv .indent), row-inside (c .before .before .before .loop .inv .part) (c .before .before .loop-test .taken) (c .row-at .ensures))
+push-lead-requires c κs =
+    let at-loop = c .before .before .before in
+    let entry = at-loop .before .before .before .before in
+    ((entry .pre .0 .0, at-loop .loop .inv .indent), row-inside (at-loop .loop .inv .part) (c .before .before .loop-test .taken) (c .row-at .ensures))
 
 add-at : tie.Need-add-at Inv-loop μ-loop
-add-at c = let b = row-within (c .before .before .before .before .before .before .loop .inv .part) (c .before .before .before .before .before .loop-test .taken) in omega (arith, c .before .before .before .before .before .before .before .before .before .before .good .1 .1 .1 .0 .0)
+add-at c =
+    let at-loop-test = c .before .before .before .before .before in
+    let at-loop = at-loop-test .before in
+    let entry = at-loop .before .before .before .before in
+    let b = row-within (at-loop .loop .inv .part) (at-loop-test .loop-test .taken) in omega (arith, entry .good .1 .1 .1 .0 .0)
 
 loop-less : tie.Need-loop-less Inv-loop μ-loop
 loop-less c = omega arith
 
 loop-again : tie.Need-loop-again Inv-loop μ-loop
-loop-again c = leads-after (c .before .before .before .before .before .before .loop .inv) (c .before .before .before .before .before .loop-test .taken) (c .before .before .before .row-at .ensures) (search needs) (c .before .before .push-lead .ensures .1) (c .before .before .push-lead .ensures .0)
+loop-again c =
+    let at-push-lead = c .before .before in
+    let at-row-at = at-push-lead .before in
+    let at-loop-test = at-row-at .before .before in
+    let at-loop = at-loop-test .before in
+    leads-after (at-loop .loop .inv)
+    (at-loop-test .loop-test .taken) (at-row-at .row-at .ensures) (search needs) (at-push-lead .push-lead .ensures .1)
+    (at-push-lead .push-lead .ensures .0)
 
 same-length : tie.Need-same-length Inv-loop μ-loop
 same-length c = c .before .loop .inv .size

@@ -66,7 +66,10 @@ same-length-5 : tie.Need-same-length-5
 same-length-5 c = search needs
 
 returns-5 : tie.Need-returns-5
-returns-5 c = λ t ts σ x u v. at-left-paren _ _ t ts (σ .kind ∙ c .before .before .before .before .before .before .before .match .keys5) (c .before .before .before .before .left-paren-arm .ensures t ts σ v x)
+returns-5 c =
+    let at-left-paren-arm = c .before .before .before .before in
+    let at-match = at-left-paren-arm .before .before .before in
+    λ t ts σ x u v. at-left-paren _ _ t ts (σ .kind ∙ at-match .match .keys5) (at-left-paren-arm .left-paren-arm .ensures t ts σ v x)
 
 same-length-6 : tie.Need-same-length-6
 same-length-6 c = search needs
@@ -75,7 +78,10 @@ same-length-7 : tie.Need-same-length-7
 same-length-7 c = search needs
 
 returns-6 : tie.Need-returns-6
-returns-6 c = λ t ts σ x u v. at-left-bracket _ _ t ts (σ .kind ∙ c .before .before .before .before .before .before .before .match .keys6) (c .before .before .before .before .left-bracket-arm .ensures t ts σ v x)
+returns-6 c =
+    let at-left-bracket-arm = c .before .before .before .before in
+    let at-match = at-left-bracket-arm .before .before .before in
+    λ t ts σ x u v. at-left-bracket _ _ t ts (σ .kind ∙ at-match .match .keys6) (at-left-bracket-arm .left-bracket-arm .ensures t ts σ v x)
 
 same-length-8 : tie.Need-same-length-8
 same-length-8 c = search needs
@@ -114,7 +120,13 @@ same-length-15 : tie.Need-same-length-15
 same-length-15 c = search needs
 
 returns-11 : tie.Need-returns-11
-returns-11 c = λ t ts σ x u v. let r = c .before .before .before .before .match .rest in at-other _ _ t ts (σ .kind) (r .0 .0 .0 .0 .0 .0 .0 .0 .0 .1) (r .0 .0 .0 .0 .0 .0 .0 .0 .1) (r .0 .0 .0 .0 .0 .0 .0 .1) (r .0 .0 .0 .0 .0 .0 .1) (r .0 .0 .0 .0 .0 .1) (r .0 .0 .0 .0 .1) (r .0 .0 .0 .1) (r .0 .0 .1) (r .0 .1) (r .1) (c .before .before .other-arm .ensures t ts σ _ x)
+returns-11 c =
+    let at-match = c .before .before .before .before in
+    λ t ts σ x u v.
+    let r = at-match .match .rest in
+    at-other _ _ t ts (σ .kind)
+    (r .0 .0 .0 .0 .0 .0 .0 .0 .0 .1) (r .0 .0 .0 .0 .0 .0 .0 .0 .1) (r .0 .0 .0 .0 .0 .0 .0 .1) (r .0 .0 .0 .0 .0 .0 .1) (r .0 .0 .0 .0 .0 .1)
+    (r .0 .0 .0 .0 .1) (r .0 .0 .0 .1) (r .0 .0 .1) (r .0 .1) (r .1) (c .before .before .other-arm .ensures t ts σ _ x)
 
 pub push-token-spec : {M : Type 1} → statement M
 push-token-spec =

@@ -31,7 +31,11 @@ loop-less : tie.Need-loop-less Inv-loop μ-loop
 loop-less c = omega arith
 
 loop-again : tie.Need-loop-again Inv-loop μ-loop
-loop-again c = trails-after (c .before .before .before .before .before .before .loop .inv) (c .before .before .before .before .before .loop-test .taken) (c .before .before .before .row-at .ensures) (c .before .before .push-trail .ensures)
+loop-again c =
+    let at-row-at = c .before .before .before in
+    let at-loop-test = at-row-at .before .before in
+    let at-loop = at-loop-test .before in
+    trails-after (at-loop .loop .inv) (at-loop-test .loop-test .taken) (at-row-at .row-at .ensures) (c .before .before .push-trail .ensures)
 
 same-length : tie.Need-same-length Inv-loop μ-loop
 same-length c = trails-none (c .before .loop .inv) (c .loop-test .left) .size

@@ -25,21 +25,40 @@ same-length c = search needs
 
 returns : tie.Need-returns
 unfolding rightBraceArm
-returns c = λ s x. yes (λ n. told (c .before .before .before .before .before .in-one-line-block .ensures) (c .before .before .before .before .if1 .taken)) (c .before .before .close-inline .ensures s x)
+returns c =
+    let at-if1 = c .before .before .before .before in
+    let at-in-one-line-block = at-if1 .before in
+    λ s x. yes (λ n. told (at-in-one-line-block .in-one-line-block .ensures) (at-if1 .if1 .taken)) (c .before .before .close-inline .ensures s x)
 
 same-length-2 : tie.Need-same-length-2
 same-length-2 c = search needs
 
 returns-2 : tie.Need-returns-2
 unfolding rightBraceArm
-returns-2 c = λ s x. no (λ n. told (c .before .before .before .before .before .before .before .in-one-line-block .ensures) (c .before .before .before .before .before .before .if1 .left)) (yes (λ n. told (c .before .before .before .before .before .at-record-fields .ensures) (c .before .before .before .before .if2 .taken)) (c .before .before .close-record .ensures s x))
+returns-2 c =
+    let at-if2 = c .before .before .before .before in
+    let at-at-record-fields = at-if2 .before in
+    let at-if1 = at-at-record-fields .before in
+    let at-in-one-line-block = at-if1 .before in
+    λ s x.
+    no
+    (λ n. told (at-in-one-line-block .in-one-line-block .ensures) (at-if1 .if1 .left))
+    (yes (λ n. told (at-at-record-fields .at-record-fields .ensures) (at-if2 .if2 .taken)) (c .before .before .close-record .ensures s x))
 
 same-length-3 : tie.Need-same-length-3
 same-length-3 c = search needs
 
 returns-3 : tie.Need-returns-3
 unfolding rightBraceArm
-returns-3 c = λ s x. no (λ n. told (c .before .before .before .before .before .before .before .in-one-line-block .ensures) (c .before .before .before .before .before .before .if1 .left)) (no (λ n. told (c .before .before .before .before .before .at-record-fields .ensures) (c .before .before .before .before .if2 .left)) (c .before .before .close-block .ensures s x))
+returns-3 c =
+    let at-if2 = c .before .before .before .before in
+    let at-at-record-fields = at-if2 .before in
+    let at-if1 = at-at-record-fields .before in
+    let at-in-one-line-block = at-if1 .before in
+    λ s x.
+    no
+    (λ n. told (at-in-one-line-block .in-one-line-block .ensures) (at-if1 .if1 .left))
+    (no (λ n. told (at-at-record-fields .at-record-fields .ensures) (at-if2 .if2 .left)) (c .before .before .close-block .ensures s x))
 
 pub right-brace-arm-spec : {M : Type 1} → statement M
 right-brace-arm-spec =

@@ -25,14 +25,28 @@ same-length c = search needs
 
 returns : tie.Need-returns
 unfolding rightBracketArm
-returns c = λ t ts σ x. yes (λ n. told (c .before .before .before .before .before .before .in-broken-list .ensures) (c .before .before .before .before .before .if1 .taken)) (picked (prevIs Comma) (not (c .before .before .before .before .prev-is .result)) (rw (c .before .before .before .before .prev-is .ensures)) (c .before .before .close-list .ensures _ x))
+returns c =
+    let at-prev-is = c .before .before .before .before in
+    let at-if1 = at-prev-is .before in
+    let at-in-broken-list = at-if1 .before in
+    λ t ts σ x.
+    yes
+    (λ n. told (at-in-broken-list .in-broken-list .ensures) (at-if1 .if1 .taken))
+    (picked (prevIs Comma) (not (at-prev-is .prev-is .result)) (rw (at-prev-is .prev-is .ensures)) (c .before .before .close-list .ensures _ x))
 
 same-length-2 : tie.Need-same-length-2
 same-length-2 c = search needs
 
 returns-2 : tie.Need-returns-2
 unfolding rightBracketArm
-returns-2 c = λ t ts σ x. no (λ n. told (c .before .before .before .before .before .in-broken-list .ensures) (c .before .before .before .before .if1 .left)) (rw (σ .kind, σ .lexeme, c .before .before .before .before .before .before .before .before .before .before .pre .1 .1) (c .before .before .close-group .ensures _ x))
+returns-2 c =
+    let at-if1 = c .before .before .before .before in
+    let at-in-broken-list = at-if1 .before in
+    let entry = at-in-broken-list .before .before .before .before .before in
+    λ t ts σ x.
+    no
+    (λ n. told (at-in-broken-list .in-broken-list .ensures) (at-if1 .if1 .left))
+    (rw (σ .kind, σ .lexeme, entry .pre .1 .1) (c .before .before .close-group .ensures _ x))
 
 pub right-bracket-arm-spec : {M : Type 1} → statement M
 right-bracket-arm-spec =

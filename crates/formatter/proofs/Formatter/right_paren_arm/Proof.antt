@@ -32,21 +32,52 @@ same-length : tie.Need-same-length
 same-length c = search needs
 
 returns : tie.Need-returns
-returns c = λ t ts σ x. signature-closes (optionsOf (c .before .before .before .before .before .before .before .before .before .before .args .options)) t (told (c .before .before .before .before .before .closes-signature .ensures) (c .before .before .before .before .if1 .taken)) (c .before .before .close-signature .ensures _ x)
+returns c =
+    let at-if1 = c .before .before .before .before in
+    let at-closes-signature = at-if1 .before in
+    let entry = at-closes-signature .before .before .before .before .before in
+    λ t ts σ x.
+    signature-closes (optionsOf (entry .args .options)) t
+    (told (at-closes-signature .closes-signature .ensures) (at-if1 .if1 .taken)) (c .before .before .close-signature .ensures _ x)
 
 same-length-2 : tie.Need-same-length-2
 same-length-2 c = search needs
 
 returns-2 : tie.Need-returns-2
 unfolding rightParenArm run
-returns-2 c = λ t ts σ x. seq (updated (sym (rw (c .before .before .before .before .before .before .shallower .ensures))) refl nothing) (no (λ n. rw (c .before .before .before .before .before .before .shallower .ensures) (told (c .before .before .before .before .before .before .before .before .closes-signature .ensures) (c .before .before .before .before .before .before .before .if1 .left))) (yes (λ n. told (c .before .before .before .before .before .in-broken-list .ensures) (c .before .before .before .before .if2 .taken)) (same-run refl (c .before .before .close-list .ensures _ _))))
+returns-2 c =
+    let at-if2 = c .before .before .before .before in
+    let at-in-broken-list = at-if2 .before in
+    let at-shallower = at-in-broken-list .before in
+    let at-if1 = at-shallower .before in
+    let at-closes-signature = at-if1 .before in
+    λ t ts σ x.
+    seq
+    (updated (sym (rw (at-shallower .shallower .ensures))) refl nothing)
+    (no
+    (λ n. rw (at-shallower .shallower .ensures) (told (at-closes-signature .closes-signature .ensures) (at-if1 .if1 .left)))
+    (yes (λ n. told (at-in-broken-list .in-broken-list .ensures) (at-if2 .if2 .taken)) (same-run refl (c .before .before .close-list .ensures _ _))))
 
 same-length-3 : tie.Need-same-length-3
 same-length-3 c = search needs
 
 returns-3 : tie.Need-returns-3
 unfolding rightParenArm
-returns-3 c = λ t ts σ x. seq (updated (sym (rw (c .before .before .before .before .before .before .shallower .ensures))) refl nothing) (no (λ n. rw (c .before .before .before .before .before .before .shallower .ensures) (told (c .before .before .before .before .before .before .before .before .closes-signature .ensures) (c .before .before .before .before .before .before .before .if1 .left))) (no (λ n. told (c .before .before .before .before .before .in-broken-list .ensures) (c .before .before .before .before .if2 .left)) (its σ (c .before .before .before .before .before .before .before .before .before .before .before .before .before .pre .1 .1) (closeGroup (optionsOf (c .before .before .before .before .before .before .before .before .before .before .before .before .before .args .options))) (c .before .before .close-group .ensures _ _))))
+returns-3 c =
+    let at-if2 = c .before .before .before .before in
+    let at-in-broken-list = at-if2 .before in
+    let at-shallower = at-in-broken-list .before in
+    let at-if1 = at-shallower .before in
+    let at-closes-signature = at-if1 .before in
+    let entry = at-closes-signature .before .before .before .before .before in
+    λ t ts σ x.
+    seq
+    (updated (sym (rw (at-shallower .shallower .ensures))) refl nothing)
+    (no
+    (λ n. rw (at-shallower .shallower .ensures) (told (at-closes-signature .closes-signature .ensures) (at-if1 .if1 .left)))
+    (no
+    (λ n. told (at-in-broken-list .in-broken-list .ensures) (at-if2 .if2 .left))
+    (its σ (entry .pre .1 .1) (closeGroup (optionsOf (entry .args .options))) (c .before .before .close-group .ensures _ _))))
 
 pub right-paren-arm-spec : {M : Type 1} → statement M
 right-paren-arm-spec =

@@ -11,7 +11,10 @@ use Rattle.formatter.proofs.Formatter.track_fn_state.Statement.{stateme
 use Rattle.formatter.proofs.Formatter.track_fn_state.Tie as tie
 
 returns : tie.Need-returns
-returns c = rw (c .if2 .taken, ne-eqb _ _ (c .before .if1 .taken)) (idle (isSome (signatureOf (c .before .before .args .self .«sig_break_depth» .0))) (eqb (c .before .before .args .kind) Identifier) (eqb (c .before .before .args .kind) Newline))
+returns c =
+    let entry = c .before .before in
+    rw (c .if2 .taken, ne-eqb _ _ (c .before .if1 .taken))
+    (idle (isSome (signatureOf (entry .args .self .«sig_break_depth» .0))) (eqb (entry .args .kind) Identifier) (eqb (entry .args .kind) Newline))
 
 in-broken-signature-requires : tie.Need-in-broken-signature-requires
 in-broken-signature-requires c κs = search needs

@@ -21,7 +21,17 @@ same-length : tie.Need-same-length
 same-length c = search needs
 
 returns : tie.Need-returns
-returns c = rw (told (c .before .before .before .before .before .omits-brace .ensures) (c .before .before .before .before .if1 .taken)) (gapped (indentOrSpaceSize (optionsOf (c .before .before .before .before .before .before .before .before .args .options)) (fieldsOf (c .before .before .before .before .before .before .before .before .args .self))) _ _ (indent-or-space (optionsOf (c .before .before .before .before .before .before .before .before .args .options)) (fieldsOf (c .before .before .before .before .before .before .before .before .args .self))) (c .before .before .before .before .before .before .indent-or-space .ensures .0) (rw append-nil (c .before .before .write-spaces .ensures)))
+returns c =
+    let at-if1 = c .before .before .before .before in
+    let at-omits-brace = at-if1 .before in
+    let at-indent-or-space = at-omits-brace .before in
+    let entry = at-indent-or-space .before .before in
+    rw
+    (told (at-omits-brace .omits-brace .ensures) (at-if1 .if1 .taken))
+    (gapped
+    (indentOrSpaceSize (optionsOf (entry .args .options)) (fieldsOf (entry .args .self))) _ _
+    (indent-or-space (optionsOf (entry .args .options)) (fieldsOf (entry .args .self))) (at-indent-or-space .indent-or-space .ensures .0)
+    (rw append-nil (c .before .before .write-spaces .ensures)))
 
 write-brace-requires : tie.Need-write-brace-requires
 write-brace-requires c κs = search needs
@@ -30,7 +40,17 @@ same-length-2 : tie.Need-same-length-2
 same-length-2 c = search needs
 
 returns-2 : tie.Need-returns-2
-returns-2 c = rw (told (c .before .before .before .before .before .omits-brace .ensures) (c .before .before .before .before .if1 .left)) (gapped (indentOrSpaceSize (optionsOf (c .before .before .before .before .before .before .before .before .args .options)) (fieldsOf (c .before .before .before .before .before .before .before .before .args .self))) _ _ (indent-or-space (optionsOf (c .before .before .before .before .before .before .before .before .args .options)) (fieldsOf (c .before .before .before .before .before .before .before .before .args .self))) (c .before .before .before .before .before .before .indent-or-space .ensures .0) (c .before .before .write-brace .ensures))
+returns-2 c =
+    let at-if1 = c .before .before .before .before in
+    let at-omits-brace = at-if1 .before in
+    let at-indent-or-space = at-omits-brace .before in
+    let entry = at-indent-or-space .before .before in
+    rw
+    (told (at-omits-brace .omits-brace .ensures) (at-if1 .if1 .left))
+    (gapped
+    (indentOrSpaceSize (optionsOf (entry .args .options)) (fieldsOf (entry .args .self))) _ _
+    (indent-or-space (optionsOf (entry .args .options)) (fieldsOf (entry .args .self))) (at-indent-or-space .indent-or-space .ensures .0)
+    (c .before .before .write-brace .ensures))
 
 pub write-inline-opener-spec : {M : Type 1} → statement M
 write-inline-opener-spec =

@@ -14,7 +14,11 @@ returns : tie.Need-returns
 returns c = λ text t ts σ. looked σ (shouldBreakList (c .before .before .before .args .list-width)) refl (λ b. sym (no-comma _ _ text (c .before .before .before .pre .1 .commas (c .if1 .taken))))
 
 returns-2 : tie.Need-returns-2
-returns-2 c = λ text t ts σ. looked σ (shouldBreakList (c .before .before .before .before .before .before .before .args .list-width)) refl (λ b. sym (narrow _ _ text b (le-trans (c .before .before .before .before .before .before .before .pre .1 .width (c .before .before .if2 .taken)) (c .if3 .taken))))
+returns-2 c =
+    let entry = c .before .before .before .before .before .before .before in
+    λ text t ts σ.
+    looked σ (shouldBreakList (entry .args .list-width)) refl
+    (λ b. sym (narrow _ _ text b (le-trans (entry .pre .1 .width (c .before .before .if2 .taken)) (c .if3 .taken))))
 
 sub-should-break-list : tie.Need-sub-should-break-list
 sub-should-break-list c = search needs
@@ -29,7 +33,11 @@ should-break-list-requires : tie.Need-should-break-list-requires
 should-break-list-requires c κs = search needs
 
 returns-3 : tie.Need-returns-3
-returns-3 c = λ text t ts σ. looked σ (shouldBreakList (c .before .before .before .before .before .before .before .args .list-width)) (part-is (c .before .before .before .before .before .before .before .args .token .lead) (c .before .before .before .before .before .before .before .args .rows .now)) (list-tokens _ text _ (c .should-break-list .ensures))
+returns-3 c =
+    let entry = c .before .before .before .before .before .before .before in
+    λ text t ts σ.
+    looked σ (shouldBreakList (entry .args .list-width))
+    (part-is (entry .args .token .lead) (entry .args .rows .now)) (list-tokens _ text _ (c .should-break-list .ensures))
 
 pub list-is-wide-spec : {M : Type 1} → statement M
 list-is-wide-spec =

@@ -29,7 +29,12 @@ loose-behind-requires : tie.Need-loose-behind-requires
 loose-behind-requires c κs = search needs
 
 returns-2 : tie.Need-returns-2
-returns-2 c = rw (c .loose-behind .ensures, c .before .changing-kinds .ensures, c .before .before .group-depth-after .ensures, c .before .before .before .unary-after .ensures, c .before .before .before .before .pending-after .ensures, c .before .before .before .before .before .fn-state-after .ensures)
+returns-2 c =
+    let at-unary-after = c .before .before .before in
+    let at-pending-after = at-unary-after .before in
+    let at-fn-state-after = at-pending-after .before in
+    rw
+    (c .loose-behind .ensures, c .before .changing-kinds .ensures, c .before .before .group-depth-after .ensures, at-unary-after .unary-after .ensures, at-pending-after .pending-after .ensures, at-fn-state-after .fn-state-after .ensures)
 
 pub fast-state-after-spec : {M : Type 1} → statement M
 fast-state-after-spec = tie.close (tie.spec shr-if1 returns fn-state-after-requires pending-after-requires unary-after-requires group-depth-after-requires changing-kinds-requires loose-behind-requires returns-2)

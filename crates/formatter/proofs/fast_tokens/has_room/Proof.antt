@@ -20,7 +20,11 @@ add-result-2 : tie.Need-add-result-2
 add-result-2 c = search needs
 
 returns-2 : tie.Need-returns-2
-returns-2 c = λ e. let l = leb-true (c .before .args .len + c .before .args .space + (c .before .args .end - c .before .args .start)) (c .before .args .size) e in (c .if1 .left, omega (arith, l, c .before .pre .0 .0))
+returns-2 c =
+    let entry = c .before in
+    λ e.
+    let l = leb-true (entry .args .len + entry .args .space + (entry .args .end - entry .args .start)) (entry .args .size) e in
+    (c .if1 .left, omega (arith, l, entry .pre .0 .0))
 
 pub has-room-spec : {M : Type 1} → statement M
 has-room-spec =

@@ -16,7 +16,15 @@ token-first : {C : Type 0} {n : ℕ} → n ≡ TokenRow → n ≡ Leading → C
 token-first e l = let y : _≡_ {A = ℕ} 1 0 = sym e ∙ l in absurd (omega arith)
 
 returns : tie.Need-returns
-returns c = λ e. let w = c .before .before .pre .0 .1 in let o = c .before .before .pre .1 (c .if1 .taken) in record { leads = bare-run (c .before .before .args .rows .now) (c .before .before .args .at) Leading refl w o; trails = bare-run (c .before .before .args .rows .now) (c .before .before .args .at + 16) Trailing refl (omega arith) o }
+returns c =
+    let entry = c .before .before in
+    λ e.
+    let w = entry .pre .0 .1 in
+    let o = entry .pre .1 (c .if1 .taken) in
+    record {
+      leads = bare-run (entry .args .rows .now) (entry .args .at) Leading refl w o;
+      trails = bare-run (entry .args .rows .now) (entry .args .at + 16) Trailing refl (omega arith) o;
+    }
 
 row-at-requires : tie.Need-row-at-requires
 row-at-requires c κs = search needs
@@ -31,13 +39,35 @@ sub-if3 : tie.Need-sub-if3
 sub-if3 c = search needs
 
 returns-3 : tie.Need-returns-3
-returns-3 c = λ e. record { leads = other-run Leading (c .before .before .before .before .before .before .args .rows .now) (c .before .before .before .before .before .before .args .at) (c .before .before .before .before .before .before .pre .0 .0) (λ x. token-first (sym (ap (λ r. r .what) (c .before .before .before .row-at .ensures)) ∙ c .before .if2 .left) x); trails = none-run Trailing (c .before .before .before .before .before .before .args .rows .now) (c .before .before .before .before .before .before .args .at + 16) (let t = c .if3 .taken in let p = c .before .before .before .before .before .before .pre .0 .0 in omega arith) }
+returns-3 c =
+    let at-row-at = c .before .before .before in
+    let entry = at-row-at .before .before .before in
+    λ e.
+    record {
+      leads =
+          other-run Leading (entry .args .rows .now) (entry .args .at)
+          (entry .pre .0 .0) (λ x. token-first (sym (ap (λ r. r .what) (at-row-at .row-at .ensures)) ∙ c .before .if2 .left) x);
+      trails = none-run Trailing (entry .args .rows .now) (entry .args .at + 16) (let t = c .if3 .taken in let p = entry .pre .0 .0 in omega arith);
+    }
 
 row-at-requires-2 : tie.Need-row-at-requires-2
 row-at-requires-2 c κs = search needs
 
 returns-4 : tie.Need-returns-4
-returns-4 c = λ e. record { leads = other-run Leading (c .before .before .before .before .before .before .before .before .args .rows .now) (c .before .before .before .before .before .before .before .before .args .at) (c .before .before .before .before .before .before .before .before .pre .0 .0) (λ x. token-first (sym (ap (λ r. r .what) (c .before .before .before .before .before .row-at .ensures)) ∙ c .before .before .before .if2 .left) x); trails = other-run Trailing (c .before .before .before .before .before .before .before .before .args .rows .now) (c .before .before .before .before .before .before .before .before .args .at + 16) (let t = c .before .before .if3 .left in let p = c .before .before .before .before .before .before .before .before .pre .0 .0 in omega arith) (λ x. eqb-false _ _ (not-true _ e) (ap (λ r. r .what) (c .before .row-at2 .ensures) ∙ x)) }
+returns-4 c =
+    let at-if2 = c .before .before .before in
+    let at-row-at = at-if2 .before .before in
+    let entry = at-row-at .before .before .before in
+    λ e.
+    record {
+      leads =
+          other-run Leading (entry .args .rows .now) (entry .args .at)
+          (entry .pre .0 .0) (λ x. token-first (sym (ap (λ r. r .what) (at-row-at .row-at .ensures)) ∙ at-if2 .if2 .left) x);
+      trails =
+          other-run Trailing (entry .args .rows .now)
+          (entry .args .at + 16) (let t = c .before .before .if3 .left in let p = entry .pre .0 .0 in omega arith)
+          (λ x. eqb-false _ _ (not-true _ e) (ap (λ r. r .what) (c .before .row-at2 .ensures) ∙ x));
+    }
 
 pub is-bare-row-spec : {M : Type 1} → statement M
 is-bare-row-spec = tie.close (tie.spec returns row-at-requires returns-2 add-next sub-if3 returns-3 row-at-requires-2 returns-4)

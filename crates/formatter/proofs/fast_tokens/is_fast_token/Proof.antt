@@ -26,7 +26,10 @@ returns-2 : tie.Need-returns-2
 returns-2 c = λ e. impossible′ e
 
 is-bare-row-requires : tie.Need-is-bare-row-requires
-is-bare-row-requires c κs = ((c .before .before .before .before .pre .0 (c .before .before .if1 .left) .0, c .before .before .before .before .pre .0 (c .before .before .if1 .left) .1 .0), c .before .before .before .before .pre .1 .0)
+is-bare-row-requires c κs =
+    let at-if1 = c .before .before in
+    let entry = at-if1 .before .before in
+    ((entry .pre .0 (at-if1 .if1 .left) .0, entry .pre .0 (at-if1 .if1 .left) .1 .0), entry .pre .1 .0)
 
 returns-3 : tie.Need-returns-3
 returns-3 c = λ e. impossible′ e
@@ -41,10 +44,33 @@ cast-has-room-2 : tie.Need-cast-has-room-2
 cast-has-room-2 c = search needs
 
 has-room-requires : tie.Need-has-room-requires
-has-room-requires c κs = ((c .before .before .before .before .before .before .before .before .before .pre .1 .1 .0, c .before .before .before .before .before .before .before .before .before .pre .1 .1 .1), (rw (c .before .before .space-before .ensures) (space-few (c .before .before .before .before .before .before .before .before .before .args .spaced) (c .before .before .before .before .before .before .row-at .result .kind) (c .before .before .before .before .before .before .before .before .before .pre .1 .1 .2)), search needs))
+has-room-requires c κs =
+    let at-row-at = c .before .before .before .before .before .before in
+    let entry = at-row-at .before .before .before in
+    ((entry .pre .1 .1 .0, entry .pre .1 .1 .1), (rw (c .before .before .space-before .ensures) (space-few (entry .args .spaced) (at-row-at .row-at .result .kind) (entry .pre .1 .1 .2)), search needs))
 
 returns-4 : tie.Need-returns-4
-returns-4 c = λ e. let k = ap (λ r. r .kind) (c .before .before .before .before .before .before .before .row-at .ensures) in let a = ap (λ r. r .start) (c .before .before .before .before .before .before .before .row-at .ensures) in let b = ap (λ r. r .end) (c .before .before .before .before .before .before .before .row-at .ensures) in let f = c .has-room .ensures e in let s = c .before .before .before .space-before .ensures ∙ ap (λ j. spaceBefore (c .before .before .before .before .before .before .before .before .before .before .args .spaced) j) k in record { ahead = c .before .before .before .before .before .before .before .before .if1 .left; kind = λ q. (c .before .before .before .before .before .before .if2 .left) (ap (λ j. bit (c .before .before .before .before .before .before .before .before .before .before .args .fast) j) k ∙ q); alone = c .before .before .before .before .before .is-bare-row .ensures (not-false _ (c .before .before .before .before .if3 .left)); byte = omega (arith, f .0, a, b); fits = omega (arith, f .1, s, a, b) }
+returns-4 c =
+    let at-space-before = c .before .before .before in
+    let at-if3 = at-space-before .before in
+    let at-is-bare-row = at-if3 .before in
+    let at-if2 = at-is-bare-row .before in
+    let at-row-at = at-if2 .before in
+    let at-if1 = at-row-at .before in
+    let entry = at-if1 .before .before in
+    λ e.
+    let k = ap (λ r. r .kind) (at-row-at .row-at .ensures) in
+    let a = ap (λ r. r .start) (at-row-at .row-at .ensures) in
+    let b = ap (λ r. r .end) (at-row-at .row-at .ensures) in
+    let f = c .has-room .ensures e in
+    let s = at-space-before .space-before .ensures ∙ ap (λ j. spaceBefore (entry .args .spaced) j) k in
+    record {
+      ahead = at-if1 .if1 .left;
+      kind = λ q. (at-if2 .if2 .left) (ap (λ j. bit (entry .args .fast) j) k ∙ q);
+      alone = at-is-bare-row .is-bare-row .ensures (not-false _ (at-if3 .if3 .left));
+      byte = omega (arith, f .0, a, b);
+      fits = omega (arith, f .1, s, a, b);
+    }
 
 pub is-fast-token-spec : {M : Type 1} → statement M
 is-fast-token-spec =

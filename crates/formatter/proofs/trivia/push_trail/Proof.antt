@@ -16,7 +16,9 @@ same-length : tie.Need-same-length
 same-length c = search needs
 
 returns-2 : tie.Need-returns-2
-returns-2 c = same-bytes (trail-bytes (c .before .before .before .before .before .before .before .before .args .text .now) (rowOf (c .before .before .before .before .before .before .before .before .args .row)) (search needs)) (c .before .before .write-trail .ensures)
+returns-2 c =
+    let entry = c .before .before .before .before .before .before .before .before in
+    same-bytes (trail-bytes (entry .args .text .now) (rowOf (entry .args .row)) (search needs)) (c .before .before .write-trail .ensures)
 
 pub push-trail-spec : {M : Type 1} → statement M
 push-trail-spec = tie.close (tie.spec returns write-trail-requires same-length returns-2)
