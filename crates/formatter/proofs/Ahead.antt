@@ -160,7 +160,9 @@ module _ {rows text : List ℕ} {o : Options.Options} {k₀ l₀ : List ℕ} {x 
     abbrev gone : Locals
     gone = localsOf (afterFastTokens (ltb at (r .at)) (r .prev) (r .state) (formatterOf f k x))
 
-    pub goes-past-fast-tokens : {g : Formatter} → ChangedBy (withFastState (r .prev) (r .state)) (r .len) f g → Going rows text o k₀ l₀ (i + (r .at - at) / 16) (r .at) gone (codeState g k m)
+    pub goes-past-fast-tokens :
+        {g : Formatter} → ChangedBy (withFastState (r .prev) (r .state)) (r .len) f g
+        → Going rows text o k₀ l₀ (i + (r .at - at) / 16) (r .at) gone (codeState g k m)
     goes-past-fast-tokens {g} β =
         let form : formatterOf g k gone ≡ afterFastTokens (ltb at (r .at)) (r .prev) (r .state) (formatterOf f k x) = β .form k gone in
         goes-past (record {

@@ -37,7 +37,9 @@ row-token text r rs e =
 pub goes-on : (size i : ℕ) (s : State) → length (s .out) ≤ size → s .formatter .tooDeep ≡ none → checked size i s ≡ finished s
 goes-on size i s h e = rw (le-ltb size (length (s .out)) h, e)
 
-pub lay-more : (o : Options) (size : ℕ) (s : State) (i : ℕ) (t : Token) (ts : List Token) → layFrom o size (finished s) i (t ∷ ts) ≡ layFrom o size (checked size i (run (turn o i t ts) s)) (i + 1) ts
+pub lay-more :
+    (o : Options) (size : ℕ) (s : State) (i : ℕ) (t : Token) (ts : List Token)
+    → layFrom o size (finished s) i (t ∷ ts) ≡ layFrom o size (checked size i (run (turn o i t ts) s)) (i + 1) ts
 unfolding layFrom
 lay-more o size s i t ts = refl
 
@@ -58,7 +60,10 @@ module _ (rows : List ℕ) (at : ℕ) (only : onlyTokens (rowsOf (drop at rows))
     token-here = rw (part-cons rows at h) (row-token text (rowAt rows at) (rowsOf (drop (at + 16) rows)) (rw (part-cons rows at h) at only))
 
     -- The definition's loop goes on by what the token's turn does, if that fits.
-    pub lay-turn : (o : Options) (size i : ℕ) (s : State) {s′ : State} → run (turn o i tokenHere tokensAfter) s ≡ s′ → length (s′ .out) ≤ size → s′ .formatter .tooDeep ≡ none → layFrom o size (finished s) i (tokensOf (drop at rows) text) ≡ layFrom o size (finished s′) (i + 1) tokensAfter
+    pub lay-turn :
+        (o : Options) (size i : ℕ) (s : State) {s′ : State} → run (turn o i tokenHere tokensAfter) s ≡ s′ → length (s′ .out) ≤ size
+        → s′ .formatter .tooDeep ≡ none
+        → layFrom o size (finished s) i (tokensOf (drop at rows) text) ≡ layFrom o size (finished s′) (i + 1) tokensAfter
     lay-turn o size i s {s′} e f d =
         ap (λ x. layFrom o size (finished s) i x) token-here
         ∙ lay-more o size s i tokenHere tokensAfter

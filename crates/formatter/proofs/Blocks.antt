@@ -35,7 +35,12 @@ module _ (o : Options) (i : ℕ) {x : Locals} {p q : CodeState} where
 
 -- ---- a one-line block: the indent or a space and the brace, in one write
 
-pub one-line : (o : Options) {x : Locals} {p q : CodeState} → endedBy LeftBrace (setInlineDepth (p .form .«inline_depth» .0 + 1) (formatterOf (p .form) (p .stack) x)) ≡ formatterOf (q .form) (q .stack) x → p .form .commas ≡ q .form .commas → Writes (p .buf) (p .form .len) (oneLineBytes o (formatterOf (p .form) (p .stack) x)) (q .buf) (q .form .len) → Does (openOneLine o) x p q
+pub one-line :
+    (o : Options) {x : Locals} {p q : CodeState}
+    → endedBy LeftBrace (setInlineDepth (p .form .«inline_depth» .0 + 1) (formatterOf (p .form) (p .stack) x)) ≡ formatterOf (q .form) (q .stack) x
+    → p .form .commas ≡ q .form .commas
+    → Writes (p .buf) (p .form .len) (oneLineBytes o (formatterOf (p .form) (p .stack) x)) (q .buf) (q .form .len)
+    → Does (openOneLine o) x p q
 unfolding run said
 one-line o {x} {p} {q} c k w =
     split (inOneLineBlock (formatterOf (p .form) (p .stack) x))
@@ -76,6 +81,8 @@ module _ (t : Token) (ts : List Token) (empty inner inline block : Act) where
       (λ f. split (inOneLineBlock (s .formatter)) (λ g. rw (e, f, g))
       (λ g. split (blockIsSingleLine (t ∷ ts)) (λ h. rw (e, f, g, h)) (λ h. rw (e, f, g, h)))))
 
-pub brace : (o : Options) (i : ℕ) (t : Token) (ts : List Token) {x : Locals} {p q : CodeState} → Does (byTests t ts (emptyRecord o t) (openInnerInline o) (openInline o) (openBlock o i)) x p q → Does (leftBraceArm o i t ts) x p q
+pub brace :
+    (o : Options) (i : ℕ) (t : Token) (ts : List Token) {x : Locals} {p q : CodeState}
+    → Does (byTests t ts (emptyRecord o t) (openInnerInline o) (openInline o) (openBlock o i)) x p q → Does (leftBraceArm o i t ts) x p q
 unfolding leftBraceArm
 brace o i t ts {x} {p} d = same-run {a = byTests t ts (emptyRecord o t) (openInnerInline o) (openInline o) (openBlock o i)} (run-brace t ts (emptyRecord o t) (openInnerInline o) (openInline o) (openBlock o i) (stateOf x p)) d

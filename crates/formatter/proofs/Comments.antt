@@ -42,7 +42,9 @@ trail-bytes text r h = go (r .kind) refl
     go (suc (suc (suc k))) e = absurd (omega arith)
 
 module _ (o : Options) {x : Locals} {p q : CodeState} (text : List ℕ) (r : Row) (h : r .kind < 3) (c : formatterOf (p .form) (p .stack) x ≡ formatterOf (q .form) (q .stack) x) (n : p .form .commas ≡ q .form .commas) where
-  pub lead-comment : Writes (p .buf) (p .form .len) (indentOrSpace o (formatterOf (p .form) (p .stack) x) ++ (commentHead (r .kind) ++ (space ++ bytesOf text r ++ leadTail (r .kind)))) (q .buf) (q .form .len) → Does (leadAct o (triviaOf text r)) x p q
+  pub lead-comment :
+      Writes (p .buf) (p .form .len) (indentOrSpace o (formatterOf (p .form) (p .stack) x) ++ (commentHead (r .kind) ++ (space ++ bytesOf text r ++ leadTail (r .kind)))) (q .buf) (q .form .len)
+      → Does (leadAct o (triviaOf text r)) x p q
   unfolding run said
   lead-comment w = go (r .kind) refl
     where
@@ -94,13 +96,19 @@ pub record LeadsLeft (o : Options) (rows text : List ℕ) (from to : ℕ) (f₀ 
   pub part : WholeRows rows text at to
   pub size : length out ≡ length out₀
   pub indent : f .indent ≤ 4294967295
-  pub rest : (s : List ℕ) (q : CodeState) → Done (leadingTrivia o (triviaIn rows text at to)) (codeState f s out) q → Done (leadingTrivia o (triviaIn rows text from to)) (codeState f₀ s out₀) q
+  pub rest :
+      (s : List ℕ) (q : CodeState) → Done (leadingTrivia o (triviaIn rows text at to)) (codeState f s out) q
+      → Done (leadingTrivia o (triviaIn rows text from to)) (codeState f₀ s out₀) q
 
-pub leads-whole : {o : Options} {rows text : List ℕ} {from to : ℕ} {f : Formatter} {out : List ℕ} → WholeRows rows text from to → f .indent ≤ 4294967295 → LeadsLeft o rows text from to f out from f out
+pub leads-whole :
+    {o : Options} {rows text : List ℕ} {from to : ℕ} {f : Formatter} {out : List ℕ} → WholeRows rows text from to → f .indent ≤ 4294967295
+    → LeadsLeft o rows text from to f out from f out
 leads-whole π h = record { part = π; size = refl; indent = h; rest = λ s q d. d }
 
 module _ {o : Options} {rows text : List ℕ} {from to : ℕ} {f₀ : Formatter} {out₀ : List ℕ} {at : ℕ} {f : Formatter} {out : List ℕ} (left : LeadsLeft o rows text from to f₀ out₀ at f out) where
-  pub leads-after : at < to → {r : Row} → r ≡ rowAt rows at → {g : Formatter} {buf : List ℕ} → length buf ≡ length out → g .indent ≡ f .indent → Puts (leadAct o (triviaOf text r)) f out g buf → LeadsLeft o rows text from to f₀ out₀ (at + 16) g buf
+  pub leads-after :
+      at < to → {r : Row} → r ≡ rowAt rows at → {g : Formatter} {buf : List ℕ} → length buf ≡ length out → g .indent ≡ f .indent
+      → Puts (leadAct o (triviaOf text r)) f out g buf → LeadsLeft o rows text from to f₀ out₀ (at + 16) g buf
   unfolding leadingTrivia
   leads-after h e z i d =
       record {
@@ -146,7 +154,10 @@ trailing-same (docComment c ∷ ts) s = let h = trailing-same ts _ in record { f
 trailing-same (blockComment c ∷ ts) s = let h = trailing-same ts _ in record { formatter = h .formatter; commas = h .commas }
 trailing-same (blankLine ∷ ts) s = let h = trailing-same ts _ in record { formatter = h .formatter; commas = h .commas }
 
-pub trailing-does : (ts : List Trivia) {x : Locals} {p q : CodeState} → formatterOf (p .form) (p .stack) x ≡ formatterOf (q .form) (q .stack) x → p .form .commas ≡ q .form .commas → Writes (p .buf) (p .form .len) (trailsBytes ts) (q .buf) (q .form .len) → Does (trailingTrivia ts) x p q
+pub trailing-does :
+    (ts : List Trivia) {x : Locals} {p q : CodeState} → formatterOf (p .form) (p .stack) x ≡ formatterOf (q .form) (q .stack) x
+    → p .form .commas ≡ q .form .commas → Writes (p .buf) (p .form .len) (trailsBytes ts) (q .buf) (q .form .len)
+    → Does (trailingTrivia ts) x p q
 trailing-does ts c n w =
     let h = trailing-same ts _ in
     does (rw (h .formatter) c) (h .commas ∙ n) (rw (trailing-said ts) w)
@@ -160,7 +171,9 @@ pub trails-whole : {rows text : List ℕ} {from to : ℕ} {out : List ℕ} {len 
 trails-whole π = record { part = π; rest = λ buf r w. w }
 
 module _ {rows text : List ℕ} {from to : ℕ} {out₀ : List ℕ} {len₀ : ℕ} {at : ℕ} {out : List ℕ} {len : ℕ} (left : TrailsLeft rows text from to out₀ len₀ at out len) where
-  pub trails-after : at < to → {r : Row} → r ≡ rowAt rows at → {buf : List ℕ} {n : ℕ} → Writes out len (trailBytes (triviaOf text r)) buf n → TrailsLeft rows text from to out₀ len₀ (at + 16) buf n
+  pub trails-after :
+      at < to → {r : Row} → r ≡ rowAt rows at → {buf : List ℕ} {n : ℕ} → Writes out len (trailBytes (triviaOf text r)) buf n
+      → TrailsLeft rows text from to out₀ len₀ (at + 16) buf n
   unfolding trailsBytes
   trails-after h e w =
       record {

@@ -62,7 +62,9 @@ seq {a} {b} {x} {p} {q} {r} d e = record {
   stays = λ n. e .stays (d .stays n);
 }
   where
-    go : p .form .len ≤ length (p .buf) → length (p .buf) < length (run b (run a (stateOf x p)) .out) → (z : Bool) → leb (length (run a (stateOf x p) .out)) (length (p .buf)) ≡ z → length (r .buf) < r .form .len
+    go :
+        p .form .len ≤ length (p .buf) → length (p .buf) < length (run b (run a (stateOf x p)) .out) → (z : Bool)
+        → leb (length (run a (stateOf x p) .out)) (length (p .buf)) ≡ z → length (r .buf) < r .form .len
     go n h true i = let u = d .fits n (leb-true _ _ i) in e .over (u .within) (rw (u .state, d .size) h)
     go n h false i = e .stays (d .over n (leb-false _ _ i))
 
@@ -72,7 +74,10 @@ joined s e f g = rw (← e, f, ← g)
 -- ---- the write rule: the state updates as the act's does, and the bytes that the act says are written
 
 module _ {a : Act} {x : Locals} {p q : CodeState} where
-  pub does : run a (stateOf x p) .formatter ≡ formatterOf (q .form) (q .stack) (localsOf (run a (stateOf x p) .formatter)) → run a (stateOf x p) .commas ≡ q .form .commas → Writes (p .buf) (p .form .len) (said a (stateOf x p)) (q .buf) (q .form .len) → Does a x p q
+  pub does :
+      run a (stateOf x p) .formatter ≡ formatterOf (q .form) (q .stack) (localsOf (run a (stateOf x p) .formatter))
+      → run a (stateOf x p) .commas ≡ q .form .commas → Writes (p .buf) (p .form .len) (said a (stateOf x p)) (q .buf) (q .form .len)
+      → Does a x p q
   does c k w =
       let e = run-said a (stateOf x p) in
       let f = length-append (take (p .form .len) (p .buf)) (said a (stateOf x p)) in
@@ -92,12 +97,19 @@ module _ {a : Act} {x : Locals} {p q : CodeState} where
         stays = λ n. let v = w .over (omega arith) in omega arith;
       }
 
-pub updated : {g : Formatter → Formatter} {x : Locals} {p q : CodeState} → g (formatterOf (p .form) (p .stack) x) ≡ formatterOf (q .form) (q .stack) (localsOf (g (formatterOf (p .form) (p .stack) x))) → p .form .commas ≡ q .form .commas → Writes (p .buf) (p .form .len) [] (q .buf) (q .form .len) → Does (update g) x p q
+pub updated :
+    {g : Formatter → Formatter} {x : Locals} {p q : CodeState}
+    → g (formatterOf (p .form) (p .stack) x) ≡ formatterOf (q .form) (q .stack) (localsOf (g (formatterOf (p .form) (p .stack) x)))
+    → p .form .commas ≡ q .form .commas → Writes (p .buf) (p .form .len) [] (q .buf) (q .form .len) → Does (update g) x p q
 unfolding run said
 updated c k w = does c k w
 
 -- An act and then an update are done in one write.
-pub does-then : {a : Act} {g : Formatter → Formatter} {x : Locals} {p q : CodeState} → g (run a (stateOf x p) .formatter) ≡ formatterOf (q .form) (q .stack) (localsOf (g (run a (stateOf x p) .formatter))) → run a (stateOf x p) .commas ≡ q .form .commas → Writes (p .buf) (p .form .len) (said a (stateOf x p)) (q .buf) (q .form .len) → Does (a ⨾ update g) x p q
+pub does-then :
+    {a : Act} {g : Formatter → Formatter} {x : Locals} {p q : CodeState}
+    → g (run a (stateOf x p) .formatter) ≡ formatterOf (q .form) (q .stack) (localsOf (g (run a (stateOf x p) .formatter)))
+    → run a (stateOf x p) .commas ≡ q .form .commas → Writes (p .buf) (p .form .len) (said a (stateOf x p)) (q .buf) (q .form .len)
+    → Does (a ⨾ update g) x p q
 unfolding run said
 does-then {a} {g} {x} {p} {q} c k w = does c k (rw (append-nil (said a (stateOf x p))) w)
 
@@ -115,7 +127,11 @@ turned false e = rw e
 -- ---- a closer, with a comma of the layout's own before it where one is wanted
 
 module _ {g h : Formatter → Formatter} (u : Formatter → List ℕ) (w : List ℕ) {x : Locals} {p q : CodeState} where
-  pub closing : (wanted : Bool) → h (g (stateOf x p .formatter)) ≡ formatterOf (q .form) (q .stack) (localsOf (h (g (stateOf x p .formatter)))) → p .form .commas + countComma wanted ≡ q .form .commas → Writes (p .buf) (p .form .len) (cond wanted (44 ∷ []) [] ++ (u (g (stateOf x p .formatter)) ++ w)) (q .buf) (q .form .len) → Does (update g ⨾ cond wanted (insert u w) (gap u ⨾ lexeme w) ⨾ update h) x p q
+  pub closing :
+      (wanted : Bool) → h (g (stateOf x p .formatter)) ≡ formatterOf (q .form) (q .stack) (localsOf (h (g (stateOf x p .formatter))))
+      → p .form .commas + countComma wanted ≡ q .form .commas
+      → Writes (p .buf) (p .form .len) (cond wanted (44 ∷ []) [] ++ (u (g (stateOf x p .formatter)) ++ w)) (q .buf) (q .form .len)
+      → Does (update g ⨾ cond wanted (insert u w) (gap u ⨾ lexeme w) ⨾ update h) x p q
   unfolding run said
   closing false c k y = does c (sym (add-zero (p .form .commas)) ∙ k) (rw (append-nil (u (g (stateOf x p .formatter)) ++ w)) y)
   closing true c k y = does c k (rw (append-nil (u (g (stateOf x p .formatter)) ++ w)) y)

@@ -68,7 +68,9 @@ module _ (o : Options) (i : ℕ) (t : Token) (ts : List Token) (f : Formatter) (
   unfolding run rightBraceArm
   close-arm = rw (one-line, σ .mid-line, σ .prev, σ .depth, append-assoc out gap (125 ∷ []))
 
-  closes : t .kind ≡ RightBrace → run (turn o i t ts) (state f out c) ≡ state (afterFastBraces true (b .closed) (place RightBrace (b .depth - 1) true) f) (out ++ closerBytes (b .prev)) c
+  closes :
+      t .kind ≡ RightBrace
+      → run (turn o i t ts) (state f out c) ≡ state (afterFastBraces true (b .closed) (place RightBrace (b .depth - 1) true) f) (out ++ closerBytes (b .prev)) c
   closes e = turned RightBrace (b .depth - 1) true (out ++ closerBytes (b .prev)) e refl refl refl refl (arm-close e ∙ close-arm)
 
 pub open-turns : (b : FastBraces) (len : ℕ) → 0 < b .depth → Turns LeftBrace b openerBytes (afterOpener b len)

@@ -128,7 +128,9 @@ module _ {rows l m : List ℕ} {from b : FastBraces} (α : FastBracesSoFar rows 
 
   -- The same by the code's row, and by the place that it comes to.
 
-  pub goes-open : (row : Row) {r : FastBraces} {m′ : List ℕ} → row ≡ rowAt rows (b .at) → row .kind ≡ LeftBrace → 0 < b .depth → 2 ≤ length m - b .len → Writes m (b .len) openerBytes m′ (r .len) × (r ≡ afterOpener b (r .len)) → FastBracesSoFar rows from l r m′
+  pub goes-open :
+      (row : Row) {r : FastBraces} {m′ : List ℕ} → row ≡ rowAt rows (b .at) → row .kind ≡ LeftBrace → 0 < b .depth → 2 ≤ length m - b .len
+      → Writes m (b .len) openerBytes m′ (r .len) × (r ≡ afterOpener b (r .len)) → FastBracesSoFar rows from l r m′
   goes-open row {r} {m′} e k d f w =
       rw (w .1) (more (rw e at k) (open-turns b (r .len) d) refl (omega arith) (omega arith) (let x = α .done .room in omega arith) (w .0))
 
@@ -137,7 +139,9 @@ module _ {rows l m : List ℕ} {from b : FastBraces} (α : FastBracesSoFar rows 
       let x = α .done .room in
       split (eqb (b .prev) LeftBrace) (λ e. rw e (omega arith)) (λ e. rw e (omega arith))
 
-  pub goes-close : (row : Row) {r : FastBraces} {m′ : List ℕ} → row ≡ rowAt rows (b .at) → row .kind ≡ RightBrace → 0 < b .depth → 2 ≤ length m - b .len → Writes m (b .len) (closerBytes (b .prev)) m′ (r .len) × (r ≡ afterCloser b (r .len)) → FastBracesSoFar rows from l r m′
+  pub goes-close :
+      (row : Row) {r : FastBraces} {m′ : List ℕ} → row ≡ rowAt rows (b .at) → row .kind ≡ RightBrace → 0 < b .depth → 2 ≤ length m - b .len
+      → Writes m (b .len) (closerBytes (b .prev)) m′ (r .len) × (r ≡ afterCloser b (r .len)) → FastBracesSoFar rows from l r m′
   goes-close row {r} {m′} e k d f w =
       rw (w .1) (more (rw e at k) (close-turns b (r .len) d) refl (omega arith) (omega arith) (closer-fits f) (w .0))
 

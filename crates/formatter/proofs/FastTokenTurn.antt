@@ -61,7 +61,9 @@ never : (t : FastKinds) (k j : ℕ) → isFastKind t k ≡ true → isFastKind t
 never t k j w e = ne-eqb k j (λ x. impossible′ (sym e ∙ (rw x at w)))
 
 -- Before a fast token, the spaces that the code finds are the definition's.
-pub fast-spaces : (t : FastKinds) (unary : Bool) (p k : ℕ) → p ≤ Other → k ≤ Other → isFastKind t k ≡ true → spaces (looseBehind Other unary) p k ≡ cond (spaceAfter (some p) unary k) 1 0
+pub fast-spaces :
+    (t : FastKinds) (unary : Bool) (p k : ℕ) → p ≤ Other → k ≤ Other → isFastKind t k ≡ true
+    → spaces (looseBehind Other unary) p k ≡ cond (spaceAfter (some p) unary k) 1 0
 unfolding isFastKind
 fast-spaces t unary p k g h w =
     ap (λ loose. spaces loose p k) (loose-other k unary (λ e. impossible′ (rw e at w)) (λ e. impossible′ (rw e at w)) (λ e. impossible′ (rw e at w)))
@@ -185,7 +187,9 @@ module _ (f : Formatter) (k : ℕ) where
   with start unary fn pending group closed inline =
       setInlineClose inline (setJustClosedInline closed (setGroupDepth group (setRecordPending pending (setFnState fn (setPrevMinusIsUnary unary (setAtLineStart start (setPrev (some k) (setReturned false f))))))))
 
-  with-same : {a a′ b b′ : Bool} {n n′ : ℕ} {d d′ : Bool} {j j′ : ℕ} {e e′ g g′ : Bool} → a ≡ a′ → b ≡ b′ → n ≡ n′ → d ≡ d′ → j ≡ j′ → e ≡ e′ → g ≡ g′ → with a b n d j e g ≡ with a′ b′ n′ d′ j′ e′ g′
+  with-same :
+      {a a′ b b′ : Bool} {n n′ : ℕ} {d d′ : Bool} {j j′ : ℕ} {e e′ g g′ : Bool} → a ≡ a′ → b ≡ b′ → n ≡ n′ → d ≡ d′ → j ≡ j′ → e ≡ e′
+      → g ≡ g′ → with a b n d j e g ≡ with a′ b′ n′ d′ j′ e′ g′
   with-same a b n d j e g = rw (a, b, n, d, j, e, g)
 
 -- The definition's fields are those that the code keeps for fast tokens.
@@ -228,7 +232,10 @@ module _ (o : Options) (i : ℕ) (t : Token) (ts : List Token) (f : Formatter) (
   abbrev pushed : Bool → ℕ → Formatter
   pushed pending group = setGroupDepth group (endedBy (t .kind) (trackMinus (t .kind) (setRecordPending pending taken)))
 
-  ended : {pending : Bool} {group : ℕ} → pending ≡ pendingAfter (t .kind) (m .«record_pending») → group ≡ groupAfter (t .kind) (m .«group_depth») → trackFnState (t .kind) (pushed pending group) ≡ afterFastTokens true (t .kind) (fastStateAfter p (t .kind) m) f
+  ended :
+      {pending : Bool} {group : ℕ} → pending ≡ pendingAfter (t .kind) (m .«record_pending»)
+      → group ≡ groupAfter (t .kind) (m .«group_depth»)
+      → trackFnState (t .kind) (pushed pending group) ≡ afterFastTokens true (t .kind) (fastStateAfter p (t .kind) m) f
   ended e g = with-same f (t .kind) (sym (σ .mid-line)) (rw (prev-is σ, minus-is σ)) (fn-after σ (t .kind) h) e g (sym (σ .not-closed)) (σ .not-closed)
 
   -- The bytes: a space or none, and the lexeme.
@@ -290,7 +297,9 @@ module _ (o : Options) (i : ℕ) (t : Token) (ts : List Token) (f : Formatter) (
   unfolding rightParenArm run
   paren-unchecked b = ap (λ g. run unchecked (state g out c)) (same-depth b)
 
-  paren-turn : t .kind ≡ RightParen → ks .closers ≡ true → run (turn o i t ts) (state f out c) ≡ state (afterFastTokens true (t .kind) (fastStateAfter p (t .kind) m) f) (out ++ bytes) c
+  paren-turn :
+      t .kind ≡ RightParen → ks .closers ≡ true
+      → run (turn o i t ts) (state f out c) ≡ state (afterFastTokens true (t .kind) (fastStateAfter p (t .kind) m) f) (out ++ bytes) c
   paren-turn e b =
       turned (rw e (pending-is σ)) (rw e (ap (λ n. n - 1) (group-is σ)))
       (arm-paren o i t ts here ks h e
@@ -299,13 +308,17 @@ module _ (o : Options) (i : ℕ) (t : Token) (ts : List Token) (f : Formatter) (
       ∙ chosen-not here (λ s. inBrokenList (s .formatter)) (closeCall o) (closeGroup o t) (unlisted b)
       ∙ group-closed)
 
-  bracket-turn : t .kind ≡ RightBracket → ks .closers ≡ true → run (turn o i t ts) (state f out c) ≡ state (afterFastTokens true (t .kind) (fastStateAfter p (t .kind) m) f) (out ++ bytes) c
+  bracket-turn :
+      t .kind ≡ RightBracket → ks .closers ≡ true
+      → run (turn o i t ts) (state f out c) ≡ state (afterFastTokens true (t .kind) (fastStateAfter p (t .kind) m) f) (out ++ bytes) c
   unfolding rightBracketArm
   bracket-turn e b =
       turned (rw e (pending-is σ)) (rw e (ap (λ n. n - 1) (group-is σ)))
       (arm-bracket o i t ts here ks h e ∙ chosen-not here (λ s. inBrokenList (s .formatter)) _ _ (unlisted b) ∙ group-closed)
 
-  other-turn : isCloser (t .kind) ≡ false → eqb (t .kind) Comma ≡ false → eqb (t .kind) Else ≡ false → leb (t .kind) Comma ≡ false → run (turn o i t ts) (state f out c) ≡ state (afterFastTokens true (t .kind) (fastStateAfter p (t .kind) m) f) (out ++ bytes) c
+  other-turn :
+      isCloser (t .kind) ≡ false → eqb (t .kind) Comma ≡ false → eqb (t .kind) Else ≡ false → leb (t .kind) Comma ≡ false
+      → run (turn o i t ts) (state f out c) ≡ state (afterFastTokens true (t .kind) (fastStateAfter p (t .kind) m) f) (out ++ bytes) c
   unfolding run
   other-turn q a b l =
       turned (rw (l, b, pending-is σ)) (rw q (group-is σ))

@@ -81,7 +81,10 @@ module _ {rows text : List ℕ} {at : ℕ} (ω : CheckedRows rows text) (η : To
     bare-row-tokens = rw (own-is, next-is, leading-none, trailing-none) at (tokens-here ω η h)
 
     -- The definition's loop goes on by what the token's turn does, if that fits.
-    pub lay-bare-row : (o : Options) (size i : ℕ) (s : State) {s′ : State} → run (turn o i (rowToken text (rowAt rows at)) (tokensOf (drop (at + 16) rows) text)) s ≡ s′ → length (s′ .out) ≤ size → s′ .formatter .tooDeep ≡ none
+    pub lay-bare-row :
+        (o : Options) (size i : ℕ) (s : State) {s′ : State}
+        → run (turn o i (rowToken text (rowAt rows at)) (tokensOf (drop (at + 16) rows) text)) s ≡ s′ → length (s′ .out) ≤ size
+        → s′ .formatter .tooDeep ≡ none
         → layFrom o size (finished s) i (tokensOf (drop at rows) text) ≡ layFrom o size (finished s′) (i + 1) (tokensOf (drop (at + 16) rows) text)
     lay-bare-row o size i s {s′} e f d =
         ap (λ x. layFrom o size (finished s) i x) bare-row-tokens

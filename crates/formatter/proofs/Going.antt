@@ -76,7 +76,9 @@ pub record Going (rows text : List ℕ) (o : Options.Options) (k₀ l₀ : List 
 fresh-state : {f : Formatter} {k : List ℕ} (l : List ℕ) → Fresh f k → stateOf (localsOf Formatter.new) (codeState f k l) ≡ begun
 fresh-state l φ = rw (φ .new, φ .empty, φ .none)
 
-pub starts : {rows text : List ℕ} {f : Formatter} {k l : List ℕ} (o : Options.Options) → CheckedRows rows text → Fresh f k → Going rows text o k l 0 0 (localsOf Formatter.new) (codeState f k l)
+pub starts :
+    {rows text : List ℕ} {f : Formatter} {k l : List ℕ} (o : Options.Options) → CheckedRows rows text → Fresh f k
+    → Going rows text o k l 0 0 (localsOf Formatter.new) (codeState f k l)
 starts {rows} {text} {f} {k} {l} o ω φ =
     record {
       head = head-first ω;
@@ -104,7 +106,9 @@ starts {rows} {text} {f} {k} {l} o ω φ =
     le-zero : {n : ℕ} → n ≡ 0 → n ≤ 20 * 0
     le-zero e = omega arith
 
-pub few-tokens : {rows text : List ℕ} {o : Options.Options} {k₀ l₀ : List ℕ} {x : Locals} {p : CodeState} {i at : ℕ} → CheckedRows rows text → Going rows text o k₀ l₀ i at x p → i ≤ 65535
+pub few-tokens :
+    {rows text : List ℕ} {o : Options.Options} {k₀ l₀ : List ℕ} {x : Locals} {p : CodeState} {i at : ℕ} → CheckedRows rows text
+    → Going rows text o k₀ l₀ i at x p → i ≤ 65535
 few-tokens ω γ = let a = γ .index in let b = γ .head .within in let c = ω .few in omega arith
 
 -- ---- one turn
@@ -179,7 +183,9 @@ module _ {rows text : List ℕ} {o : Options.Options} {k₀ l₀ : List ℕ} {x 
         let e : length (take (q .form .len) (q .buf)) ≤ length l₀ = omega (arith, length-take-le (q .form .len) (q .buf) g, δ .size, γ .size) in
         ap (checked (length l₀) i) (sym (u .state)) ∙ rw (d, le-ltb _ _ e)
 
-    pub goes-on : q .form .len ≤ length (q .buf) → locals .tooDeep ≡ none → t .kind ≤ Other → length (q .stack) ≡ length (p .stack) → Going rows text o k₀ l₀ (i + 1) (nextRow rows (ownRow rows at)) locals q
+    pub goes-on :
+        q .form .len ≤ length (q .buf) → locals .tooDeep ≡ none → t .kind ≤ Other → length (q .stack) ≡ length (p .stack)
+        → Going rows text o k₀ l₀ (i + 1) (nextRow rows (ownRow rows at)) locals q
     goes-on g d j k =
         let u = fit g in
         let w = grown g in
@@ -224,7 +230,9 @@ module _ {rows text : List ℕ} {o : Options.Options} {l₀ : List ℕ} where
   pub laid-stopped : (n : ℕ) {m : List ℕ} {i : ℕ} → walkOf rows text o l₀ ≡ stopped n i → length m ≡ length l₀ → LaidOut rows text o l₀ (formattedOf (stopped n i)) m
   laid-stopped n e z = record { answer = ap formattedOf (sym e); size = z; output = λ s f. let y : _≡_ {A = ℕ} 0 1 = cc in absurd (omega arith) }
 
-  pub laid-done : {k₀ : List ℕ} {x : Locals} {p : CodeState} {i at : ℕ} → Going rows text o k₀ l₀ i at x p → length rows ≤ at → LaidOut rows text o l₀ (Finished (p .form .len) (p .form .commas)) (p .buf)
+  pub laid-done :
+      {k₀ : List ℕ} {x : Locals} {p : CodeState} {i at : ℕ} → Going rows text o k₀ l₀ i at x p → length rows ≤ at
+      → LaidOut rows text o l₀ (Finished (p .form .len) (p .form .commas)) (p .buf)
   laid-done {k₀} {x} {p} γ h =
       let e = ends γ h in
       let l = length-take-le (p .form .len) (p .buf) (γ .room) in

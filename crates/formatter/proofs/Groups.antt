@@ -28,7 +28,10 @@ use Rattle.formatter.proofs.Stack.{top-length}
 -- ---- the token
 
 -- An act of the token's kind and lexeme, as the code finds them.
-pub its : {token : TokenAt} {rows text : List ℕ} {t : Token} {ts : List Token} → StandsFor token rows text t ts → {k : ℕ} → token .kind ≡ k → (a : Token → Act) {x : Locals} {p q : CodeState} → Does (a (bareToken k (lexemeOf token rows text))) x p q → Does (a (bareToken (t .kind) (t .lexeme))) x p q
+pub its :
+    {token : TokenAt} {rows text : List ℕ} {t : Token} {ts : List Token} → StandsFor token rows text t ts → {k : ℕ} → token .kind ≡ k
+    → (a : Token → Act) {x : Locals} {p q : CodeState} → Does (a (bareToken k (lexemeOf token rows text))) x p q
+    → Does (a (bareToken (t .kind) (t .lexeme))) x p q
 its σ e a d = rw (σ .kind, e, σ .lexeme) d
 
 -- ---- one-line blocks
@@ -48,14 +51,19 @@ below-two d =
     (λ e. let h = ltb-false d 2 e in e ∙ sym (ne-eqb (d - 1) 0 (λ q. omega arith)))
 
 -- The depth that the definition takes first is not looked at again.
-pub signature-closes : (o : Options) (t : Token) {x : Locals} {p q : CodeState} → closesSignature (stateOf x p .formatter) ≡ true → Does (closeSignature o) x p q → Does (rightParenArm o t) x p q
+pub signature-closes :
+    (o : Options) (t : Token) {x : Locals} {p q : CodeState} → closesSignature (stateOf x p .formatter) ≡ true
+    → Does (closeSignature o) x p q → Does (rightParenArm o t) x p q
 unfolding rightParenArm run
 signature-closes o t e d = same-run (rw e) d
 
 -- ---- a list's opener
 
 -- The line feed is written with the lexeme.
-pub list-opens : (o : Options) (i : ℕ) (t : Token) {x : Locals} {p m q : CodeState} → Does (emitTail o t lineFeed) x p m → Does (update (λ f. lineBegun (i + 1) (pushed (groupOpened (indented f))))) (localsOf (run (emitTail o t lineFeed) (stateOf x p) .formatter)) m q → Does (openList o i t) x p q
+pub list-opens :
+    (o : Options) (i : ℕ) (t : Token) {x : Locals} {p m q : CodeState} → Does (emitTail o t lineFeed) x p m
+    → Does (update (λ f. lineBegun (i + 1) (pushed (groupOpened (indented f))))) (localsOf (run (emitTail o t lineFeed) (stateOf x p) .formatter)) m q
+    → Does (openList o i t) x p q
 unfolding run
 list-opens o i t d e = same-run {a = emitTail o t lineFeed ⨾ update (λ f. lineBegun (i + 1) (pushed (groupOpened (indented f))))} refl (seq d e)
 

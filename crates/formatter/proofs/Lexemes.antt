@@ -48,13 +48,18 @@ tailed g l w = rw (append-nil l) (sym (append-assoc g l w))
 
 module _ (o : Options) (t : Token) where
   -- A gap of the code's size, the lexeme and a tail are one write.
-  pub emitted : (w : List ℕ) {n : ℕ} {x : Locals} {p q : CodeState} → endedBy (t .kind) (stateOf x p .formatter) ≡ formatterOf (q .form) (q .stack) x → p .form .commas ≡ q .form .commas → n ≡ gapSize o (t .kind) (stateOf x p .formatter) → Writes (p .buf) (p .form .len) (replicate n 32 ++ (t .lexeme ++ w)) (q .buf) (q .form .len) → Does (emitTail o t w) x p q
+  pub emitted :
+      (w : List ℕ) {n : ℕ} {x : Locals} {p q : CodeState} → endedBy (t .kind) (stateOf x p .formatter) ≡ formatterOf (q .form) (q .stack) x
+      → p .form .commas ≡ q .form .commas → n ≡ gapSize o (t .kind) (stateOf x p .formatter)
+      → Writes (p .buf) (p .form .len) (replicate n 32 ++ (t .lexeme ++ w)) (q .buf) (q .form .len) → Does (emitTail o t w) x p q
   unfolding run said
   emitted w {n} {x} {p} c k e y =
       let f = stateOf x p .formatter in
       does c k (same-bytes (tailed (tokenGap o (t .kind) f) (t .lexeme) w) (gapped (gapSize o (t .kind) f) n (t .lexeme ++ w) (token-gap o f (t .kind)) e y))
 
   -- The same without a tail, and then whether a `-` is unary.
-  pub pushed : {unary : Bool} {x : Locals} {p q r : CodeState} → unary ≡ trackMinus (t .kind) (stateOf x p .formatter) .prevMinusIsUnary → Does (emitTail o t []) x p q → Does (update (setPrevMinusIsUnary unary)) x q r → Does (pushLexeme o t) x p r
+  pub pushed :
+      {unary : Bool} {x : Locals} {p q r : CodeState} → unary ≡ trackMinus (t .kind) (stateOf x p .formatter) .prevMinusIsUnary
+      → Does (emitTail o t []) x p q → Does (update (setPrevMinusIsUnary unary)) x q r → Does (pushLexeme o t) x p r
   unfolding run
   pushed {unary} e d u = same-run {a = emitTail o t [] ⨾ update (setPrevMinusIsUnary unary)} (rw (append-nil, e)) (seq {a = emitTail o t []} d u)

@@ -42,7 +42,9 @@ pub record Same (f g : Formatter) : Type 0 where
   pub tooDeep : g .tooDeep ≡ f .tooDeep
 
 -- Leading trivia set `atLineStart` alone.
-pub lead-start : (o : Options) (ls : List Trivia) (s : State) → run (leadingTrivia o ls) s .formatter ≡ setAtLineStart (run (leadingTrivia o ls) s .formatter .atLineStart) (s .formatter)
+pub lead-start :
+    (o : Options) (ls : List Trivia) (s : State)
+    → run (leadingTrivia o ls) s .formatter ≡ setAtLineStart (run (leadingTrivia o ls) s .formatter .atLineStart) (s .formatter)
 unfolding run leadingTrivia
 lead-start o [] s = refl
 lead-start o (lineComment c ∷ ls) s = lead-start o ls _
@@ -189,7 +191,9 @@ module _ (o : Options) (i : ℕ) (t : Token) (ts : List Token) (s : State) where
   calm-at : {a : Act} (k : ℕ) → eqb (t .kind) k ≡ true → eqb k LeftBrace ≡ false → eqb k RightParen ≡ false → eqb k RightBracket ≡ false → Keeps asides a → After Done a s
   calm-at k e x y z p = let h : t .kind ≡ k = eqb-true (t .kind) k e in calm p (rw h x) (rw h y) (rw h z)
 
-  opens : {a : Act} → Keeps asides a → ((s : State) → run a s .formatter .prev ≡ some LeftBrace) → returnsEarly t ts (s .formatter) ≡ false → eqb (t .kind) LeftBrace ≡ true → After Done a s
+  opens :
+      {a : Act} → Keeps asides a → ((s : State) → run a s .formatter .prev ≡ some LeftBrace) → returnsEarly t ts (s .formatter) ≡ false
+      → eqb (t .kind) LeftBrace ≡ true → After Done a s
   opens p q x y = record { holds = opened (p .kept s) (q s) x y }
 
   left-brace-arm : t .kind ≡ LeftBrace → After Done (leftBraceArm o i t ts) s

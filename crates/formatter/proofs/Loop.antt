@@ -83,14 +83,22 @@ pub data Trailed (tr : List Trivia) (b : Bool) (f : Formatter) (l : List ℕ) (g
 
 -- The leading trivia are done: there are none, and `just_closed_inline` is cleared, or they are written and fit.
 pub data LeadingDone (o : Options.Options) (rows text : List ℕ) (token : TokenAt) (f : Formatter) (l : List ℕ) (g : Formatter) (m : List ℕ) : Type 0 where
-  unled : token .lead ≡ token .own → {r : Formatter} → ((o : Options.Options) (l : List ℕ) → Puts (leadToken o []) f l r l) → r .len ≡ f .len → g ≡ r → m ≡ l → LeadingDone o rows text token f l g m
-  led-by : {r : Formatter} {u : List ℕ} → Puts (leadToken o (triviaIn rows text (token .lead) (token .own))) f l r u → r .len ≤ length u → g ≡ r → m ≡ u → LeadingDone o rows text token f l g m
+  unled :
+      token .lead ≡ token .own → {r : Formatter} → ((o : Options.Options) (l : List ℕ) → Puts (leadToken o []) f l r l) → r .len ≡ f .len
+      → g ≡ r → m ≡ l → LeadingDone o rows text token f l g m
+  led-by :
+      {r : Formatter} {u : List ℕ} → Puts (leadToken o (triviaIn rows text (token .lead) (token .own))) f l r u → r .len ≤ length u → g ≡ r
+      → m ≡ u → LeadingDone o rows text token f l g m
 
-pub led-puts : {o : Options.Options} {rows text : List ℕ} {token : TokenAt} {f : Formatter} {l : List ℕ} {g : Formatter} {m : List ℕ} → LeadingDone o rows text token f l g m → Puts (leadToken o (triviaIn rows text (token .lead) (token .own))) f l g m
+pub led-puts :
+    {o : Options.Options} {rows text : List ℕ} {token : TokenAt} {f : Formatter} {l : List ℕ} {g : Formatter} {m : List ℕ}
+    → LeadingDone o rows text token f l g m → Puts (leadToken o (triviaIn rows text (token .lead) (token .own))) f l g m
 led-puts {o} {rows} {text} {token} {l = l} (unled e d n eg em) = rw (eg, em, no-trivia rows text {at = token .lead} {to = token .own} (omega arith)) (d o l)
 led-puts (led-by d z eg em) = rw (eg, em) d
 
-pub led-room : {o : Options.Options} {rows text : List ℕ} {token : TokenAt} {f : Formatter} {l : List ℕ} {g : Formatter} {m : List ℕ} → f .len ≤ length l → LeadingDone o rows text token f l g m → g .len ≤ length m
+pub led-room :
+    {o : Options.Options} {rows text : List ℕ} {token : TokenAt} {f : Formatter} {l : List ℕ} {g : Formatter} {m : List ℕ}
+    → f .len ≤ length l → LeadingDone o rows text token f l g m → g .len ≤ length m
 led-room h (unled e d n eg em) = rw (eg, em, n) h
 led-room h (led-by d z eg em) = rw (eg, em) z
 
@@ -353,7 +361,9 @@ module _ {options : Options} {rows text k₀ l₀ k l : List ℕ} {f : Formatter
         pub next-bounds : (token .next ≤ length rows) × (token .index + 1 < most32)
         next-bounds = (its-head .within, let b = few in let e = τ .index in omega arith)
 
-        place-taken : {n : ℕ} {j : ℕ} → n ≡ nextRow rows (ownRow rows (token .next)) → j ≡ token .index + 2 → tookNext (token .kind) (q .prev .kind) ≡ true → Loop rows text o k₀ l₀ j n (codeState q k₂ m₃)
+        place-taken :
+            {n : ℕ} {j : ℕ} → n ≡ nextRow rows (ownRow rows (token .next)) → j ≡ token .index + 2
+            → tookNext (token .kind) (q .prev .kind) ≡ true → Loop rows text o k₀ l₀ j n (codeState q k₂ m₃)
         place-taken {n} {j} e d c =
             let z : i + 1 + 1 ≡ j = let a = τ .index in omega arith in
             record { locals = localsOf (definition.setSkipNext false (stateOf (localsOf (after .formatter)) (codeState q k₂ m₃) .formatter)); going = rw (e, ← z) (skips ω went-next (next-in c) (took ∙ c)); no-skip = refl }
@@ -397,7 +407,11 @@ module _ {rows text : List ℕ} {o : Options.Options} {k₀ l₀ k l : List ℕ}
     pub fast-tokens-room : StackRoom f k × (kindOf (f .prev .kind) ≤ Other)
     fast-tokens-room = (record { most = π .loop .going .entries; size = π .loop .going .stack }, last-kind)
 
-    pub past-fast-tokens : {m : List ℕ} {r : code.FastTokens} {g : Formatter} → FastTokensLaidOut rows text at (f .len) (kindOf (f .prev .kind)) (fastStateOf f) (fastKindsOf f k) l m r → ChangedBy (withFastState (r .prev) (r .state)) (r .len) f g → Loop rows text o k₀ l₀ (i + (r .at - at) / 16) (r .at) (codeState g k m)
+    pub past-fast-tokens :
+        {m : List ℕ} {r : code.FastTokens} {g : Formatter}
+        → FastTokensLaidOut rows text at (f .len) (kindOf (f .prev .kind)) (fastStateOf f) (fastKindsOf f k) l m r
+        → ChangedBy (withFastState (r .prev) (r .state)) (r .len) f g
+        → Loop rows text o k₀ l₀ (i + (r .at - at) / 16) (r .at) (codeState g k m)
     past-fast-tokens {r = r} σ β =
         record {
           locals = localsOf (afterFastTokens (ltb at (r .at)) (r .prev) (r .state) (formatterOf f k (π .loop .locals)));
@@ -415,7 +429,9 @@ module _ {rows text : List ℕ} {o : Options.Options} {k₀ l₀ k l : List ℕ}
     fast-braces-rows =
         (only-at rows at (π .loop .going .head .whole) (π .only (ρ .bare)), let a = π .loop .going .counts .inline in let b = few-tokens (π .checked) (π .loop .going) in let c = π .checked .few in omega arith)
 
-    pub past-fast-braces : {m : List ℕ} {r : FastBraces} {g : Formatter} → FastBracesLaidOut rows (fastBracesAt f at) l m r → ChangedBy (withFastBraces r) (r .len) f g → Loop rows text o k₀ l₀ (i + (r .at - at) / 16) (r .at) (codeState g k m)
+    pub past-fast-braces :
+        {m : List ℕ} {r : FastBraces} {g : Formatter} → FastBracesLaidOut rows (fastBracesAt f at) l m r
+        → ChangedBy (withFastBraces r) (r .len) f g → Loop rows text o k₀ l₀ (i + (r .at - at) / 16) (r .at) (codeState g k m)
     past-fast-braces {r = r} σ β =
         record {
           locals = localsOf (afterFastBraces (ltb at (r .at)) (σ .close) r (formatterOf f k (π .loop .locals)));

@@ -37,5 +37,7 @@ run-newline i ts s h =
     (λ f. split (s .formatter .atLineStart) (λ g. split (endsWithTwoFeeds (s .out)) (λ k. rw (h, e, f, g, k)) (λ k. rw (h, e, f, g, k)))
     (λ g. rw (h, e, f, g))))
 
-pub newline : (i : ℕ) (ts : List Token) {x : Locals} {p q : CodeState} → isAt (newlineOf (p .form .«suppress_newline_at» .at)) i ≡ false → Does (choose (feedsLine ts) feedLine nothing) x p q → Does (newlineArm i ts) x p q
+pub newline :
+    (i : ℕ) (ts : List Token) {x : Locals} {p q : CodeState} → isAt (newlineOf (p .form .«suppress_newline_at» .at)) i ≡ false
+    → Does (choose (feedsLine ts) feedLine nothing) x p q → Does (newlineArm i ts) x p q
 newline i ts h d = same-run {a = choose (feedsLine ts) feedLine nothing} (sym (run-newline i ts _ h)) d

@@ -24,7 +24,9 @@ module _ (o : Options) (t : Token) (ts : List Token) (f : Formatter) (s : List �
   pub full-signature : 64 ≤ f .«break_count» → t .kind ≡ LeftParen → atSignature (fieldsOf f) ≡ true → false ≡ overflows o t ts (fieldsOn f s)
   full-signature h e a = rw (top-length (f .«break_count») s, le-leb 64 (f .«break_count») h, e, a)
 
-  pub full-paren : {b : Bool} → 64 ≤ f .«break_count» → t .kind ≡ LeftParen → atSignature (fieldsOf f) ≡ false → b ≡ breaksList o t ts (fieldsOf f) → b ≡ overflows o t ts (fieldsOn f s)
+  pub full-paren :
+      {b : Bool} → 64 ≤ f .«break_count» → t .kind ≡ LeftParen → atSignature (fieldsOf f) ≡ false → b ≡ breaksList o t ts (fieldsOf f)
+      → b ≡ overflows o t ts (fieldsOn f s)
   full-paren {b} h e a r = rw (top-length (f .«break_count») s, le-leb 64 (f .«break_count») h, ← r, e, a) (or-nothing b)
 
   pub full-bracket : {b : Bool} → 64 ≤ f .«break_count» → t .kind ≡ LeftBracket → b ≡ breaksList o t ts (fieldsOf f) → b ≡ overflows o t ts (fieldsOn f s)

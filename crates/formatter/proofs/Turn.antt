@@ -30,7 +30,9 @@ module _ (s : State) where
   unfolding run
   in-turn a b = refl
 
-  bare-lead : (o : Options) (lead : List Trivia) (x : Act) → lead ≡ [] → run (leadingTrivia o lead ⨾ update (takeInlineClose (isEmpty lead)) ⨾ x) s ≡ run x (state (takeInlineClose true (s .formatter)) (s .out) (s .commas))
+  bare-lead :
+      (o : Options) (lead : List Trivia) (x : Act) → lead ≡ []
+      → run (leadingTrivia o lead ⨾ update (takeInlineClose (isEmpty lead)) ⨾ x) s ≡ run x (state (takeInlineClose true (s .formatter)) (s .out) (s .commas))
   unfolding run leadingTrivia
   bare-lead o lead x e = rw e
 

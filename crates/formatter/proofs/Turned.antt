@@ -46,7 +46,9 @@ module _ (o : Options) (i : ℕ) (t : Token) (ts : List Token) where
   pushed s = refl
 
   -- The turn of a token that is not skipped.
-  pub turn-led : (s : State) → s .formatter .tooDeep ≡ none → s .formatter .skipNext ≡ false → run (turn o i t ts) s ≡ cond (overflows o t ts (led s .formatter)) (run (update (setTooDeep (some i))) (led s)) (run armed (led s))
+  pub turn-led :
+      (s : State) → s .formatter .tooDeep ≡ none → s .formatter .skipNext ≡ false
+      → run (turn o i t ts) s ≡ cond (overflows o t ts (led s .formatter)) (run (update (setTooDeep (some i))) (led s)) (run armed (led s))
   turn-led s d k = chosen-not s (λ s. isSome (s .formatter .tooDeep)) _ _ (rw d) ∙ chosen-not s (λ s. s .formatter .skipNext) _ _ k ∙ pushed s
 
   -- A turn writes at least what its leading trivia write.
@@ -60,7 +62,9 @@ module _ (o : Options) (i : ℕ) (t : Token) (ts : List Token) where
     pub turn-deep : overflows o t ts (led (stateOf x p) .formatter) ≡ true → run (turn o i t ts) (stateOf x p) ≡ run (update (setTooDeep (some i))) (led (stateOf x p))
     turn-deep v = turn-led (stateOf x p) d k ∙ ap (λ z. cond z (run (update (setTooDeep (some i))) (led (stateOf x p))) (run armed (led (stateOf x p)))) v
 
-    pub turns : {m q : CodeState} → Does (leadToken o (t .leading)) x p m → overflows o t ts (led (stateOf x p) .formatter) ≡ false → Does armed (localsOf (led (stateOf x p) .formatter)) m q → Does (turn o i t ts) x p q
+    pub turns :
+        {m q : CodeState} → Does (leadToken o (t .leading)) x p m → overflows o t ts (led (stateOf x p) .formatter) ≡ false
+        → Does armed (localsOf (led (stateOf x p) .formatter)) m q → Does (turn o i t ts) x p q
     unfolding run
     turns a v b =
         same-run {a = leadToken o (t .leading) ⨾ armed}
@@ -80,11 +84,15 @@ module _ (o : Options) (i : ℕ) (t : Token) (ts : List Token) where
     returned-is = arm-returned o i t ts (stateOf x p) r
 
     -- The trailing trivia are written.
-    pub trails : {q m : CodeState} (has : Bool) {trails : Bool} → trails ≡ (has && not early) → trails ≡ true → Does (trailingTrivia (t .trailing)) (afterArm x p) q m → Does (trailToken (t .trailing)) (afterArm x p) q m
+    pub trails :
+        {q m : CodeState} (has : Bool) {trails : Bool} → trails ≡ (has && not early) → trails ≡ true
+        → Does (trailingTrivia (t .trailing)) (afterArm x p) q m → Does (trailToken (t .trailing)) (afterArm x p) q m
     trails has e h d = no (λ n. returned-is ∙ not-true early (and-right has (not early) (sym e ∙ h))) d
 
     -- Or there are none, or the arm returned before them.
-    pub trails-not : {q : CodeState} (has : Bool) {trails : Bool} → trails ≡ (has && not early) → trails ≡ false → (has ≡ false → t .trailing ≡ []) → Does (trailToken (t .trailing)) (afterArm x p) q q
+    pub trails-not :
+        {q : CodeState} (has : Bool) {trails : Bool} → trails ≡ (has && not early) → trails ≡ false → (has ≡ false → t .trailing ≡ [])
+        → Does (trailToken (t .trailing)) (afterArm x p) q q
     unfolding trailingTrivia
     trails-not {q} has e h empty =
         split (afterArm x p .returned) (λ b. yes (λ n. b) stays)

@@ -44,6 +44,7 @@ topFirst (suc n) stack = getD stack n 0 ∷ topFirst n stack
 
 -- ---- the options
 
+-- The brace style, as the definition has it.
 abbrev pub styleOf : BraceStyle → Options.BraceStyle
 styleOf SameLine = Options.SameLine
 styleOf Allman = Options.Allman
@@ -110,6 +111,7 @@ pub record CodeState : Type 0 where
   pub stack : List ℕ
   pub buf : List ℕ
 
+-- The three put together.
 abbrev pub codeState : Formatter → List ℕ → List ℕ → CodeState
 codeState f stack buf = record { form = f; stack = stack; buf = buf }
 

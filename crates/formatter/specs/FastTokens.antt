@@ -89,7 +89,7 @@ groupAfter k n = cond (isCloser k) (n - 1) n
 abbrev pub changingKinds : ℕ → Bool → ℕ
 changingKinds fn pending = cond (pending || not (eqb fn 0)) 0x7_ffff_ffff 0x34_00a0
 
--- These fields with the sets of kinds that go with them.
+-- The fields with these values, and the sets of kinds that go with them.
 abbrev pub fastStateFor : ℕ → Bool → Bool → ℕ → FastState
 fastStateFor fn pending unary group =
     record {
@@ -101,11 +101,12 @@ fastStateFor fn pending unary group =
       loose = looseBehind Other unary;
     }
 
+-- These fields of the code's state f.
 abbrev pub fastStateOf : code.Formatter → FastState
 fastStateOf f =
     fastStateFor (f .«fn_state») (f .«record_pending») (f .«prev_minus_is_unary») (f .«group_depth» .0)
 
--- They after a token of the kind k, where the kind before is p.
+-- The fields after a token of the kind k, where the kind before is p and they were those of m.
 abbrev pub fastStateAfter : ℕ → ℕ → FastState → FastState
 fastStateAfter p k m =
     fastStateFor (fnAfter k (m .«fn_state»)) (pendingAfter k (m .«record_pending»))

@@ -15,7 +15,7 @@ use sink::space::loose_behind;
 use sink::space::space_behind;
 ghost use mathlib.Core.Bool.{true, cond, not, _&&_};
 ghost use mathlib.Core.Path.{_≡_};
-ghost use Prim.Native.Nat.{_+_, _-_, _/_, _*_, _%_, _^_, _≤_, _<_};
+ghost use Prim.Native.Nat.{_+_, _-_, _/_, _*_, _^_, _≤_, _<_};
 ghost use lib.Dec.{eqb};
 ghost use lib.ListN.{length};
 ghost use Rattle.rows.specs.Kinds.{Other};
@@ -34,7 +34,7 @@ ghost use Rattle.formatter.specs.FastTokens.{fnAfter, pendingAfter, unar
 // to Other.
 const FAST: u64 = 0x7_ffe7_fe00;
 
-// These are fast in some states.
+// The others are fast in some states, as `fast_kinds` tells.
 const COMMA: u64 = 0x100;
 
 const ELSE: u64 = 0x8_0000;

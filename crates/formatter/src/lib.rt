@@ -43,6 +43,7 @@ pub enum NewlineAt {
     Index(u32),
 }
 
+// As `Before`, around `NewlineAt`.
 pub struct Suppressed {
     pub at: NewlineAt,
 }
@@ -55,13 +56,17 @@ pub enum Broken {
     At(u32),
 }
 
-// Four counts, each with a type of its own so that none is taken for another.
+// Four counts have a type of their own each, so that none is taken for another. This one is as `Before`, around
+// `Broken`.
 pub struct SignatureDepth(pub Broken);
 
+// How many round and square brackets are open.
 pub struct GroupDepth(pub usize);
 
+// How many braces of one-line blocks are open.
 pub struct InlineDepth(pub usize);
 
+// How many braces are open in a record.
 pub struct RecordDepth(pub usize);
 
 // Where the `{` of a block over several lines stands.
@@ -72,6 +77,7 @@ pub enum BraceStyle {
     Allman,
 }
 
+// The four options of a layout.
 pub struct Options {
     pub brace_style: BraceStyle,
     pub indent_width: u32,

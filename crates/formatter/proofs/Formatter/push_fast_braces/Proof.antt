@@ -90,7 +90,8 @@ loop-again : tie.Need-loop-again Inv-loop μ-loop
 loop-again c =
     let f = fits-open c in
     let t = row f in
-    goes-open (head t .loop .inv) (t .if1 .taken) _ (f .before .before .before .row-at .ensures) (c .before .before .before .before .if3 .taken) (brace-fits f .0) (brace-fits f .1) (c .before .before .open-fast-brace .ensures)
+    goes-open (head t .loop .inv) (t .if1 .taken) _ (f .before .before .before .row-at .ensures) (c .before .before .before .before .if3 .taken)
+    (brace-fits f .0) (brace-fits f .1) (c .before .before .open-fast-brace .ensures)
 
 close-fast-brace-requires : tie.Need-close-fast-brace-requires Inv-loop μ-loop
 close-fast-brace-requires c κs =
@@ -109,7 +110,8 @@ loop-again-2 : tie.Need-loop-again-2 Inv-loop μ-loop
 loop-again-2 c =
     let f = fits-close c in
     let t = row f in
-    goes-close (head t .loop .inv) (t .if1 .taken) _ (f .before .before .before .row-at .ensures) (c .before .before .before .before .if4 .taken) (brace-fits f .0) (brace-fits f .1) (c .before .before .close-fast-brace .ensures)
+    goes-close (head t .loop .inv) (t .if1 .taken) _ (f .before .before .before .row-at .ensures) (c .before .before .before .before .if4 .taken)
+    (brace-fits f .0) (brace-fits f .1) (c .before .before .close-fast-brace .ensures)
 
 same-length-2 : tie.Need-same-length-2 Inv-loop μ-loop
 same-length-2 c = head (row (c .before .before)) .loop .inv .done .size

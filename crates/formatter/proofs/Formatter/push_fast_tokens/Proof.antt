@@ -14,7 +14,8 @@ use Rattle.formatter.proofs.Formatter.push_fast_tokens.Statement.{state
 use Rattle.formatter.proofs.Formatter.push_fast_tokens.Tie as tie
 
 abbrev Inv-loop : tie.InvT-loop
-Inv-loop out₀ stack rows text from bare fast state₀ at₀ len₀ prev₀ spaced₀ out state at len prev spaced = FastTokensSoFar rows text from len₀ prev₀ state₀ fast out₀ at len prev state out × (spaced ≡ bit (state .loose) prev)
+Inv-loop out₀ stack rows text from bare fast state₀ at₀ len₀ prev₀ spaced₀ out state at len prev spaced =
+    FastTokensSoFar rows text from len₀ prev₀ state₀ fast out₀ at len prev state out × (spaced ≡ bit (state .loose) prev)
 
 abbrev μ-loop : tie.MeasureT-loop
 μ-loop out₀ stack rows text from bare fast state₀ at₀ len₀ prev₀ spaced₀ out state at len prev spaced = length rows - at
@@ -47,7 +48,9 @@ checked : (c : tie.At-loop Inv-loop μ-loop) → CheckedRows (entry c .args .row
 checked c = entry c .pre .1 .0 .1
 
 -- The next token is fast.
-taken : (c : tie.Then1 Inv-loop μ-loop) → IsFastToken (entry (head c) .args .rows .now) (kinds (head c) .fast-kinds .result) (head c .loop .at) (length (head c .loop .out)) (head c .loop .len) (head c .loop .spaced)
+taken :
+    (c : tie.Then1 Inv-loop μ-loop)
+    → IsFastToken (entry (head c) .args .rows .now) (kinds (head c) .fast-kinds .result) (head c .loop .at) (length (head c .loop .out)) (head c .loop .len) (head c .loop .spaced)
 taken c = c .before .is-fast-token .ensures (c .if1 .taken)
 
 -- One space may stand before the token, or none.
