@@ -39,7 +39,7 @@ use Rattle.formatter.specs.Format.{CheckedRows, TokenBoundary, ownRow, n
 use Rattle.formatter.specs.FastTokens.{FastKinds, fastKindsOf, isFastKind, fastKindBits, spaceBefore, groupAfter, isCloser, fastStateOf, fastStateAfter, Consistent, BareRow, IsFastToken, MayStartFastTokens, BeforeFastTokens, afterFastTokens, FastTokensLaidOut}
 use Rattle.formatter.proofs.Comments.{no-trivia}
 use Rattle.formatter.proofs.Place.{tokens-here, head-next, row-in}
-use Rattle.formatter.proofs.BareRow.{rowToken, goes-on, lay-more}
+use Rattle.formatter.proofs.BareRow.{rowToken, lay-first}
 use Rattle.formatter.proofs.FastTokenTurn.{fast-kind, fast-spaces, space-before, space-few, fast-turn, fast-next}
 
 -- ---- a row that is a token's without trivia
@@ -80,17 +80,13 @@ module _ {rows text : List ℕ} {at : ℕ} (ω : CheckedRows rows text) (η : To
     bare-row-tokens : tokensOf (drop at rows) text ≡ rowToken text (rowAt rows at) ∷ tokensOf (drop (at + 16) rows) text
     bare-row-tokens = rw (own-is, next-is, leading-none, trailing-none) at (tokens-here ω η h)
 
-    -- The definition's loop goes on by what the token's turn does, if that fits.
+    -- The definition's loop goes on after it.
     pub lay-bare-row :
         (o : Options) (size i : ℕ) (s : State) {s′ : State}
         → run (turn o i (rowToken text (rowAt rows at)) (tokensOf (drop (at + 16) rows) text)) s ≡ s′ → length (s′ .out) ≤ size
         → s′ .formatter .tooDeep ≡ none
         → layFrom o size (finished s) i (tokensOf (drop at rows) text) ≡ layFrom o size (finished s′) (i + 1) (tokensOf (drop (at + 16) rows) text)
-    lay-bare-row o size i s {s′} e f d =
-        ap (λ x. layFrom o size (finished s) i x) bare-row-tokens
-        ∙ lay-more o size s i (rowToken text (rowAt rows at)) (tokensOf (drop (at + 16) rows) text)
-        ∙ ap (λ x. layFrom o size (Rattle.definition.specs.Layout.checked size i x) (i + 1) (tokensOf (drop (at + 16) rows) text)) e
-        ∙ ap (λ x. layFrom o size x (i + 1) (tokensOf (drop (at + 16) rows) text)) (goes-on size i s′ f d)
+    lay-bare-row o size i s e f d = lay-first o size i s bare-row-tokens e f d
 
 -- ---- what holds at the loop's head
 
