@@ -83,24 +83,24 @@ pub data Trailed (tr : List Trivia) (b : Bool) (f : Formatter) (l : List ℕ) (g
 
 -- The leading trivia are done: there are none, and `just_closed_inline` is cleared, or they are written and fit.
 pub data LeadingDone (o : Options.Options) (rows text : List ℕ) (token : TokenAt) (f : Formatter) (l : List ℕ) (g : Formatter) (m : List ℕ) : Type 0 where
-  unled :
+  without-leading :
       token .lead ≡ token .own → {r : Formatter} → ((o : Options.Options) (l : List ℕ) → Puts (leadToken o []) f l r l) → r .len ≡ f .len
       → g ≡ r → m ≡ l → LeadingDone o rows text token f l g m
-  led-by :
+  leading-written :
       {r : Formatter} {u : List ℕ} → Puts (leadToken o (triviaIn rows text (token .lead) (token .own))) f l r u → r .len ≤ length u → g ≡ r
       → m ≡ u → LeadingDone o rows text token f l g m
 
-pub led-puts :
+pub leading-puts :
     {o : Options.Options} {rows text : List ℕ} {token : TokenAt} {f : Formatter} {l : List ℕ} {g : Formatter} {m : List ℕ}
     → LeadingDone o rows text token f l g m → Puts (leadToken o (triviaIn rows text (token .lead) (token .own))) f l g m
-led-puts {o} {rows} {text} {token} {l = l} (unled e d n eg em) = rw (eg, em, no-trivia rows text {at = token .lead} {to = token .own} (omega arith)) (d o l)
-led-puts (led-by d z eg em) = rw (eg, em) d
+leading-puts {o} {rows} {text} {token} {l = l} (without-leading e d n eg em) = rw (eg, em, no-trivia rows text {at = token .lead} {to = token .own} (omega arith)) (d o l)
+leading-puts (leading-written d z eg em) = rw (eg, em) d
 
-pub led-room :
+pub leading-room :
     {o : Options.Options} {rows text : List ℕ} {token : TokenAt} {f : Formatter} {l : List ℕ} {g : Formatter} {m : List ℕ}
     → f .len ≤ length l → LeadingDone o rows text token f l g m → g .len ≤ length m
-led-room h (unled e d n eg em) = rw (eg, em, n) h
-led-room h (led-by d z eg em) = rw (eg, em) z
+leading-room h (without-leading e d n eg em) = rw (eg, em, n) h
+leading-room h (leading-written d z eg em) = rw (eg, em) z
 
 -- The state f with another `fn_state`.
 abbrev pub withFnState : ℕ → Formatter → Formatter
@@ -208,13 +208,13 @@ module _ {options : Options} {rows text k₀ l₀ k l : List ℕ} {f : Formatter
 
   module _ {g : Formatter} {m : List ℕ} (ν : LeadingDone o rows text token f l g m) where
     abbrev δ : Does (leadToken o (t .leading)) x p (codeState g k m)
-    δ = its-lead (led-puts ν)
+    δ = its-lead (leading-puts ν)
 
     z : g .len ≤ length m
-    z = led-room (ι .going .room) ν
+    z = leading-room (ι .going .room) ν
 
     pub led-size : length m ≡ length l₀
-    led-size = lead-size (led-puts ν)
+    led-size = lead-size (leading-puts ν)
 
     abbrev s : State
     s = led o i t ts (stateOf x p)

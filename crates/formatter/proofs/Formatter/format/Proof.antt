@@ -6,7 +6,7 @@ use native.Mathlib.Omega.{arith}
 use lib.ListN.{length}
 use borrow.Author.Needs.{needs}
 use Rattle.formatter.proofs.Loop.{Loop, Known, Placed, begins, few, small-indent, its-rows, lead-rows, trail-rows, ends-ahead}
-use Rattle.formatter.proofs.Loop.{LeadingDone, unled, led-by, lead-size, full-lead, led-size, ready, stack-room, deep-at}
+use Rattle.formatter.proofs.Loop.{LeadingDone, without-leading, leading-written, lead-size, full-lead, led-size, ready, stack-room, deep-at}
 use Rattle.formatter.proofs.Loop.{Calls, written, left-out, withFnState, turn-size, full-turn, next-bounds, next-there-too, placed, further}
 use Rattle.formatter.proofs.Loop.{rows-left, past, fast-tokens-room, past-fast-tokens, fast-braces-place, fast-braces-rows, past-fast-braces}
 use Rattle.formatter.proofs.Going.{laid-stopped, laid-done}
@@ -93,8 +93,8 @@ leading :
     (token-led c .token-at .result) (head (token-led c) .loop .self) (head (token-led c) .loop .out) (c .if2 .self) (c .if2 .out)
 leading c =
     ⊎-elim
-    (λ w. unled (w .0 .taken) (w .1 .ensures .0) (w .1 .ensures .1) (w .2) (w .3))
-    (λ w. led-by (w .2 .ensures) (w .6 .left) (w .7) (w .8))
+    (λ w. without-leading (w .0 .taken) (w .1 .ensures .0) (w .1 .ensures .1) (w .2) (w .3))
+    (λ w. leading-written (w .2 .ensures) (w .6 .left) (w .7) (w .8))
     (c .if2 .came)
 
 -- What the calls of the turn say, after the leading trivia.
