@@ -176,7 +176,7 @@ module _ {options : Options} {rows text k₀ l₀ k l : List ℕ} {f : Formatter
   abbrev ts : List Token
   ts = tokensNext rows text at
 
-  pub few : i ≤ 65535
+  few : i ≤ 65535
   few = few-tokens ω (ι .going)
 
   pub small-indent : f .indent ≤ most32

@@ -20,6 +20,7 @@ ghost use Rattle.shared.specs.Numbers.{most32};
 ghost use Rattle.rows.specs.Options.{mostIndentWidth};
 ghost use Rattle.rows.specs.Row.{rowSize};
 ghost use Rattle.definition.specs.PushToken.{arm, overflows};
+ghost use Rattle.formatter.specs.declared.Formatted.the-variants.{Finished, Deep, Full};
 ghost use Rattle.formatter.specs.CodeState.{Locals, codeState, fieldsOn, optionsOf};
 ghost use Rattle.formatter.specs.Does.{Does};
 ghost use Rattle.formatter.specs.Token.{Ready, StackRoom, InRows, Ahead, AtToken};
@@ -55,15 +56,11 @@ impl Formatter {
             } else {
                 self = self.push_leading(options, out, rows, text, token);
                 if out.len() < self.len {
-                    return Formatted::Full {
-                        index: place.index as usize,
-                    };
+                    return full_at(place);
                 }
             }
             if self.overflows(options, ends, rows, token) {
-                return Formatted::Deep {
-                    index: place.index as usize,
-                };
+                return deep_at(place);
             }
             let trails = self.writes_trailing(stack, rows, token);
             self = self.push_token(options, ends, out, stack, rows, text, token, inline_close);
@@ -73,9 +70,7 @@ impl Formatter {
             let state = self.track_fn_state(token.kind);
             self.fn_state = state;
             if out.len() < self.len {
-                return Formatted::Full {
-                    index: place.index as usize,
-                };
+                return full_at(place);
             }
             place = self.next_place(rows, token, bare);
             if self.may_start_fast_tokens(rows, place.at) {
@@ -88,10 +83,7 @@ impl Formatter {
                 place = place_at(place, braces.at);
             }
         }
-        Formatted::Finished {
-            length: self.len,
-            commas: self.commas,
-        }
+        self.finished()
     }
 
     // Does the arm of the token's kind; they stand in the order of format.rs. `inline_close` is true where
@@ -213,5 +205,33 @@ impl Formatter {
             return Place { at, index };
         }
         Place { at, index }
+    }
+
+    // The end of a layout that is not refused.
+    fn finished(self) -> Formatted
+        ensures { λ r. ⌜ r ≡ Finished (self .len) (self .commas) ⌝ }
+    {
+        Formatted::Finished {
+            length: self.len,
+            commas: self.commas,
+        }
+    }
+}
+
+// Refusal 4 at the token of this place.
+fn deep_at(place: Place) -> Formatted
+    ensures { λ r. ⌜ r ≡ Deep (place .index) ⌝ }
+{
+    Formatted::Deep {
+        index: place.index as usize,
+    }
+}
+
+// Refusal 5 at the token of this place.
+fn full_at(place: Place) -> Formatted
+    ensures { λ r. ⌜ r ≡ Full (place .index) ⌝ }
+{
+    Formatted::Full {
+        index: place.index as usize,
     }
 }

@@ -5,7 +5,7 @@ use Prim.Native.Nat.{_-_, _<_}
 use native.Mathlib.Omega.{arith}
 use lib.ListN.{length}
 use borrow.Author.Needs.{needs}
-use Rattle.formatter.proofs.Loop.{Loop, Known, Placed, begins, few, small-indent, its-rows, lead-rows, trail-rows, ends-ahead}
+use Rattle.formatter.proofs.Loop.{Loop, Known, Placed, begins, small-indent, its-rows, lead-rows, trail-rows, ends-ahead}
 use Rattle.formatter.proofs.Loop.{LeadingDone, without-leading, leading-written, lead-size, full-lead, led-size, ready, stack-room, deep-at}
 use Rattle.formatter.proofs.Loop.{Calls, written, left-out, withFnState, turn-size, full-turn, next-bounds, next-there-too, placed, further}
 use Rattle.formatter.proofs.Loop.{rows-left, past, fast-tokens-room, past-fast-tokens, fast-braces-place, fast-braces-rows, past-fast-braces}
@@ -182,11 +182,11 @@ push-leading-requires c κs =
     ((entry (head t) .pre .0 .1, small-indent (known t)), (p, let a = p .ordered in omega (arith, c .before .if2 .left)))
 
 -- From the return where the leading trivia do not fit to where they are pushed.
-abbrev pushed : tie.After-struct-known4 Inv-loop μ-loop → tie.After-push-leading Inv-loop μ-loop
+abbrev pushed : tie.After-full-at Inv-loop μ-loop → tie.After-push-leading Inv-loop μ-loop
 pushed c = c .before .before .before .before .before
 
-cast-t22 : tie.Need-cast-t22 Inv-loop μ-loop
-cast-t22 c = record { fits = let n = few (known (token-pushed (pushed c))) in omega arith }
+full-at-requires : tie.Need-full-at-requires Inv-loop μ-loop
+full-at-requires c κs = search needs
 
 same-length : tie.Need-same-length Inv-loop μ-loop
 same-length c = lead-size (known (token-pushed (pushed c))) (pushed c .push-leading .ensures)
@@ -198,7 +198,7 @@ returns : tie.Need-returns Inv-loop μ-loop
 returns c =
     let θ = known (token-pushed (pushed c)) in
     let p = pushed c .push-leading .ensures in
-    laid-stopped full (full-lead θ p (c .before .if3 .taken)) (lead-size θ p)
+    rw (c .full-at .ensures) (laid-stopped full (full-lead θ p (c .before .if3 .taken)) (lead-size θ p))
 
 overflows-requires : tie.Need-overflows-requires Inv-loop μ-loop
 overflows-requires c κs =
@@ -210,11 +210,11 @@ overflows-requires c κs =
     (omega arith, ends-ahead θ (head (token-led c) .before .ends-of .ensures))
 
 -- From the return where the stack is too deep to where the leading trivia are done.
-abbrev led-deep : tie.After-struct-known5 Inv-loop μ-loop → tie.Joined2 Inv-loop μ-loop
+abbrev led-deep : tie.After-deep-at Inv-loop μ-loop → tie.Joined2 Inv-loop μ-loop
 led-deep c = c .before .before .before
 
-cast-t24 : tie.Need-cast-t24 Inv-loop μ-loop
-cast-t24 c = record { fits = let n = few (known (token-led (led-deep c))) in omega arith }
+deep-at-requires : tie.Need-deep-at-requires Inv-loop μ-loop
+deep-at-requires c κs = search needs
 
 same-length-3 : tie.Need-same-length-3 Inv-loop μ-loop
 same-length-3 c = led-size (known (token-led (led-deep c))) (leading (led-deep c))
@@ -226,7 +226,7 @@ returns-2 : tie.Need-returns-2 Inv-loop μ-loop
 returns-2 c =
     let θ = known (token-led (led-deep c)) in
     let ν = leading (led-deep c) in
-    laid-stopped deep (deep-at θ ν (c .before .before .overflows .ensures _ _) (c .before .if4 .taken)) (led-size θ ν)
+    rw (c .deep-at .ensures) (laid-stopped deep (deep-at θ ν (c .before .before .overflows .ensures _ _) (c .before .if4 .taken)) (led-size θ ν))
 
 writes-trailing-requires : tie.Need-writes-trailing-requires Inv-loop μ-loop
 writes-trailing-requires c κs =
@@ -248,11 +248,11 @@ track-fn-state-requires : tie.Need-track-fn-state-requires Inv-loop μ-loop
 track-fn-state-requires c κs = search needs
 
 -- From the return where the turn's text does not fit to where the turn is done.
-abbrev turn-full : tie.After-struct-known7 Inv-loop μ-loop → tie.After-track-fn-state Inv-loop μ-loop
+abbrev turn-full : tie.After-full-at2 Inv-loop μ-loop → tie.After-track-fn-state Inv-loop μ-loop
 turn-full c = c .before .before .before
 
-cast-t33 : tie.Need-cast-t33 Inv-loop μ-loop
-cast-t33 c = record { fits = let n = few (known (token-turned (turn-full c))) in omega arith }
+full-at-requires-2 : tie.Need-full-at-requires-2 Inv-loop μ-loop
+full-at-requires-2 c κs = search needs
 
 same-length-5 : tie.Need-same-length-5 Inv-loop μ-loop
 same-length-5 c = turn-size (known (token-turned (turn-full c))) (leading (led-turned (turn-full c))) (calls (turn-full c))
@@ -265,7 +265,7 @@ returns-3 c =
     let t = turn-full c in
     let θ = known (token-turned t) in
     let ν = leading (led-turned t) in
-    laid-stopped full (full-turn θ ν (calls t) (c .before .if6 .taken)) (turn-size θ ν (calls t))
+    rw (c .full-at2 .ensures) (laid-stopped full (full-turn θ ν (calls t) (c .before .if6 .taken)) (turn-size θ ν (calls t)))
 
 next-place-requires : tie.Need-next-place-requires Inv-loop μ-loop
 next-place-requires c κs =
@@ -351,14 +351,17 @@ loop-less-3 c =
 loop-again-3 : tie.Need-loop-again-3 Inv-loop μ-loop
 loop-again-3 c = at-place (c .before .before .before .before) .loop
 
+finished-requires : tie.Need-finished-requires Inv-loop μ-loop
+finished-requires c κs = search needs
+
 same-length-7 : tie.Need-same-length-7 Inv-loop μ-loop
-same-length-7 c = c .before .before .loop .inv .going .size
+same-length-7 c = c .before .before .before .loop .inv .going .size
 
 same-length-8 : tie.Need-same-length-8 Inv-loop μ-loop
-same-length-8 c = c .before .before .loop .inv .going .lent
+same-length-8 c = c .before .before .before .loop .inv .going .lent
 
 returns-4 : tie.Need-returns-4 Inv-loop μ-loop
-returns-4 c = laid-done (c .before .before .loop .inv .going) (c .if1 .left)
+returns-4 c = rw (c .finished .ensures) (laid-done (c .before .before .before .loop .inv .going) (c .before .if1 .left))
 
 pub format-spec : {M : Type 1} → statement M
 format-spec =
@@ -372,12 +375,12 @@ format-spec =
     takes-inline-close-requires
     clear-inline-close-requires
     push-leading-requires
-    cast-t22
+    full-at-requires
     same-length
     same-length-2
     returns
     overflows-requires
-    cast-t24
+    deep-at-requires
     same-length-3
     same-length-4
     returns-2
@@ -385,7 +388,7 @@ format-spec =
     push-token-requires
     push-trailing-requires
     track-fn-state-requires
-    cast-t33
+    full-at-requires-2
     same-length-5
     same-length-6
     returns-3
@@ -404,6 +407,7 @@ format-spec =
     loop-again-2
     loop-less-3
     loop-again-3
+    finished-requires
     same-length-7
     same-length-8
     returns-4)
