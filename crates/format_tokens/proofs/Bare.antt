@@ -11,7 +11,7 @@ use Rattle.rows.specs.Row.{Row, rowsOf}
 use Rattle.rows.specs.Checks.{GoodRows}
 use Rattle.rows.specs.Token.{bytesOf, tokensOf}
 use Rattle.definition.specs.Plain.{plain}
-use Rattle.plain.specs.Scan.{Facts, unseen, fits, behind, plainRows}
+use Rattle.plain.specs.Scan.{Facts, unseen, fits, factsAfter, plainRows}
 use Rattle.plain.proofs.Rows.{pass}
 use Rattle.formatter.specs.Format.{onlyTokens}
 
@@ -20,9 +20,9 @@ unfolding plainRows onlyTokens
 only text q [] e = refl
 only text q (r ∷ rs) e =
     let w = bytesOf text r in
-    let more = and-right (eqb (r .what) TokenRow) (fits q (r .kind) w && plainRows text (behind q (r .kind) w) rs) e in
-    rw (and-left (eqb (r .what) TokenRow) (fits q (r .kind) w && plainRows text (behind q (r .kind) w) rs) e)
-    (only text (behind q (r .kind) w) rs (and-right (fits q (r .kind) w) (plainRows text (behind q (r .kind) w) rs) more))
+    let more = and-right (eqb (r .what) TokenRow) (fits q (r .kind) w && plainRows text (factsAfter q (r .kind) w) rs) e in
+    rw (and-left (eqb (r .what) TokenRow) (fits q (r .kind) w && plainRows text (factsAfter q (r .kind) w) rs) e)
+    (only text (factsAfter q (r .kind) w) rs (and-right (fits q (r .kind) w) (plainRows text (factsAfter q (r .kind) w) rs) more))
 
 pub plain-bare : (rows text : List ℕ) → GoodRows rows (length text) → plain (tokensOf rows text) ≡ true → onlyTokens (rowsOf rows) ≡ true
 plain-bare rows text g e = only text unseen (rowsOf rows) (sym (pass rows text g) ∙ e)

@@ -18,7 +18,7 @@ use Rattle.definition.specs.Plain.{plain}
 use Rattle.definition.specs.Layout.{Ended, finished, stopped, lay, laidOut, layout}
 use Rattle.definition.proofs.Laid.{sane, lay-sane}
 use Rattle.formatter.specs.declared.Formatted.{Formatted}
-use Rattle.formatter.specs.Format.{Walks, formattedOf, Laid}
+use Rattle.formatter.specs.Format.{CheckedRows, formattedOf, LaidOut}
 use Rattle.format_tokens.specs.Steps.{walkReport, walkOutput}
 
 -- an answer and an output, as the definition has them
@@ -54,7 +54,7 @@ ends (stopped n i) mark out {m} h l f =
 -- ---- the checks pass
 
 module _ {style indent signature list : ℕ} {rows : List ℕ} (text : List ℕ) (π : Passed style indent signature list rows (length text)) where
-  pub passed-walks : Walks rows text
+  pub passed-walks : CheckedRows rows text
   passed-walks = record { whole = let w = whole-rows π in omega arith; few = few-rows π; good = π .each }
 
   pub small-width : indent ≤ mostIndentWidth
@@ -72,7 +72,7 @@ module _ {style indent signature list : ℕ} {rows : List ℕ} (text : List ℕ)
   passed-layout out = rw (π .options, π .even, π .each)
 
   -- the walk ended with r, and left m
-  pub walked-answers : {out : List ℕ} {r : Formatted} {m : List ℕ} {mark : Bool} → Laid rows text (optionsOf style indent signature list) out r m → mark ≡ plain (tokensOf rows text)
+  pub walked-answers : {out : List ℕ} {r : Formatted} {m : List ℕ} {mark : Bool} → LaidOut rows text (optionsOf style indent signature list) out r m → mark ≡ plain (tokensOf rows text)
       → Answers style indent signature list rows text out (walkReport r mark) (walkOutput r m)
   walked-answers {out} {r} {m} {mark} λ₀ k =
       let o = optionsOf style indent signature list in

@@ -19,8 +19,8 @@ ghost use Rattle.rows.specs.Answer.{checkReport};
 ghost use Rattle.rows.specs.Token.{tokensOf};
 ghost use Rattle.definition.specs.Plain.{plain as plainMark};
 ghost use Rattle.definition.specs.Layout.{layout};
-ghost use Rattle.formatter.specs.Pen.{optionsOf};
-ghost use Rattle.formatter.specs.Format.{Walks, Laid};
+ghost use Rattle.formatter.specs.CodeState.{optionsOf};
+ghost use Rattle.formatter.specs.Format.{CheckedRows, LaidOut};
 ghost use Rattle.format_tokens.specs.Answer.{reported};
 ghost use Rattle.format_tokens.specs.Steps.{refusalOf, MarkIs, walkReport, walkOutput};
 
@@ -166,10 +166,10 @@ fn options_of(style: u32, indent_width: u32, signature_width: u32, list_width: u
 // The walk over checked rows. It writes the text into `out`, and answers how it ended. Where the tokens are
 // plain there is no trivia, and it looks for none.
 fn lay_out(options: Options, rows: &[u8], text: &[u8], out: &mut [u8], plain: bool) -> Formatted
-    requires { ⌜ Walks (now rows) (now text) ⌝ }
+    requires { ⌜ CheckedRows (now rows) (now text) ⌝ }
     requires { ⌜ options .«indent_width» ≤ Rattle.rows.specs.Options.mostIndentWidth ⌝ }
     requires { ⌜ plain ≡ plainMark (tokensOf (now rows) (now text)) ⌝ }
-    ensures { λ r. ⌜ Laid (now (rows .entry)) (now (text .entry)) (optionsOf options) (now (out .entry)) r
+    ensures { λ r. ⌜ LaidOut (now (rows .entry)) (now (text .entry)) (optionsOf options) (now (out .entry)) r
         (now (out .exit)) ⌝ }
 {
     let mut stack = [0; 64];

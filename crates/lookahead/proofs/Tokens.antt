@@ -70,7 +70,7 @@ leading-breaks text x xs depth (r ∷ rs) =
     (λ f. rw (e, f) (leading-breaks text x (xs ++ (triviaOf text r ∷ [])) depth rs))
     (λ f. rw (e, f) (leading-breaks text x xs depth rs)))
 
-no-trailing : (text : List ℕ) (rs : List Row) → isEmpty (trailingOf text rs) ≡ not (trails rs)
+pub no-trailing : (text : List ℕ) (rs : List Row) → isEmpty (trailingOf text rs) ≡ not (trails rs)
 unfolding trailingOf
 no-trailing text [] = refl
 no-trailing text (r ∷ rs) = split (eqb (r .what) Trailing) (λ e. rw e) (λ e. rw e)
