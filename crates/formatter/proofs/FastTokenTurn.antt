@@ -22,11 +22,17 @@ use Rattle.definition.specs.PushToken.{arm, takeInlineClose, turn}
 use Rattle.spaces.specs.Between.{looseAfter, bit, spaces}
 use Rattle.spaces.proofs.Pairs.{spaces-are, loose-other}
 use Rattle.formatter.specs.declared.fast_tokens.FastState.{FastState}
-use Rattle.formatter.specs.FastTokens.{FastKinds, isCloser, isFastKind, fastKindBits, spaceBefore, fnAfter, pendingAfter, groupAfter, fastStateFor, fastStateAfter, Consistent, BeforeFastTokens, afterFastTokens}
+use Rattle.formatter.specs.FastTokens.{FastKinds, isCloser, fastKindBits, spaceBefore, fnAfter, pendingAfter, groupAfter, fastStateFor, fastStateAfter, Consistent, BeforeFastTokens, afterFastTokens}
 use Rattle.formatter.proofs.Gaps.{token-gap}
 use Rattle.formatter.proofs.Turn.{same, chosen-not, by-arm}
 
 -- ---- the kinds, by the bits of a number: one test, computed at every kind
+
+-- Whether tokens of the kind k are fast: those five by the state, and of the others all above Comma.
+unfoldable pub isFastKind : FastKinds → ℕ → Bool
+isFastKind t k =
+    cond (eqb k Comma) (t .commas)
+    (cond (eqb k Else) (t .elses) (cond (eqb k Fn) (t .fns) (cond (isCloser k) (t .closers) (ltb Comma k))))
 
 abbrev agree : FastKinds → ℕ → Bool
 agree t k = eqb (bit (fastKindBits t) k) (cond (isFastKind t k) 1 0)

@@ -37,11 +37,11 @@ use Rattle.formatter.specs.CodeState.{Locals, prevOf, signatureOf, topFi
 use Rattle.formatter.specs.Token.{kindOf}
 use Rattle.formatter.specs.Trivia.{triviaIn}
 use Rattle.formatter.specs.Format.{CheckedRows, TokenBoundary, ownRow, nextRow}
-use Rattle.formatter.specs.FastTokens.{FastKinds, fastKindsOf, isFastKind, fastKindBits, spaceBefore, groupAfter, isCloser, fastStateOf, fastStateAfter, Consistent, BareRow, IsFastToken, MayStartFastTokens, BeforeFastTokens, afterFastTokens, FastTokensLaidOut}
+use Rattle.formatter.specs.FastTokens.{FastKinds, fastKindsOf, fastKindBits, spaceBefore, groupAfter, isCloser, fastStateOf, fastStateAfter, Consistent, BareRow, IsFastToken, MayStartFastTokens, BeforeFastTokens, afterFastTokens, FastTokensLaidOut}
 use Rattle.formatter.proofs.Comments.{no-trivia}
 use Rattle.formatter.proofs.Place.{tokens-here, head-next, row-in}
 use Rattle.formatter.proofs.BareRow.{rowToken, lay-first}
-use Rattle.formatter.proofs.FastTokenTurn.{fast-kind, fast-spaces, space-before, space-few, fast-turn, fast-next}
+use Rattle.formatter.proofs.FastTokenTurn.{isFastKind, fast-kind, fast-spaces, space-before, space-few, fast-turn, fast-next}
 
 -- ---- a row that is a token's without trivia
 

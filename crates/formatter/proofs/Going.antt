@@ -15,7 +15,7 @@ use Rattle.rows.specs.Kinds.{Other}
 use Rattle.rows.specs.Options
 use Rattle.rows.specs.Token.{Token, tokensOf}
 use Rattle.definition.specs.Formatter
-use Rattle.definition.specs.Act.{State, state, run}
+use Rattle.definition.specs.Act.{State, run}
 use Rattle.definition.specs.PushToken.{overflows, turn, begun}
 use Rattle.definition.specs.Layout.{finished, stopped, checked, layFrom}
 use Rattle.definition.proofs.Growth.{depth, Grown, turn-grown}

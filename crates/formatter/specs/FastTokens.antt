@@ -51,13 +51,8 @@ fastKindsOf f stack =
 abbrev pub isCloser : ℕ → Bool
 isCloser k = eqb k RightParen || eqb k RightBracket
 
--- Whether tokens of the kind k are fast: those five by the state, and of the others all above Comma.
-unfoldable pub isFastKind : FastKinds → ℕ → Bool
-isFastKind t k =
-    cond (eqb k Comma) (t .commas)
-    (cond (eqb k Else) (t .elses) (cond (eqb k Fn) (t .fns) (cond (isCloser k) (t .closers) (ltb Comma k))))
-
--- The same kinds as the bits of a number.
+-- The kinds that are fast, as the bits of a number: those five by the state, and of the others all above Comma
+-- (`isFastKind` of proofs/FastTokenTurn.antt).
 abbrev pub fastKindBits : FastKinds → ℕ
 fastKindBits t =
     0x7_ffe7_fe00 + cond (t .commas) 0x100 0 + cond (t .elses) 0x8_0000 0 + cond (t .fns) 0x10_0000 0

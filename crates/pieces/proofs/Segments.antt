@@ -1,7 +1,7 @@
 -- A text of gaps and lexemes, each lexeme whole and apart from what stands before it, reads as exactly its lexemes. Assumes nothing.
 use mathlib.Core.List.{List, [], _∷_, _++_, append-assoc}
 use mathlib.Core.Path.{_≡_, refl, sym, _∙_}
-use Prim.Native.Nat.{ℕ, suc, _+_}
+use Prim.Native.Nat.{ℕ, suc}
 use lib.ListN.{length, length-append}
 use lib.Seq.{slice, take-at, drop-at}
 use Rattle.pieces.specs.declared.bytes.Class.the-variants.{Gap}

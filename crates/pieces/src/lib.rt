@@ -2,7 +2,7 @@
 use shared::clear_numbers;
 ghost use mathlib.Core.Path.{_≡_};
 ghost use mathlib.Core.Bool.{cond};
-ghost use Prim.Native.Nat.{_*_, _+_, _≤_, _<_};
+ghost use Prim.Native.Nat.{_*_, _≤_};
 ghost use lib.ListN.{length};
 ghost use Rattle.pieces.specs.Reading.{readFrom};
 ghost use Rattle.pieces.specs.Next.{next};

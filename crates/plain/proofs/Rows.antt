@@ -11,10 +11,10 @@ use borrow.Author.Tests.{eqb-true, eqb-false}
 use Rattle.shared.proofs.Logic.{split, impossible, impossible′, or-cases}
 use Rattle.rows.specs.Kinds.{Leading, TokenRow, Trailing, Eof, Newline, LeftBrace, RightBrace, Dot}
 use Rattle.rows.specs.Row.{Row, rowsOf}
-use Rattle.rows.specs.Token.{Trivia, Token, triviaOf, trailingOf, tokenOf, tokensFrom, tokensOf}
+use Rattle.rows.specs.Token.{Trivia, Token, triviaOf, tokenOf, tokensFrom, tokensOf}
 use Rattle.rows.specs.Checks.{Before, atStart, after, badFrom}
 use Rattle.rows.proofs.Sound.{first-sound, rest-good}
-use Rattle.lookahead.specs.Measure.{isEmpty}
+use Rattle.lookahead.proofs.Tokens.{no-trailing}
 use Rattle.lookahead.specs.Scan.{trails}
 use Rattle.lookahead.specs.Measure.{nextIs}
 use Rattle.definition.specs.Plain.{isMute, hasItsLexeme, readsWhole, endsOperator, beginsOperator, beginsDigit, tightBefore, tightBehind, clause₂, clause₃, clause₄, clause₅, clause₆, clause₇, plain}
@@ -94,11 +94,6 @@ fits-is : (q : PlainScan.Seen) (opened : Bool) (t : Token) → fits (factsAt q o
 fits-is q opened t = rw (clause₄-is q opened t, clause₅-is q t) (by-kind (factsAt q opened) (t .kind) (clause₂ t) (readsWhole (t .lexeme)) (not (collides (factsAt q opened) (t .kind) (t .lexeme))) (mute-lexeme (t .kind) (t .lexeme)))
 
 -- ---- trivia rows
-
-no-trailing : (text : List ℕ) (rs : List Row) → isEmpty (trailingOf text rs) ≡ not (trails rs)
-unfolding trailingOf
-no-trailing text [] = refl
-no-trailing text (r ∷ rs) = split (eqb (r .what) Trailing) (λ e. rw e) (λ e. rw e)
 
 -- no row of another what
 third : (size : ℕ) (b : Before) (i : ℕ) (r : Row) (rs : List Row) → badFrom size b i (r ∷ rs) ≡ none → eqb (r .what) TokenRow ≡ false → eqb (r .what) Leading ≡ false → r .what ≡ Trailing

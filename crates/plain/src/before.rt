@@ -17,7 +17,7 @@ use shared::numbers::smaller;
 ghost use mathlib.Core.Bool.{true, _&&_};
 ghost use mathlib.Core.List.{List};
 ghost use mathlib.Core.Path.{_≡_};
-ghost use Prim.Native.Nat.{ℕ, _+_, _≤_, _<_};
+ghost use Prim.Native.Nat.{ℕ, _≤_, _<_};
 ghost use lib.Dec.{eqb};
 ghost use lib.ListN.{length};
 ghost use Rattle.shared.specs.Bytes.{digit};

@@ -1,7 +1,7 @@
 // The sheet reader (document 01, 'Around the call'): it reads a sheet's lines into rows and their texts.
 use shared::clear_bytes;
 ghost use mathlib.Core.Path.{_≡_};
-ghost use Prim.Native.Nat.{_+_, _*_, _≤_, _<_};
+ghost use Prim.Native.Nat.{_*_, _≤_, _<_};
 ghost use lib.ListN.{length};
 ghost use Rattle.shared.specs.Report.{zeroed};
 ghost use Rattle.rows.specs.Row.{rowSize};
