@@ -29,7 +29,7 @@ fn print_spaces() {
 
 fn print_row_of_spaces(first: u32) {
     for second in 0..37 {
-        print_space(lookahead::needs_space(first, second));
+        print_space(spaces::needs_space(first, second));
     }
     end_line();
 }
