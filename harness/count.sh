@@ -4,7 +4,9 @@
 set -e
 cd "$(dirname "${BASH_SOURCE[0]}")/.."
 mkdir -p target
-rt staticlib doors > target/staticlib.log || { cat target/staticlib.log; exit 1; }
+if [ -z "${LIBDOORS:-}" ]; then
+    rt staticlib doors > target/staticlib.log || { cat target/staticlib.log; exit 1; }
+fi
 cd harness
 cargo build --release --offline --quiet -p compare
 program=${CARGO_TARGET_DIR:-target}/release/compare

@@ -1,5 +1,6 @@
 // Reading back (document 01): a text read into pieces, each with its start and its end.
 use shared::clear_numbers;
+use shared::numbers::MOST_32;
 ghost use mathlib.Core.Path.{_≡_};
 ghost use mathlib.Core.Bool.{cond};
 ghost use Prim.Native.Nat.{_*_, _≤_};
@@ -107,9 +108,6 @@ fn quoted(start: usize, end: runs::QuoteEnd) -> Next
     }
 }
 
-// The highest end of a piece: ends are stored in 32 bits.
-const MOST_END: usize = 4_294_967_295;
-
 // Puts the piece after the `n` that stand in `pieces` already, and says whether it fits.
 fn store(pieces: &mut [u32], n: usize, start: usize, end: usize) -> bool
     requires { ⌜ (start ≤ end) × (2 * n ≤ length (now pieces)) ⌝ }
@@ -117,7 +115,7 @@ fn store(pieces: &mut [u32], n: usize, start: usize, end: usize) -> bool
     ensures put { λ r. ⌜ now (pieces .exit)
         ≡ cond r (put (now (pieces .entry)) n start end) (now (pieces .entry)) ⌝ }
 {
-    if MOST_END < end {
+    if MOST_32 < end {
         return false;
     }
     let at = 2 * n;

@@ -6,8 +6,10 @@ use format_tokens::format_tokens_with;
 use libc::STDIN_FILENO;
 use libc::STDOUT_FILENO;
 use rows::ROW_BYTES;
+use shared::numbers::put_u32;
+use shared::refusals;
 ghost use mathlib.Core.Path.{_≡_};
-ghost use Prim.Native.Nat.{_+_, _≤_};
+ghost use Prim.Native.Nat.{_≤_};
 ghost use lib.ListN.{length};
 
 fn main() {
@@ -148,19 +150,10 @@ fn read_numbers(input: &[u8], at: usize, bytes: &mut [u8]) -> usize {
     let mut from = at;
     for i in 0..bytes.len() / 4 {
         let n = number_at(input, from);
-        write_number(bytes, 4 * i, n.value);
+        put_u32(bytes, 4 * i, n.value);
         from = n.next;
     }
     from
-}
-
-fn write_number(bytes: &mut [u8], at: usize, x: u32)
-    requires { ⌜ at + 4 ≤ length (now bytes) ⌝ }
-{
-    bytes[at] = (x % 256) as u8;
-    bytes[at + 1] = (x / 256 % 256) as u8;
-    bytes[at + 2] = (x / 65536 % 256) as u8;
-    bytes[at + 3] = (x / 16777216 % 256) as u8;
 }
 
 // Repeats the first `period` bytes until `bytes` is full.
@@ -240,17 +233,17 @@ fn print_answer(answer: Answer) {
             commas,
             plain,
         } => print_report(0, length as u64, commas as u64, plain as u64),
-        Answer::BadOption { position } => print_report(1, position as u64, 0, 0),
-        Answer::RaggedRows => print_report(2, 0, 0, 0),
-        Answer::BadRow { row } => print_report(3, row as u64, 0, 0),
-        Answer::Deep { index } => print_report(4, index as u64, 0, 0),
-        Answer::Full { index } => print_report(5, index as u64, 0, 0),
+        Answer::BadOption { position } => print_report(refusals::OPTION, position as u64, 0, 0),
+        Answer::RaggedRows => print_report(refusals::RAGGED_ROWS, 0, 0, 0),
+        Answer::BadRow { row } => print_report(refusals::BAD_ROW, row as u64, 0, 0),
+        Answer::Deep { index } => print_report(refusals::DEEP, index as u64, 0, 0),
+        Answer::Full { index } => print_report(refusals::FULL, index as u64, 0, 0),
     }
 }
 
 // Writes the refusal and the report's three numbers.
-fn print_report(refusal: u64, first: u64, second: u64, third: u64) {
-    io::print_decimal(STDOUT_FILENO, refusal);
+fn print_report(refusal: u32, first: u64, second: u64, third: u64) {
+    io::print_decimal(STDOUT_FILENO, refusal as u64);
     print_number(first);
     print_number(second);
     print_number(third);

@@ -2,6 +2,7 @@
 // tests/make_replay_pieces.py makes the texts and, by its own reading of document 01, what is expected.
 use libc::STDIN_FILENO;
 use libc::STDOUT_FILENO;
+use shared::refusals;
 ghost use Prim.Native.Nat.{_<_};
 
 fn main() {
@@ -83,14 +84,14 @@ fn read_into(text: &[u8], numbers: &mut [u32]) {
 fn print_answer(answer: pieces::Answer) {
     match answer {
         pieces::Answer::Pieces { count } => print_pair(0, count as u64),
-        pieces::Answer::Unreadable { index } => print_pair(9, index as u64),
-        pieces::Answer::PiecesFull { start } => print_pair(10, start as u64),
+        pieces::Answer::Unreadable { index } => print_pair(refusals::UNREADABLE, index as u64),
+        pieces::Answer::PiecesFull { start } => print_pair(refusals::PIECES_FULL, start as u64),
     }
 }
 
 // Writes two numbers with a space between.
-fn print_pair(refusal: u64, value: u64) {
-    io::print_decimal(STDOUT_FILENO, refusal);
+fn print_pair(refusal: u32, value: u64) {
+    io::print_decimal(STDOUT_FILENO, refusal as u64);
     print_number(value);
 }
 

@@ -3,6 +3,7 @@
 // expected.
 use libc::STDIN_FILENO;
 use libc::STDOUT_FILENO;
+use shared::refusals;
 ghost use mathlib.Core.Path.{_≡_};
 ghost use Prim.Native.Nat.{_≤_};
 ghost use lib.ListN.{length};
@@ -29,7 +30,7 @@ fn print_spaces() {
 
 fn print_row_of_spaces(first: u32) {
     for second in 0..37 {
-        print_space(lookahead::needs_space(first, second));
+        print_space(spaces::needs_space(first, second));
     }
     end_line();
 }
@@ -37,7 +38,7 @@ fn print_row_of_spaces(first: u32) {
 fn print_space(space: spaces::Space) {
     match space {
         spaces::Space::Needed { needed } => print_pair(0, flag(needed)),
-        spaces::Space::BadRow { position } => print_pair(3, position as u64),
+        spaces::Space::BadRow { position } => print_pair(refusals::BAD_ROW, position as u64),
     }
 }
 
@@ -109,9 +110,9 @@ fn print_check(header: &[u8], rows: &[u8])
 fn print_checked(checked: rows::Checked) {
     match checked {
         rows::Checked::Good => print_pair(0, 0),
-        rows::Checked::BadOption { position } => print_pair(1, position as u64),
-        rows::Checked::RaggedRows => print_pair(2, 0),
-        rows::Checked::BadRow { row } => print_pair(3, row as u64),
+        rows::Checked::BadOption { position } => print_pair(refusals::OPTION, position as u64),
+        rows::Checked::RaggedRows => print_pair(refusals::RAGGED_ROWS, 0),
+        rows::Checked::BadRow { row } => print_pair(refusals::BAD_ROW, row as u64),
     }
 }
 
@@ -155,8 +156,8 @@ fn print_list(rows: &[u8], width: u32) {
     print_number(flag(lookahead::should_break_list(rows, width)));
 }
 
-fn print_pair(refusal: u64, value: u64) {
-    print_number(refusal);
+fn print_pair(refusal: u32, value: u64) {
+    print_number(refusal as u64);
     print_number(value);
     io::write_all(STDOUT_FILENO, b";");
 }

@@ -5,6 +5,9 @@ ghost use lib.ListN.{length};
 ghost use lib.Seq.{sets};
 ghost use Rattle.shared.specs.Numbers.{littleEndian};
 
+// The highest 32-bit number.
+pub const MOST_32: usize = 4_294_967_295;
+
 // Returns one less than `n`, and 0 for 0.
 pub fn less(n: usize) -> usize
     ensures { λ r. ⌜ r ≡ n - 1 ⌝ }

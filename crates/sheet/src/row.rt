@@ -1,5 +1,6 @@
 // A row in bytes: four 32-bit numbers, little-endian.
 use rows::ROW_BYTES;
+use shared::numbers::MOST_32;
 use shared::numbers::put_u32;
 ghost use mathlib.Core.Path.{_≡_};
 ghost use mathlib.Core.Bool.{cond};
@@ -7,9 +8,6 @@ ghost use Prim.Native.Nat.{_*_, _≤_};
 ghost use lib.ListN.{length};
 ghost use Rattle.rows.specs.Row.{rowSize};
 ghost use Rattle.sheet.specs.Row.{rowFits, withRow};
-
-// The highest 32-bit number.
-const MOST_END: usize = 4294967295;
 
 // Stores a row in `rows` after the `n` rows that stand there, and returns true; where it does not fit, leaves `rows`
 // as it is and returns false.
@@ -19,7 +17,7 @@ pub fn store(rows: &mut [u8], n: usize, what: u8, kind: u8, start: usize, end: u
     ensures put { λ r. ⌜ now (rows .exit)
         ≡ cond r (withRow (now (rows .entry)) n what kind start end) (now (rows .entry)) ⌝ }
 {
-    if MOST_END < end {
+    if MOST_32 < end {
         return false;
     }
     let at = ROW_BYTES * n;

@@ -1,11 +1,14 @@
 -- A write over an earlier one: a copy by eights, and a lexeme over a space. Assumes nothing.
 use mathlib.Core.List.{List, _++_, append-assoc}
-use mathlib.Core.Logic.{_⊎_, ⊎-elim}
 use mathlib.Core.Path.{_≡_, refl, sym, _∙_}
-use Prim.Native.Nat.{ℕ, zero, suc, _+_, _-_, _≤_, _<_}
+use Prim.Native.Nat.{ℕ, zero, suc, _+_, _-_, _≤_, _<_, min}
+use native.Mathlib.Nat.{min-eq-left, min-eq-right}
 use native.Mathlib.Omega.{arith}
 use lib.ListN.{length, take, drop, set, getD, replicate, length-append, length-set}
 use lib.Seq.{slice, length-slice, length-take-le, take-take, take-add, take-append-add, drop-drop, drop-at}
+use lib.Dec.{leb}
+use borrow.Author.Tests.{leb-true, leb-false}
+use Rattle.shared.proofs.Logic.{split}
 use Rattle.sink.specs.Sink.{Writes}
 use Rattle.sink.proofs.Sink.{Copied, later, one, same-bytes, part-none, part-more, part-done, slice-one}
 
@@ -78,11 +81,19 @@ turn-none size = let e : size - (size - 0) ≡ 0 = omega arith in rw e part-none
 turn : {l t m k : List ℕ} {n s : ℕ} (w i j p : ℕ) → j ≤ i → i ≤ j + w → s + j + w ≤ length t → p ≡ j + w → Copied l n t s m i → Writes m (n + j) (slice (s + j) (s + j + w) t) k (n + j + w) → Copied l n t s k p
 turn w i j p a b h e q x = rw e (part-over j w a b h q x)
 
-pub turn-more : {l t m k : List ℕ} {n s : ℕ} (w size i j : ℕ) → w ≤ size → s + size ≤ length t → i < size → (j ≤ i) × ((j ≤ size - w) × ((j ≡ i) ⊎ (j ≡ size - w))) → Copied l n t s m (size - (size - i)) → Writes m (n + j) (slice (s + j) (s + j + w) t) k (n + j + w) → Copied l n t s k (size - (size - (i + w)))
+pub turn-more : {l t m k : List ℕ} {n s : ℕ} (w size i j : ℕ) → w ≤ size → s + size ≤ length t → i < size → j ≡ min i (size - w)
+    → Copied l n t s m (size - (size - i)) → Writes m (n + j) (slice (s + j) (s + j + w) t) k (n + j + w)
+    → Copied l n t s k (size - (size - (i + w)))
 turn-more w size i j a h g b p x =
-    ⊎-elim (λ e. turn w (size - (size - i)) j (size - (size - (i + w))) (omega arith) (omega arith) (omega arith) (omega arith) p x)
-    (λ e. turn w (size - (size - i)) j (size - (size - (i + w))) (omega arith) (omega arith) (omega arith) (omega arith) p x)
-    (b .1 .1)
+    split (leb i (size - w))
+    (λ q.
+    let f = leb-true i (size - w) q in
+    let e : j ≡ i = b ∙ min-eq-left f in
+    turn w (size - (size - i)) j (size - (size - (i + w))) (omega arith) (omega arith) (omega arith) (omega arith) p x)
+    (λ q.
+    let f = leb-false i (size - w) q in
+    let e : j ≡ size - w = b ∙ min-eq-right (omega arith) in
+    turn w (size - (size - i)) j (size - (size - (i + w))) (omega arith) (omega arith) (omega arith) (omega arith) p x)
 
 -- the first w bytes and the last w, which may go over them
 pub ends : {l m k : List ℕ} {n : ℕ} (t : List ℕ) (s w size : ℕ) → w ≤ size → size ≤ w + w → s + size ≤ length t → Writes l n (slice s (s + w) t) m (n + w) → Writes m (n + (size - w)) (slice (s + (size - w)) (s + (size - w) + w) t) k (n + (size - w) + w) → Writes l n (slice s (s + size) t) k (n + size)

@@ -1,6 +1,5 @@
 // Copies a part of a text into the lent output, where it is known to fit.
-ghost use mathlib.Core.Logic.{_⊎_};
-ghost use mathlib.Core.Path.{_≡_};
+use shared::numbers::smaller;
 ghost use Prim.Native.Nat.{_+_, _≤_};
 ghost use lib.ListN.{length};
 ghost use lib.Seq.{slice};
@@ -81,20 +80,10 @@ fn copy_eights(out: &mut [u8], to: usize, text: &[u8], from: usize, size: usize)
     let last = size - EIGHT;
     let mut i = 0;
     while i < size {
-        let at = least(i, last);
+        let at = smaller(i, last);
         copy_eight(out, to + at, text, from + at);
         i += EIGHT;
     }
-}
-
-// Answers the smaller of two numbers.
-fn least(a: usize, b: usize) -> usize
-    ensures { λ r. ⌜ (r ≤ a) × ((r ≤ b) × ((r ≡ a) ⊎ (r ≡ b))) ⌝ }
-{
-    if a < b {
-        return a;
-    }
-    b
 }
 
 // Copies two bytes. All are loaded before one is stored: the compiler makes one load and one store of it.

@@ -18,11 +18,11 @@ loop-holds c = search needs
 number-at-requires : tie.Need-number-at-requires Inv-loop μ-loop
 number-at-requires c κs = search needs
 
-mul-write-number : tie.Need-mul-write-number Inv-loop μ-loop
-mul-write-number c = search needs
+mul-put-u32 : tie.Need-mul-put-u32 Inv-loop μ-loop
+mul-put-u32 c = search needs
 
-write-number-requires : tie.Need-write-number-requires Inv-loop μ-loop
-write-number-requires c κs = search needs
+put-u32-requires : tie.Need-put-u32-requires Inv-loop μ-loop
+put-u32-requires c κs = search needs
 
 add-i : tie.Need-add-i Inv-loop μ-loop
 add-i c = search needs
@@ -47,8 +47,8 @@ read-numbers-spec =
     μ-loop
     loop-holds
     number-at-requires
-    mul-write-number
-    write-number-requires
+    mul-put-u32
+    put-u32-requires
     add-i
     loop-less
     loop-again

@@ -19,8 +19,8 @@ sub-last c = search needs
 loop-holds : tie.Need-loop-holds Inv-loop μ-loop
 loop-holds c = turn-none _
 
-least-requires : tie.Need-least-requires Inv-loop μ-loop
-least-requires c κs = search needs
+smaller-requires : tie.Need-smaller-requires Inv-loop μ-loop
+smaller-requires c κs = search needs
 
 add-copy-eight : tie.Need-add-copy-eight Inv-loop μ-loop
 add-copy-eight c = search needs
@@ -38,7 +38,7 @@ loop-less : tie.Need-loop-less Inv-loop μ-loop
 loop-less c = search needs
 
 loop-again : tie.Need-loop-again Inv-loop μ-loop
-loop-again c = turn-more 8 (c .before .before .before .before .before .before .before .before .before .args .size) (c .before .before .before .before .before .before .loop .i) (c .before .before .before .before .least .result) (c .before .before .before .before .before .before .before .before .before .pre .0) (c .before .before .before .before .before .before .before .before .before .pre .1 .0) (c .before .before .before .before .before .loop-test .taken) (c .before .before .before .before .least .ensures) (c .before .before .before .before .before .before .loop .inv) (c .before .before .copy-eight .ensures)
+loop-again c = turn-more 8 (c .before .before .before .before .before .before .before .before .before .args .size) (c .before .before .before .before .before .before .loop .i) (c .before .before .before .before .smaller .result) (c .before .before .before .before .before .before .before .before .before .pre .0) (c .before .before .before .before .before .before .before .before .before .pre .1 .0) (c .before .before .before .before .before .loop-test .taken) (c .before .before .before .before .smaller .ensures) (c .before .before .before .before .before .before .loop .inv) (c .before .before .copy-eight .ensures)
 
 same-length : tie.Need-same-length Inv-loop μ-loop
 same-length c = search needs
@@ -54,7 +54,7 @@ copy-eights-spec =
     μ-loop
     sub-last
     loop-holds
-    least-requires
+    smaller-requires
     add-copy-eight
     add-copy-eight-2
     copy-eight-requires
