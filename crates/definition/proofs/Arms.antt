@@ -20,7 +20,7 @@ use Rattle.definition.specs.Act.{State, state, run}
 use Rattle.shared.specs.Bytes.{lineFeed, sameBytes}
 use Rattle.definition.specs.Emit.{indentStr, onNewLine, indented, dedented, tokenGap}
 use Rattle.definition.specs.Arms.{popped, openList, leftParenArm, leftBracketArm, rightParenArm, rightBracketArm, commaArm, elseArm, trackRecord, otherArm}
-use Rattle.definition.specs.Plain.{hasItsLexeme, mayMeet, noDotBehind}
+use Rattle.definition.specs.Plain.{hasItsLexeme, mayMeet, noDotAfter}
 use Rattle.definition.proofs.After.{After, chosen, inTurn, first, last}
 use Rattle.definition.proofs.Beside.{Sound, lexeme-is}
 use Rattle.definition.proofs.Inv.{Stands, free, WroteBy, Wrote, kept-apart, put, put-byte, put-comma, wrote-put, token-gaps, line-gaps, feed-gaps, feed}
@@ -74,7 +74,7 @@ module _ (o : Options) (t : Token) (xs : List (List ℕ)) (l : Option Token) (s 
   t-is : (j : ℕ) (v : List ℕ) → t .kind ≡ j → hasItsLexeme j (t .lexeme) ≡ sameBytes (t .lexeme) v → t .lexeme ≡ v
   t-is j v k e = lexeme-is (t .kind) j (t .lexeme) v (τ .fixed) k e
 
-  module _ (meet : mayMeet l t ≡ true) (dot : noDotBehind l t ≡ true) where
+  module _ (meet : mayMeet l t ≡ true) (dot : noDotAfter l t ≡ true) where
     -- `push_lexeme`, by a formatter that has the line start and the last kind
     pub pushing : (f : Formatter) → f .atLineStart ≡ s .formatter .atLineStart → f .prev ≡ s .formatter .prev
         → WroteBy (xs ++ (t .lexeme ∷ [])) (some t) (s .out ++ tokenGap o (t .kind) f ++ t .lexeme) (s .commas) false (some (t .kind))

@@ -19,7 +19,7 @@ use Rattle.pieces.proofs.Whole.{afterWord, afterNumber, afterOperator, leaves, 
 use Rattle.pieces.proofs.Written.{apart-single}
 use Rattle.shared.proofs.Logic.{impossible, impossible′, and-left, and-right, or-left, or-right, split}
 use Rattle.spaces.specs.Space.{spaceAfter}
-use Rattle.definition.specs.Plain.{operatorByte, onlyOperators, hasItsLexeme, isOnePiece, readsWhole, endsOperator, beginsOperator, tightBefore, tightBehind, operatorsMeet, mayMeet, beginsDigit, noDotBehind}
+use Rattle.definition.specs.Plain.{operatorByte, onlyOperators, hasItsLexeme, isOnePiece, readsWhole, endsOperator, beginsOperator, tightBefore, tightAfter, operatorsMeet, mayMeet, beginsDigit, noDotAfter}
 use Rattle.definition.proofs.After.{among}
 
 -- ---- what the tests of a lexeme say
@@ -116,12 +116,12 @@ or-second : (a b : Bool) → b ≡ true → a || b ≡ true
 or-second true b e = refl
 or-second false b e = e
 
-module _ (t u : Token) (σ : Sound t) (τ : Sound u) (meet : mayMeet (some t) u ≡ true) (dot : noDotBehind (some t) u ≡ true) where
+module _ (t u : Token) (σ : Sound t) (τ : Sound u) (meet : mayMeet (some t) u ≡ true) (dot : noDotAfter (some t) u ≡ true) where
   abbrev Goal : Type 0
   Goal = Apart (leftBy (t .lexeme)) (u .lexeme)
 
-  meets : {C : Type 0} → endsOperator (t .lexeme) ≡ true → beginsOperator (u .lexeme) ≡ true → tightBefore (t .kind) || tightBehind (u .kind) ≡ true → C
-  meets p q r = clash (operatorsMeet t u) (tightBefore (t .kind) || tightBehind (u .kind)) meet (both _ _ p q) r
+  meets : {C : Type 0} → endsOperator (t .lexeme) ≡ true → beginsOperator (u .lexeme) ≡ true → tightBefore (t .kind) || tightAfter (u .kind) ≡ true → C
+  meets p q r = clash (operatorsMeet t u) (tightBefore (t .kind) || tightAfter (u .kind)) meet (both _ _ p q) r
 
   t-ends : operatorByte (peek (t .lexeme)) ≡ true → endsOperator (t .lexeme) ≡ true
   t-ends h = whole-ends (t .lexeme) (reads-whole (t .lexeme) (σ .reads)) h
@@ -141,7 +141,7 @@ module _ (t u : Token) (σ : Sound t) (τ : Sound u) (meet : mayMeet (some t) u 
   single-case d e h = rw e (apart-single (leftBy (t .lexeme)) d h)
 
   -- before a dot or a colon
-  tight-case : tightBehind (u .kind) ≡ true → operatorByte (peek (u .lexeme)) ≡ true → isWord (class (peek (u .lexeme))) ≡ false → (digit (peek (t .lexeme)) ≡ true → Undigit (u .lexeme)) → Goal
+  tight-case : tightAfter (u .kind) ≡ true → operatorByte (peek (u .lexeme)) ≡ true → isWord (class (peek (u .lexeme))) ≡ false → (digit (peek (t .lexeme)) ≡ true → Undigit (u .lexeme)) → Goal
   tight-case m h f d =
       left-by (class (peek (t .lexeme))) (peek (t .lexeme)) (u .lexeme) f d
       (λ e. meets (t-ends e) (begins-peek (u .lexeme) ∙ h) (or-second (tightBefore (t .kind)) _ m))
@@ -181,7 +181,7 @@ module _ (t u : Token) (σ : Sound t) (τ : Sound u) (meet : mayMeet (some t) u 
         ),
       )
 
-  before-tight : tightBehind (u .kind) ≡ true → Goal
+  before-tight : tightAfter (u .kind) ≡ true → Goal
   unfolding hasItsLexeme class
   before-tight m =
       among (Dot ∷ DotDot ∷ ColonColon ∷ Colon ∷ []) (u .kind) m (
@@ -234,7 +234,7 @@ none-of [] k e = tt
 none-of (j ∷ js) k e = (or-left (eqb k j) (oneOf js k) e, none-of js k (or-right (eqb k j) (oneOf js k) e))
 
 spaced : (p k : ℕ) (unary : Bool) → oneOf (LeftParen ∷ LeftBracket ∷ []) p ≡ false → tightBefore p ≡ false
-    → oneOf (RightBrace ∷ LeftParen ∷ RightParen ∷ LeftBracket ∷ RightBracket ∷ Comma ∷ Semicolon ∷ Question ∷ []) k ≡ false → tightBehind k ≡ false → spaceAfter (some p) unary k ≡ true
+    → oneOf (RightBrace ∷ LeftParen ∷ RightParen ∷ LeftBracket ∷ RightBracket ∷ Comma ∷ Semicolon ∷ Question ∷ []) k ≡ false → tightAfter k ≡ false → spaceAfter (some p) unary k ≡ true
 spaced p k unary a b c d =
     let a′ = none-of (LeftParen ∷ LeftBracket ∷ []) p a in
     let b′ = none-of (Dot ∷ DotDot ∷ ColonColon ∷ Hash ∷ Bang ∷ BangHash ∷ Minus ∷ []) p b in
@@ -243,10 +243,10 @@ spaced p k unary a b c d =
     rw (b′ .1 .1 .1 .1 .1 .1 .0, a′ .0, a′ .1 .0, b′ .0, b′ .1 .0, b′ .1 .1 .0, b′ .1 .1 .1 .0, b′ .1 .1 .1 .1 .0, b′ .1 .1 .1 .1 .1 .0, c′ .1 .1 .0, c′ .1 .1 .1 .1 .0, d′ .0, d′ .1 .0, d′ .1 .1 .0, c′ .1 .1 .1 .1 .1 .0, d′ .1 .1 .1 .0, c′ .1 .1 .1 .1 .1 .1 .0, c′ .1 .1 .1 .1 .1 .1 .1 .0, c′ .0, c′ .1 .0, c′ .1 .1 .1 .0)
 
 -- no gap is written between t and u, so they stand apart
-pub apart : (t u : Token) (unary : Bool) → Sound t → Sound u → mayMeet (some t) u ≡ true → noDotBehind (some t) u ≡ true → spaceAfter (some (t .kind)) unary (u .kind) ≡ false → Apart (leftBy (t .lexeme)) (u .lexeme)
+pub apart : (t u : Token) (unary : Bool) → Sound t → Sound u → mayMeet (some t) u ≡ true → noDotAfter (some t) u ≡ true → spaceAfter (some (t .kind)) unary (u .kind) ≡ false → Apart (leftBy (t .lexeme)) (u .lexeme)
 apart t u unary σ τ m d e =
     split (oneOf (LeftParen ∷ LeftBracket ∷ []) (t .kind)) (behind-opener t u σ τ m d)
     (λ x. split (tightBefore (t .kind)) (behind-operator t u σ τ m d)
     (λ y. split (oneOf (RightBrace ∷ LeftParen ∷ RightParen ∷ LeftBracket ∷ RightBracket ∷ Comma ∷ Semicolon ∷ Question ∷ []) (u .kind)) (before-single t u σ τ m d)
-    (λ z. split (tightBehind (u .kind)) (before-tight t u σ τ m d)
+    (λ z. split (tightAfter (u .kind)) (before-tight t u σ τ m d)
     (λ v. impossible (sym (spaced (t .kind) (u .kind) unary x y z v) ∙ e)))))

@@ -21,7 +21,7 @@ use Rattle.definition.specs.Act.{State}
 use Rattle.shared.specs.Bytes.{lineFeed, space}
 use Rattle.definition.specs.Emit.{indentStr, indentOrSpace, onNewLine, tokenGap}
 use Rattle.spaces.specs.Space.{spaceAfter}
-use Rattle.definition.specs.Plain.{mayMeet, noDotBehind}
+use Rattle.definition.specs.Plain.{mayMeet, noDotAfter}
 use Rattle.definition.proofs.PlainScan.{Seen}
 use Rattle.definition.proofs.Beside.{Sound, reads-whole, apart}
 
@@ -100,7 +100,7 @@ after-clear [] w = tt
 after-clear (b ∷ g) w = tt
 
 -- the gap before a token, as `emit_token_text` writes it, keeps its lexeme apart
-pub kept-apart : {b : Bool} {p : Option ℕ} {l : Option Token} {n : Left} → Stands b p l n → (u : Token) → Sound u → mayMeet l u ≡ true → noDotBehind l u ≡ true → (i : List ℕ) (unary : Bool)
+pub kept-apart : {b : Bool} {p : Option ℕ} {l : Option Token} {n : Left} → Stands b p l n → (u : Token) → Sound u → mayMeet l u ≡ true → noDotAfter l u ≡ true → (i : List ℕ) (unary : Bool)
     → Apart (afterGap n (cond b i (cond (spaceAfter p unary (u .kind)) space []))) (u .lexeme)
 kept-apart (free {b = b} {p = p}) u τ m d i unary = after-clear (cond b i (cond (spaceAfter p unary (u .kind)) space [])) (u .lexeme)
 kept-apart (behind {t = t} σ) u τ m d i unary =

@@ -21,7 +21,7 @@ use Rattle.definition.specs.Emit.{isSome, trackFnState, leadingTrivia, t
 use Rattle.definition.specs.Arms.{newlineArm}
 use Rattle.lookahead.specs.Measure.{nextIs}
 use Rattle.definition.specs.PushToken.{takeInlineClose, arm, pushToken, turn}
-use Rattle.definition.specs.Plain.{isMute, readsWhole, mayMeet, noDotBehind, clause₁, clause₂, clause₃, clause₄, clause₅, clause₆, clause₇}
+use Rattle.definition.specs.Plain.{isMute, readsWhole, mayMeet, noDotAfter, clause₁, clause₂, clause₃, clause₄, clause₅, clause₆, clause₇}
 use Rattle.definition.proofs.PlainScan.{Seen, see, fits}
 use Rattle.definition.proofs.After.{After, chosen, inTurn, first, last, implied}
 use Rattle.definition.proofs.Beside.{Sound}
@@ -83,8 +83,8 @@ module _ (q : Seen) (t : Token) (ts : List Token) (e : fits q t ts ≡ true) whe
   meets : isMute t ≡ false → mayMeet (q .last) t ≡ true
   meets m = written (isMute t) (mayMeet (q .last) t) (clauses .four) m
 
-  undotted : isMute t ≡ false → noDotBehind (q .last) t ≡ true
-  undotted m = written (isMute t) (noDotBehind (q .last) t) (clauses .five) m
+  undotted : isMute t ≡ false → noDotAfter (q .last) t ≡ true
+  undotted m = written (isMute t) (noDotAfter (q .last) t) (clauses .five) m
 
   no-comma : t .kind ≡ LeftBrace → q .comma ≡ false
   no-comma k = at-brace (eqb (t .kind) LeftBrace) (q .comma) (clauses .six) (rw k)
@@ -212,7 +212,7 @@ module _ (o : Options) (i : ℕ) (q : Seen) (t : Token) (ts : List Token) (φ : 
     μ : mayMeet (q .last) t ≡ true
     μ = meets q t ts φ m
 
-    δ : noDotBehind (q .last) t ≡ true
+    δ : noDotAfter (q .last) t ≡ true
     δ = undotted q t ts φ m
 
     arm-next : eqb (t .kind) LeftBrace ≡ false → eqb (t .kind) RightBrace ≡ false → (s′ : State) → Arm xs t (s .formatter) s′ → Next q t ts xs s′

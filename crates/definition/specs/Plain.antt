@@ -96,15 +96,15 @@ abbrev pub tightBefore : ℕ → Bool
 tightBefore k = oneOf (Dot ∷ DotDot ∷ ColonColon ∷ Hash ∷ Bang ∷ BangHash ∷ Minus ∷ []) k
 
 -- Dot, DotDot, ColonColon, Colon
-abbrev pub tightBehind : ℕ → Bool
-tightBehind k = oneOf (Dot ∷ DotDot ∷ ColonColon ∷ Colon ∷ []) k
+abbrev pub tightAfter : ℕ → Bool
+tightAfter k = oneOf (Dot ∷ DotDot ∷ ColonColon ∷ Colon ∷ []) k
 
 abbrev pub operatorsMeet : Token → Token → Bool
 operatorsMeet t u = endsOperator (t .lexeme) && beginsOperator (u .lexeme)
 
 abbrev pub mayMeet : Option Token → Token → Bool
 mayMeet none u = true
-mayMeet (some t) u = not (operatorsMeet t u) || not (tightBefore (t .kind) || tightBehind (u .kind))
+mayMeet (some t) u = not (operatorsMeet t u) || not (tightBefore (t .kind) || tightAfter (u .kind))
 
 abbrev pub clause₄ : Option Token → Token → Bool
 clause₄ last t = isMute t || mayMeet last t
@@ -115,12 +115,12 @@ abbrev pub beginsDigit : List ℕ → Bool
 beginsDigit [] = false
 beginsDigit (b ∷ w) = digit b
 
-abbrev pub noDotBehind : Option Token → Token → Bool
-noDotBehind none u = true
-noDotBehind (some t) u = not (beginsDigit (t .lexeme) && eqb (u .kind) Dot)
+abbrev pub noDotAfter : Option Token → Token → Bool
+noDotAfter none u = true
+noDotAfter (some t) u = not (beginsDigit (t .lexeme) && eqb (u .kind) Dot)
 
 abbrev pub clause₅ : Option Token → Token → Bool
-clause₅ last t = isMute t || noDotBehind last t
+clause₅ last t = isMute t || noDotAfter last t
 
 -- ---- 6. no `{` directly after `,`, nor after it with only Eof between
 

@@ -1,5 +1,5 @@
-// The C doors (document 01, 'Around the call'): each returns the refusal or 0, and fills a report of 24 bytes. Where
-// `report` has another length, the refusal is 11, and nothing is changed.
+// The C doors (document 01, 'Around the call'): each returns the refusal or 0, and fills a report of 24
+// bytes. Where `report` has another length, the refusal is 11, and nothing is changed.
 use format_source::format_source_with_shebang;
 use format_tokens::format_tokens_with;
 use pieces::read_pieces;
@@ -19,8 +19,8 @@ ghost use Rattle.doors.specs.Door.{doorRefusal, doorReport, doorSlice};
 
 mod answers;
 
-// Lays out the tokens that `rows` name in `text` into `out`, in style 0 (SameLine) or 1 (Allman). Reports the length,
-// the number of inserted commas and plain.
+// Lays out the tokens that `rows` name in `text` into `out`, in style 0 (SameLine) or 1 (Allman). Reports the
+// length, the number of inserted commas and plain.
 #[no_mangle]
 pub extern "C" fn rl_layout(
     style: u32,
@@ -57,8 +57,8 @@ pub extern "C" fn rl_layout(
     put_report(report, answers::of_layout(laid))
 }
 
-// Lays out the tokens with the default options, after the shebang line of `source` where it has one. Reports as
-// `rl_layout` does.
+// Lays out the tokens with the default options, after the shebang line of `source` where it has one. Reports
+// as `rl_layout` does.
 #[no_mangle]
 pub extern "C" fn rl_layout_source(
     source: &[u8],
@@ -84,7 +84,8 @@ pub extern "C" fn rl_layout_source(
     put_report(report, answers::of_layout(laid))
 }
 
-// Reads `sheet` into `rows`, and their texts into `text`. Reports the number of rows, that of the texts' bytes and 0.
+// Reads `sheet` into `rows`, and their texts into `text`. Reports the number of rows, that of the texts'
+// bytes and 0.
 #[no_mangle]
 pub extern "C" fn rl_read_sheet(
     sheet: &[u8],
@@ -112,7 +113,8 @@ pub extern "C" fn rl_read_sheet(
     put_report(report, answer)
 }
 
-// Reads `text` back, and puts the start and the end of each piece into `pieces`. Reports the number of pieces, 0 and 0.
+// Reads `text` back, and puts the start and the end of each piece into `pieces`. Reports the number of
+// pieces, 0 and 0.
 #[no_mangle]
 pub extern "C" fn rl_read_pieces(text: &[u8], pieces: &mut [u32], report: &mut [u8]) -> u32
     ensures refusal { λ r. ⌜ r

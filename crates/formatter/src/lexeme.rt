@@ -239,8 +239,8 @@ fn named_after(state: u8) -> u8
     0
 }
 
-// Answers whether a record is pending after a token of the kind: `record` arms the record layout, a name leaves it
-// armed, anything else disarms it.
+// Answers whether a record is pending after a token of the kind: `record` arms the record layout, a name
+// leaves it armed, anything else disarms it.
 pub fn record_pending_after(pending: bool, kind: u32) -> bool
     ensures { λ r. ⌜ r ≡ eqb kind Record || (eqb kind Identifier && pending) ⌝ }
 {

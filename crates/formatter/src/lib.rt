@@ -56,8 +56,8 @@ pub enum Broken {
     At(u32),
 }
 
-// Four counts have a type of their own each, so that none is taken for another. This one is as `Before`, around
-// `Broken`.
+// Four counts have a type of their own each, so that none is taken for another. This one is as `Before`,
+// around `Broken`.
 pub struct SignatureDepth(pub Broken);
 
 // How many round and square brackets are open.

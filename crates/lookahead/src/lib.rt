@@ -30,9 +30,9 @@ mod measure;
 // The bytes of as many rows as a layout takes at most.
 const MOST_ROW_BYTES: usize = MOST_ROWS * ROW_BYTES;
 
-// The lookaheads take the part of the rows that starts at the opener, its own leading rows included, and goes to the end.
-// The first four go by the rows' own numbers. Where the rows lie in a text, the tokens that they name there have these
-// sizes (proofs/Sizes.antt: sizes-in-bounds).
+// The lookaheads take the part of the rows that starts at the opener, its own leading rows included, and goes
+// to the end. The first four go by the rows' own numbers. Where the rows lie in a text, the tokens that they
+// name there have these sizes (proofs/Sizes.antt: sizes-in-bounds).
 
 // Whether a signature breaks: more than 3 params, or wider than `fn_sig_width`.
 pub fn should_break_sig(rows: &[u8], fn_sig_width: u32) -> bool
@@ -134,8 +134,8 @@ pub fn block_is_single_line(rows: &[u8]) -> bool
     false
 }
 
-// Whether the next token has a comment among its leading rows. The rows start right after a token's row, so that
-// token's trailing rows come first.
+// Whether the next token has a comment among its leading rows. The rows start right after a token's row, so
+// that token's trailing rows come first.
 pub fn next_has_comment(rows: &[u8]) -> bool
     ensures { λ r. ⌜ ((text : List ℕ) → r ≡ nextHasComment (tokensOf (now (rows .entry)) text)) ⌝ }
 {
@@ -154,8 +154,8 @@ pub fn next_has_comment(rows: &[u8]) -> bool
     false
 }
 
-// Whether the next token is of the kind. The rows start right after a token's row, so that token's trailing rows and the
-// next one's leading rows come first.
+// Whether the next token is of the kind. The rows start right after a token's row, so that token's trailing
+// rows and the next one's leading rows come first.
 pub fn next_is(rows: &[u8], kind: u32) -> bool
     ensures { λ r. ⌜ ((text : List ℕ) → r ≡ nextIs kind (tokensOf (now (rows .entry)) text)) ⌝ }
 {
@@ -203,7 +203,8 @@ pub fn total_width(rows: &[u8]) -> usize
     width
 }
 
-// Whether a signature or a list breaks. What is wider than the limit does, a list only with a comma at its top.
+// Whether a signature or a list breaks. What is wider than the limit does, a list only with a comma at its
+// top.
 fn decide(rows: &[u8], span: Span, limit: usize) -> bool
     requires { ⌜ limit < 2 ^ 32 ⌝ }
     ensures { λ r. ⌜ r ≡ breaksAt span limit (measureRows span start (rowsOf (now (rows .entry)))) ⌝ }
@@ -247,8 +248,8 @@ struct Reached {
     at: usize,
 }
 
-// Measures until the width is above the limit. A measure that stays below it is whole, and goes on from the end of the
-// rows.
+// Measures until the width is above the limit. A measure that stays below it is whole, and goes on from the
+// end of the rows.
 fn until_wide(rows: &[u8], span: Span, limit: usize) -> Reached
     requires { ⌜ limit < 2 ^ 32 ⌝ }
     ensures left { λ r. ⌜
@@ -281,9 +282,9 @@ fn until_wide(rows: &[u8], span: Span, limit: usize) -> Reached
     Reached { m, at }
 }
 
-// Whether a comma stands at the top of a group, from an index on, before the group closes. `own` and `other` are
-// the depths there: of the group's own kinds, and of the others. Its own kinds are tested first: a hostile list
-// nests them.
+// Whether a comma stands at the top of a group, from an index on, before the group closes. `own` and `other`
+// are the depths there: of the group's own kinds, and of the others. Its own kinds are tested first: a
+// hostile list nests them.
 fn comma_ahead(
     rows: &[u8],
     from: usize,
@@ -338,8 +339,8 @@ fn token_kind(row: Row) -> u32
     row.kind
 }
 
-// Answers how many rows a scan needs at least: one for each level that is open, since a token closes one at most, and
-// one where none is. With fewer left, the scan's answer is no.
+// Answers how many rows a scan needs at least: one for each level that is open, since a token closes one at
+// most, and one where none is. With fewer left, the scan's answer is no.
 fn least_rows(depth: usize) -> usize
     ensures { λ r. ⌜ r ≡ leastRows depth ⌝ }
 {
@@ -395,7 +396,8 @@ fn opens_paren(rows: &[u8]) -> bool
     false
 }
 
-// Whether a row that is no token's is trivia of a token: a leading row, or a trailing row that follows a token's row.
+// Whether a row that is no token's is trivia of a token: a leading row, or a trailing row that follows a
+// token's row.
 fn is_trivia(what: u32, follows: bool) -> bool
     ensures { λ r. ⌜ r ≡ isTrivia what follows ⌝ }
 {

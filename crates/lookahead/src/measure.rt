@@ -20,7 +20,8 @@ pub enum Span {
     Bracket,
 }
 
-// The running numbers of a measure: how many parens and brackets are open, the commas at the top, and the width.
+// The running numbers of a measure: how many parens and brackets are open, the commas at the top, and the
+// width.
 pub struct Measure {
     pub parens: usize,
     pub brackets: usize,
@@ -40,8 +41,8 @@ impl Measure {
         }
     }
 
-    // Whether the measure stops before a token of this kind: the closer that matches, or Eof. A signature does not
-    // look at brackets; no kind from Comma on stops a measure.
+    // Whether the measure stops before a token of this kind: the closer that matches, or Eof. A signature
+    // does not look at brackets; no kind from Comma on stops a measure.
     pub fn stops(self, span: Span, kind: u32) -> bool
         ensures { λ r. ⌜ r ≡ stopsAt span (self .parens) (self .brackets) kind ⌝ }
     {
@@ -55,8 +56,8 @@ impl Measure {
         }
     }
 
-    // Counts a token of this kind and of `size` bytes. Kinds from Comma on change no depth, and those before it count no
-    // comma.
+    // Counts a token of this kind and of `size` bytes. Kinds from Comma on change no depth, and those before
+    // it count no comma.
     pub fn counts(self, span: Span, kind: u32, size: usize) -> Measure
         requires { ⌜ Room self size ⌝ }
         ensures { λ r. ⌜ measureOf r ≡ counts span (measureOf self) kind size ⌝ }

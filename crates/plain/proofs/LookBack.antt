@@ -14,7 +14,7 @@ use Rattle.shared.proofs.Logic.{split}
 use Rattle.rows.specs.Kinds.{Eof, LeftBrace, Comma, Record, Dot}
 use Rattle.rows.specs.Row.{Row, number, rowAt}
 use Rattle.rows.specs.Token.{bytesOf}
-use Rattle.definition.specs.Plain.{operatorByte, endsOperator, beginsDigit, tightBefore, tightBehind}
+use Rattle.definition.specs.Plain.{operatorByte, endsOperator, beginsDigit, tightBefore, tightAfter}
 use Rattle.plain.specs.Scan.{Facts, unseen, mute, factsAfter, meets, meetsAfter}
 use Rattle.plain.specs.LookBack.{factsFrom, factsAt, Near}
 use Rattle.plain.proofs.Bytes.{digit-first, operator-last, part-slice}
@@ -120,5 +120,5 @@ module _ (j : ℕ) (w : List ℕ) (k : ℕ) (n : length w ≡ 0 → ⊥) {x : Bo
       pub after-tight : z ≡ true → true ≡ meetsAfter j w k
       after-tight u = rw (sym dotted ∙ f, sym ends ∙ t, sym ez ∙ u)
 
-      pub after-loose : z ≡ false → {a : Bool} → a ≡ tightBehind k → a ≡ meetsAfter j w k
+      pub after-loose : z ≡ false → {a : Bool} → a ≡ tightAfter k → a ≡ meetsAfter j w k
       after-loose u ea = ea ∙ rw (sym dotted ∙ f, sym ends ∙ t, sym ez ∙ u)

@@ -17,7 +17,7 @@ use Rattle.rows.proofs.Sound.{first-sound, rest-good}
 use Rattle.lookahead.proofs.Tokens.{no-trailing}
 use Rattle.lookahead.specs.Scan.{trails}
 use Rattle.lookahead.specs.Measure.{nextIs}
-use Rattle.definition.specs.Plain.{isMute, hasItsLexeme, readsWhole, endsOperator, beginsOperator, beginsDigit, tightBefore, tightBehind, clause₂, clause₃, clause₄, clause₅, clause₆, clause₇, plain}
+use Rattle.definition.specs.Plain.{isMute, hasItsLexeme, readsWhole, endsOperator, beginsOperator, beginsDigit, tightBefore, tightAfter, clause₂, clause₃, clause₄, clause₅, clause₆, clause₇, plain}
 use Rattle.definition.proofs.PlainScan
 use Rattle.definition.proofs.PlainScan.{see, plainFrom, plain-scan}
 use Rattle.plain.specs.LookBack.{NoBadRow}
@@ -59,9 +59,9 @@ clause₄-is : (q : PlainScan.Seen) (opened : Bool) (t : Token) → clause₄ (q
 clause₄-is q opened t = go (q .last)
   where
     go : (last : Option Token) → clause₄ last t
-        ≡ mute (t .kind) || not (ofLast (λ u. endsOperator (u .lexeme)) last && (beginsOperator (t .lexeme) && (ofLast (λ u. tightBefore (u .kind)) last || tightBehind (t .kind))))
+        ≡ mute (t .kind) || not (ofLast (λ u. endsOperator (u .lexeme)) last && (beginsOperator (t .lexeme) && (ofLast (λ u. tightBefore (u .kind)) last || tightAfter (t .kind))))
     go none = refl
-    go (some u) = rw (meets (endsOperator (u .lexeme)) (beginsOperator (t .lexeme)) (tightBefore (u .kind) || tightBehind (t .kind)))
+    go (some u) = rw (meets (endsOperator (u .lexeme)) (beginsOperator (t .lexeme)) (tightBefore (u .kind) || tightAfter (t .kind)))
 
 clause₅-is : (q : PlainScan.Seen) (t : Token) → clause₅ (q .last) t ≡ mute (t .kind) || not (eqb (t .kind) Dot && ofLast (λ u. beginsDigit (u .lexeme)) (q .last))
 clause₅-is q t = go (q .last)

@@ -10,7 +10,7 @@ use Rattle.shared.specs.Bytes.{sameBytes}
 use Rattle.shared.proofs.Logic.{split, impossible}
 use Rattle.shared.proofs.Below.{agree-below}
 use Rattle.rows.specs.Kinds.{Eof, Newline, LeftBrace, RightBrace, Comma, Dot, DotDot, ColonColon, Hash, Bang, BangHash, Minus, Else}
-use Rattle.definition.specs.Plain.{readsWhole, beginsOperator, tightBefore, tightBehind}
+use Rattle.definition.specs.Plain.{readsWhole, beginsOperator, tightBefore, tightAfter}
 use Rattle.plain.specs.Scan.{Facts, mute, forbids, meets, fits, isWordByte, runOf, bracketOf}
 use Rattle.plain.proofs.Runs.{words-whole, words-begin}
 use Rattle.plain.proofs.Fixed.{itself, itself-bracket, bracket-begins, dot-begins, above-free}
@@ -67,7 +67,7 @@ module _ (q : Facts) (k : ℕ) (w : List ℕ) where
     pub fits-operator : beginsOperator w ≡ true → {x : Bool} → x ≡ meets q k → not x ≡ fits q k w
     fits-operator b m =
         rw (m, not-mute k (omega arith), not-brace LeftBrace (omega arith), not-brace RightBrace (omega arith), i, b)
-        (both (eqb k Dot) (q .digit) (q .operator) (q .tight || tightBehind k))
+        (both (eqb k Dot) (q .digit) (q .operator) (q .tight || tightAfter k))
       where
         both : (d g o x : Bool) → not (d && g || o && x) ≡ not (cond d g false) && not (o && x)
         both true true o x = refl

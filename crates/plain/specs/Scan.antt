@@ -14,7 +14,7 @@ use Rattle.rows.specs.Token.{bytesOf}
 use Rattle.pieces.specs.Class.{class, isWord}
 use Rattle.pieces.specs.Sets.{all}
 use Rattle.definition.specs.Plain.{hasItsLexeme, readsWhole, beginsOperator, endsOperator, beginsDigit}
-use Rattle.definition.specs.Plain.{tightBefore, tightBehind}
+use Rattle.definition.specs.Plain.{tightBefore, tightAfter}
 
 -- ---- what the clauses ask of the tokens before a token
 
@@ -51,7 +51,7 @@ forbids q k =
 
 -- Clause 4: two operator bytes would meet at kinds where they may not.
 abbrev pub collides : Facts → ℕ → List ℕ → Bool
-collides q k w = q .operator && (beginsOperator w && (q .tight || tightBehind k))
+collides q k w = q .operator && (beginsOperator w && (q .tight || tightAfter k))
 
 -- The token may come next.
 abbrev pub fits : Facts → ℕ → List ℕ → Bool
@@ -59,11 +59,11 @@ fits q k w = mute k || (not (forbids q k) && ((hasItsLexeme k w && readsWhole w)
 
 -- What the code asks by clauses 4 and 5 where w begins with an operator byte.
 abbrev pub meets : Facts → ℕ → Bool
-meets q k = (eqb k Dot && q .digit) || (q .operator && (q .tight || tightBehind k))
+meets q k = (eqb k Dot && q .digit) || (q .operator && (q .tight || tightAfter k))
 
 -- The same, where the last token but Newline and Eof is of the kind j and the lexeme v.
 abbrev pub meetsAfter : ℕ → List ℕ → ℕ → Bool
-meetsAfter j v k = (eqb k Dot && beginsDigit v) || (endsOperator v && (tightBefore j || tightBehind k))
+meetsAfter j v k = (eqb k Dot && beginsDigit v) || (endsOperator v && (tightBefore j || tightAfter k))
 
 -- ---- the facts after a token of the kind k and the lexeme w
 

@@ -22,7 +22,7 @@ ghost use lib.Dec.{eqb};
 ghost use lib.ListN.{length};
 ghost use Rattle.shared.specs.Bytes.{digit};
 ghost use Rattle.rows.specs.Kinds.{Comma, Dot, Else};
-ghost use Rattle.definition.specs.Plain.{tightBefore, tightBehind};
+ghost use Rattle.definition.specs.Plain.{tightBefore, tightAfter};
 ghost use Rattle.plain.specs.Scan.{forbids, meets, meetsAfter};
 ghost use Rattle.plain.specs.LookBack.{factsAt, fitsAt, Near};
 
@@ -199,7 +199,7 @@ fn meets_after(near: u32, before: &[u8], kind: u32) -> bool
     if tight_before(near) {
         return true;
     }
-    tight_behind(kind)
+    tight_after(kind)
 }
 
 // Whether the kind is Dot, and `first`, the first byte of the lexeme before it, is a digit.
@@ -229,8 +229,8 @@ fn tight_before(kind: u32) -> bool
 }
 
 // Whether the kind is one that may not follow an operator byte directly.
-fn tight_behind(kind: u32) -> bool
-    ensures { λ r. ⌜ r ≡ tightBehind kind ⌝ }
+fn tight_after(kind: u32) -> bool
+    ensures { λ r. ⌜ r ≡ tightAfter kind ⌝ }
 {
     match kind {
         kinds::COLON => true,

@@ -12,8 +12,8 @@ fn main() {
     replay(&mut sheet, &mut rows, &mut text);
 }
 
-// Replays case after case. A proved loop has to end, and nothing says that the input does: so it takes so many cases at
-// most.
+// Replays case after case. A proved loop has to end, and nothing says that the input does: so it takes so
+// many cases at most.
 fn replay(sheet: &mut [u8], rows: &mut [u8], text: &mut [u8]) {
     let mut left: usize = 65536;
     while 0 < left {
@@ -24,8 +24,8 @@ fn replay(sheet: &mut [u8], rows: &mut [u8], text: &mut [u8]) {
     }
 }
 
-// A case is a line with three numbers of five digits, how many bytes the rows, the text and the sheet have, and then
-// the sheet with a line feed. Reads one case, and returns whether a whole case was there.
+// A case is a line with three numbers of five digits, how many bytes the rows, the text and the sheet have,
+// and then the sheet with a line feed. Reads one case, and returns whether a whole case was there.
 fn replay_case(sheet: &mut [u8], rows: &mut [u8], text: &mut [u8]) -> bool {
     let mut space = [0u8; 18];
     let head: &mut [u8] = &mut space;
@@ -87,8 +87,8 @@ fn digit(b: u8) -> usize
     ((b - b'0') % 10) as usize
 }
 
-// Reads a sheet and writes the answer and the slices. The slices are filled before the call, so that what is unchanged
-// can be told from what is zeroed.
+// Reads a sheet and writes the answer and the slices. The slices are filled before the call, so that what is
+// unchanged can be told from what is zeroed.
 fn replay_sheet(sheet: &[u8], rows: &mut [u8], text: &mut [u8]) {
     fill(rows);
     fill(text);

@@ -13,8 +13,8 @@ ghost use Rattle.rows.specs.Token.{bytesOf};
 ghost use Rattle.sink.specs.Sink.{Writes};
 ghost use Rattle.row_writers.specs.Comment.{commentHead, leadTail, trailHead, trailTail};
 
-// Writes a leading comment, of which `row` names the bytes in `text`: its marks, a space, its bytes and a line feed. Answers
-// the length after it.
+// Writes a leading comment, of which `row` names the bytes in `text`: its marks, a space, its bytes and a
+// line feed. Answers the length after it.
 pub fn write_lead(out: &mut [u8], len: usize, text: &[u8], row: Row) -> usize
     requires { ⌜ Inside (now text) (rowOf row) ⌝ }
     requires { ⌜ row .kind < BlankLine ⌝ }

@@ -38,8 +38,8 @@ pub fn smaller(a: usize, b: usize) -> usize
     b
 }
 
-// Writes the four bytes of `x` into `bytes` from index `at`, the lowest first. It has no loop, so that the compiler makes
-// one store of it.
+// Writes the four bytes of `x` into `bytes` from index `at`, the lowest first. It has no loop, so that the
+// compiler makes one store of it.
 pub fn put_u32(bytes: &mut [u8], at: usize, x: u32)
     requires { ⌜ at + 4 ≤ length (now bytes) ⌝ }
     ensures { λ r. ⌜ now (bytes .exit) ≡ sets (now (bytes .entry)) at (littleEndian 4 x) ⌝ }

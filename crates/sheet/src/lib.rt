@@ -92,8 +92,8 @@ fn clear(rows: &mut [u8], text: &mut [u8])
 
 // What reading a line answers.
 pub enum Step {
-    // The line's row and text were stored: the next line starts at index `next` of the sheet, and the texts so
-    // far end at index `end`.
+    // The line's row and text were stored: the next line starts at index `next` of the sheet, and the texts
+    // so far end at index `end`.
     Row { next: usize, end: usize },
     // The line breaks its form.
     Bad,
@@ -101,8 +101,8 @@ pub enum Step {
     Full,
 }
 
-// Reads the line at index `at` of `sheet`. Its row goes into `rows` after `n` rows, and its text into `text` after
-// `len` bytes.
+// Reads the line at index `at` of `sheet`. Its row goes into `rows` after `n` rows, and its text into `text`
+// after `len` bytes.
 fn read_line(
     sheet: &[u8],
     at: usize,

@@ -41,8 +41,8 @@ pub fn head_at(sheet: &[u8], at: usize) -> Head
 
 // What reading a line's text answers.
 pub enum Text {
-    // The line ends with a line feed right before index `next` of the sheet, and the texts so far end at `end`,
-    // which is past the slice where they do not fit.
+    // The line ends with a line feed right before index `next` of the sheet, and the texts so far end at
+    // `end`, which is past the slice where they do not fit.
     End { next: usize, end: usize },
     // The text breaks its form.
     Bad,
@@ -138,7 +138,8 @@ fn is_second(first: u8, b: u8) -> bool
     false
 }
 
-// Returns the byte that a backslash and the byte at index `i` make, and 0 where no backslash may stand before it.
+// Returns the byte that a backslash and the byte at index `i` make, and 0 where no backslash may stand before
+// it.
 fn escape_at(sheet: &[u8], i: usize) -> u8
     ensures { λ r. ⌜ EscapeAt (now (sheet .entry)) i r ⌝ }
 {

@@ -9,8 +9,8 @@ ghost use lib.ListN.{length};
 ghost use Rattle.rows.specs.Row.{rowSize};
 ghost use Rattle.sheet.specs.Row.{rowFits, withRow};
 
-// Stores a row in `rows` after the `n` rows that stand there, and returns true; where it does not fit, leaves `rows`
-// as it is and returns false.
+// Stores a row in `rows` after the `n` rows that stand there, and returns true; where it does not fit, leaves
+// `rows` as it is and returns false.
 pub fn store(rows: &mut [u8], n: usize, what: u8, kind: u8, start: usize, end: usize) -> bool
     requires { ⌜ (start ≤ end) × (rowSize * n ≤ length (now rows)) ⌝ }
     ensures fits { λ r. ⌜ r ≡ rowFits (length (now (rows .entry))) n end ⌝ }

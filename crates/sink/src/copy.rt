@@ -10,7 +10,8 @@ const FOUR: usize = 4;
 
 const EIGHT: usize = 8;
 
-// Copies `size` bytes of `text`, two or more, from `from` on to `out` from `to` on, without a loop where they are few.
+// Copies `size` bytes of `text`, two or more, from `from` on to `out` from `to` on, without a loop where they
+// are few.
 pub fn copy(out: &mut [u8], to: usize, text: &[u8], from: usize, size: usize)
     requires { ⌜ 2 ≤ size ⌝ }
     requires { ⌜ from + size ≤ length (now text) ⌝ }

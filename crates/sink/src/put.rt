@@ -104,8 +104,8 @@ pub fn put_tail(out: &mut [u8], at: usize, tail: Tail)
     }
 }
 
-// Puts a space or none, and the bytes of `text` from `start` to `end`, of which there is one at least. Answers the length
-// after them.
+// Puts a space or none, and the bytes of `text` from `start` to `end`, of which there is one at least.
+// Answers the length after them.
 pub fn put_token(
     out: &mut [u8],
     len: usize,

@@ -1,6 +1,6 @@
-// Writers into the lent output, on plain numbers. Each takes the length of the text so far, and answers the length after
-// it has written. Each has one room test for all that it writes. Where that does not fit, nothing is written, and the
-// answer is one past the output's end.
+// Writers into the lent output, on plain numbers. Each takes the length of the text so far, and answers the
+// length after it has written. Each has one room test for all that it writes. Where that does not fit,
+// nothing is written, and the answer is one past the output's end.
 use crate::copy::copy_bytes;
 use crate::put::put_comma;
 use crate::put::put_else;
@@ -28,9 +28,7 @@ pub enum Tail {
     Braces,
 }
 
-// Writes a gap, the bytes of `text` from `start` to `end`, and a tail. It is called at two places, and is not small, so
-// that it is compiled by itself: the formatter's methods that call it are then small enough to be compiled into their
-// callers.
+// Writes a gap, the bytes of `text` from `start` to `end`, and a tail.
 pub fn write_token(
     out: &mut [u8],
     len: usize,

@@ -1,16 +1,17 @@
-// The rule in the form that the layout goes by: how many spaces stand between two tokens, by sets of kinds that are
-// held as the bits of a number.
+// The rule in the form that the layout goes by: how many spaces stand between two tokens, by sets of kinds
+// that are held as the bits of a number.
 use rows::kinds;
 ghost use mathlib.Core.Path.{_≡_};
 ghost use Prim.Native.Nat.{_≤_};
 ghost use Rattle.rows.specs.Kinds.{Other};
 ghost use Rattle.spaces.specs.Between.{looseKinds, looseAfter, bit, spaces};
 
-// All kinds but LeftParen, LeftBracket, Dot, DotDot, ColonColon, Hash, Bang, BangHash: after those no space stands.
+// All kinds but LeftParen, LeftBracket, Dot, DotDot, ColonColon, Hash, Bang, BangHash: after those no space
+// stands.
 const SPACE_AFTER: u64 = 0x7_fffc_0faf;
 
-// All kinds but RightParen, RightBracket, Dot, DotDot, ColonColon, Comma, Colon, Semicolon, Question: before those no
-// space stands.
+// All kinds but RightParen, RightBracket, Dot, DotDot, ColonColon, Comma, Colon, Semicolon, Question: before
+// those no space stands.
 const SPACE_BEFORE: u64 = 0x7_ffff_805f;
 
 // SPACE_AFTER without LeftBrace.
@@ -24,8 +25,8 @@ const BEFORE_LEFT_BRACKET: u64 = 0x4_3fbc_0f0f;
 
 const MINUS: u64 = 0x4_0000;
 
-// Answers the kinds after which a token of the kind `kind` may stand with a space. Where the last `-` is unary, Minus is
-// none of them.
+// Answers the kinds after which a token of the kind `kind` may stand with a space. Where the last `-` is
+// unary, Minus is none of them.
 pub fn loose_after(kind: u32, unary: bool) -> u64
     ensures { λ r. ⌜ r ≡ looseAfter kind unary ⌝ }
 {
@@ -47,8 +48,8 @@ fn loose_kinds(kind: u32) -> u64
     }
 }
 
-// Answers how many spaces stand between tokens of the kinds `prev` and `kind`, none or one. `loose` are the kinds after
-// which there may be one.
+// Answers how many spaces stand between tokens of the kinds `prev` and `kind`, none or one. `loose` are the
+// kinds after which there may be one.
 pub fn spaces_between(loose: u64, prev: u32, kind: u32) -> usize
     requires { ⌜ (prev ≤ Other) × (kind ≤ Other) ⌝ }
     ensures { λ r. ⌜ r ≡ spaces loose prev kind ⌝ }

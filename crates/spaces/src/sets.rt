@@ -5,7 +5,8 @@ ghost use Rattle.spaces.specs.Sets.{member};
 // After these no space stands: LeftParen, LeftBracket, Dot, DotDot, ColonColon, Hash, Bang, BangHash.
 pub const NO_SPACE_AFTER: u64 = 0x3_f050;
 
-// Before these no space stands: RightParen, RightBracket, Dot, DotDot, ColonColon, Comma, Colon, Semicolon, Question.
+// Before these no space stands: RightParen, RightBracket, Dot, DotDot, ColonColon, Comma, Colon, Semicolon,
+// Question.
 pub const NO_SPACE_BEFORE: u64 = 0x7fa0;
 
 // A `(` after one of these is a call's: Identifier, RightParen, RightBracket.

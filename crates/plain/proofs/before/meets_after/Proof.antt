@@ -69,8 +69,8 @@ returns-3 c =
     after-tight (e .args .near) (e .args .before .now) (e .args .kind) (some e) (d .dots-digit .ensures) (o .before .before .if1 .left)
     (o .is-operator .ensures) (not-false _ (b .before .if2 .left)) (b .tight-before .ensures) (c .if3 .taken)
 
-tight-behind-requires : tie.Need-tight-behind-requires
-tight-behind-requires c κs = search needs
+tight-after-requires : tie.Need-tight-after-requires
+tight-after-requires c κs = search needs
 
 returns-4 : tie.Need-returns-4
 returns-4 c =
@@ -79,7 +79,7 @@ returns-4 c =
     let d = first o in
     let e = entry d in
     after-loose (e .args .near) (e .args .before .now) (e .args .kind) (some e) (d .dots-digit .ensures) (o .before .before .if1 .left)
-    (o .is-operator .ensures) (not-false _ (b .before .if2 .left)) (b .tight-before .ensures) (c .before .if3 .left) (c .tight-behind .ensures)
+    (o .is-operator .ensures) (not-false _ (b .before .if2 .left)) (b .tight-before .ensures) (c .before .if3 .left) (c .tight-after .ensures)
 
 pub meets-after-spec : {M : Type 1} → statement M
 meets-after-spec =
@@ -94,5 +94,5 @@ meets-after-spec =
     returns-2
     tight-before-requires
     returns-3
-    tight-behind-requires
+    tight-after-requires
     returns-4)

@@ -1,7 +1,7 @@
--- `plain::before::tight_behind` meets its contract. Assumes nothing.
+-- `plain::before::tight_after` meets its contract. Assumes nothing.
 use borrow.Author.Tests.{ne-eqb}
-use Rattle.plain.proofs.before.tight_behind.Statement.{statement}
-use Rattle.plain.proofs.before.tight_behind.Tie as tie
+use Rattle.plain.proofs.before.tight_after.Statement.{statement}
+use Rattle.plain.proofs.before.tight_after.Tie as tie
 
 returns : tie.Need-returns
 returns c = rw (c .match .keys1)
@@ -18,5 +18,5 @@ returns-4 c = rw (c .match .keys4)
 returns-5 : tie.Need-returns-5
 returns-5 c = rw (ne-eqb _ _ (c .match .rest .0 .0 .0 .1), ne-eqb _ _ (c .match .rest .0 .0 .1), ne-eqb _ _ (c .match .rest .0 .1), ne-eqb _ _ (c .match .rest .1))
 
-pub tight-behind-spec : {M : Type 1} → statement M
-tight-behind-spec = tie.close (tie.spec returns returns-2 returns-3 returns-4 returns-5)
+pub tight-after-spec : {M : Type 1} → statement M
+tight-after-spec = tie.close (tie.spec returns returns-2 returns-3 returns-4 returns-5)
