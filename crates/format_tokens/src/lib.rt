@@ -3,6 +3,7 @@ use formatter::BraceStyle;
 use formatter::Formatted;
 use formatter::Formatter;
 use formatter::Options;
+use formatter::STACK_SIZE;
 use plain::plain_mark;
 use rows::Checked;
 use rows::MOST_ROWS;
@@ -172,7 +173,7 @@ fn lay_out(options: Options, rows: &[u8], text: &[u8], out: &mut [u8], plain: bo
     ensures { λ r. ⌜ LaidOut (now (rows .entry)) (now (text .entry)) (optionsOf options) (now (out .entry)) r
         (now (out .exit)) ⌝ }
 {
-    let mut stack = [0; 64];
+    let mut stack = [0; STACK_SIZE];
     let formatter = Formatter::new();
     formatter.format(options, out, &mut stack, rows, text, plain)
 }

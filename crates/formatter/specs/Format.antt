@@ -11,7 +11,7 @@ use Rattle.shared.specs.Report.{deep}
 use Rattle.rows.specs.Kinds.{Leading, TokenRow, Trailing}
 use Rattle.rows.specs.Options
 use Rattle.rows.specs.Row.{Row, rowSize, rowAt, rowsOf}
-use Rattle.rows.specs.Checks.{Before, atStart, badFrom, mostRowBytes}
+use Rattle.rows.specs.Checks.{Before, badFrom, GoodRows, mostRowBytes}
 use Rattle.rows.specs.Token.{tokensOf}
 use Rattle.definition.specs.Formatter.{new}
 use Rattle.definition.specs.Act.{State}
@@ -31,7 +31,7 @@ use Rattle.formatter.specs.Token.{Ahead, stackSize}
 pub record CheckedRows (rows text : List ℕ) : Type 0 where
   pub whole : length rows % rowSize ≡ 0
   pub few : length rows ≤ mostRowBytes
-  pub good : badFrom (length text) atStart 0 (rowsOf rows) ≡ none
+  pub good : GoodRows rows (length text)
 
 -- The rest of checked rows, whatever stood before it.
 pub record CheckedFrom (size : ℕ) (rs : List Row) : Type 0 where

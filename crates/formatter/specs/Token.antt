@@ -37,10 +37,6 @@ depthOf (At d) = d
 abbrev pub IndentBounds : Options → Formatter → Type 0
 IndentBounds options f = (options .«indent_width» ≤ mostIndentWidth) × (f .indent ≤ most32)
 
--- An indent within these bounds has fewer spaces: 16 times 2^32.
-abbrev pub pastIndent : ℕ
-pastIndent = 68719476736
-
 -- How many numbers the broken-group stack holds.
 abbrev pub stackSize : ℕ
 stackSize = 64

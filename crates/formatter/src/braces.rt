@@ -34,11 +34,11 @@ ghost use Rattle.definition.specs.Arms.{inOneLineBlock, closeInline};
 ghost use Rattle.lookahead.specs.Measure.{nextIs};
 ghost use Rattle.definition.specs.Arms.{closeRecord, closeBlock, rightBraceArm};
 ghost use Rattle.definition.specs.Arms.{emptyRecord, openBlock, leftBraceArm};
-ghost use Rattle.sink.specs.Sink.{Writes};
+ghost use Rattle.sink.specs.Sink.{Writes, pastGap};
 ghost use Rattle.formatter.specs.CodeState.{fieldsOf, optionsOf};
 ghost use Rattle.formatter.specs.Does.{Puts};
 ghost use Rattle.formatter.specs.Token.{IndentBounds, CanWrite, Ready, InRows, Ahead, AtToken};
-ghost use Rattle.formatter.specs.Token.{bareToken, lexemeOf, pastIndent};
+ghost use Rattle.formatter.specs.Token.{bareToken, lexemeOf};
 ghost use Rattle.formatter.specs.Parts.{inlineCloseSize, opensBlock, recordEntered};
 ghost use Rattle.formatter.specs.Parts.{openOneLine, oneLineBytes, braced};
 
@@ -84,7 +84,7 @@ impl Formatter {
     // only `{}` is tight.
     fn inline_close_gap(self, options: Options) -> usize
         requires { ⌜ IndentBounds options self ⌝ }
-        ensures { λ r. ⌜ (r ≡ inlineCloseSize (optionsOf options) (fieldsOf self)) × (r < pastIndent) ⌝ }
+        ensures { λ r. ⌜ (r ≡ inlineCloseSize (optionsOf options) (fieldsOf self)) × (r < pastGap) ⌝ }
     {
         if self.at_line_start {
             return self.indent_size(options);

@@ -3,6 +3,7 @@ use crate::Ends;
 use crate::Formatted;
 use crate::Formatter;
 use crate::Options;
+use crate::STACK_SIZE;
 use crate::TokenAt;
 use crate::token::Place;
 use crate::token::ends_of;
@@ -149,7 +150,7 @@ impl Formatter {
         ensures { λ r. ⌜ ((s text : List ℕ) → AtToken token (now (rows .entry)) text
             (λ t ts. r ≡ overflows (optionsOf options) t ts (fieldsOn self s))) ⌝ }
     {
-        if self.break_count < 64 {
+        if self.break_count < STACK_SIZE {
             return false;
         }
         let kind = token.kind;

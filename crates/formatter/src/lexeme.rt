@@ -21,11 +21,12 @@ ghost use Rattle.rows.specs.Kinds.{Else, Record, Identifier, Other};
 ghost use Rattle.definition.specs.Emit.{isSome, trackFnState, trackMinus, pushLexeme};
 ghost use Rattle.definition.specs.Arms.{elseArm, elseOnNewLine, otherArm};
 ghost use Rattle.sink.specs.Tail.{tailBytes};
+ghost use Rattle.sink.specs.Sink.{pastGap};
 ghost use Rattle.formatter.specs.CodeState.{Locals, codeState, fieldsOf, formatterOf};
 ghost use Rattle.formatter.specs.CodeState.{optionsOf, signatureOf};
 ghost use Rattle.formatter.specs.Does.{Does, Puts};
 ghost use Rattle.formatter.specs.Token.{CanWriteLexeme, Ready, InRows, Kept};
-ghost use Rattle.formatter.specs.Token.{IndentBounds, AtToken, bareToken, lexemeOf, kindOf, pastIndent};
+ghost use Rattle.formatter.specs.Token.{IndentBounds, AtToken, bareToken, lexemeOf, kindOf};
 ghost use Rattle.formatter.specs.Parts.{gapSize, indentOrSpaceSize, emitTail};
 
 impl Formatter {
@@ -154,7 +155,7 @@ impl Formatter {
     pub fn gap_before(self, options: Options, kind: u32) -> usize
         requires { ⌜ IndentBounds options self ⌝ }
         requires { ⌜ (kindOf (self .prev .kind) ≤ Other) × (kind ≤ Other) ⌝ }
-        ensures { λ r. ⌜ (r ≡ gapSize (optionsOf options) kind (fieldsOf self)) × (r < pastIndent) ⌝ }
+        ensures { λ r. ⌜ (r ≡ gapSize (optionsOf options) kind (fieldsOf self)) × (r < pastGap) ⌝ }
     {
         if self.at_line_start {
             return self.indent_size(options);
@@ -170,7 +171,7 @@ impl Formatter {
     // How many spaces `push_trivia_gap` of format.rs writes: the indent at a line's start, else one.
     pub fn indent_or_space(self, options: Options) -> usize
         requires { ⌜ IndentBounds options self ⌝ }
-        ensures { λ r. ⌜ (r ≡ indentOrSpaceSize (optionsOf options) (fieldsOf self)) × (r < pastIndent) ⌝ }
+        ensures { λ r. ⌜ (r ≡ indentOrSpaceSize (optionsOf options) (fieldsOf self)) × (r < pastGap) ⌝ }
     {
         if self.at_line_start {
             return self.indent_size(options);

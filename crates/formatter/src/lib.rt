@@ -8,8 +8,9 @@ ghost use lib.ListN.{length};
 ghost use Rattle.shared.specs.Numbers.{most32};
 ghost use Rattle.definition.specs.Emit.{isAt};
 ghost use Rattle.definition.specs.Arms.{atRecordFields, inBrokenList, inOneLineBlock};
+ghost use Rattle.sink.specs.Sink.{pastGap};
 ghost use Rattle.formatter.specs.CodeState.{prevOf, fieldsOf, fieldsOn};
-ghost use Rattle.formatter.specs.Token.{IndentBounds, StackRoom, pastIndent, stackSize};
+ghost use Rattle.formatter.specs.Token.{IndentBounds, StackRoom, stackSize};
 ghost use Rattle.formatter.specs.Format.{Fresh};
 
 pub mod braces;
@@ -128,6 +129,9 @@ pub struct Formatter {
     pub prev: Before,
 }
 
+// How many numbers the broken-group stack holds.
+pub const STACK_SIZE: usize = 64;
+
 // How a layout ends.
 pub enum Formatted {
     // All tokens are laid out: the text has this many bytes, and this many commas in it were inserted.
@@ -214,7 +218,7 @@ impl Formatter {
     // How many spaces an indent has: the length of `indent_str` in format.rs.
     pub fn indent_size(self, options: Options) -> usize
         requires { ⌜ IndentBounds options self ⌝ }
-        ensures { λ r. ⌜ (r ≡ options .«indent_width» * self .indent) × (r < pastIndent) ⌝ }
+        ensures { λ r. ⌜ (r ≡ options .«indent_width» * self .indent) × (r < pastGap) ⌝ }
     {
         (options.indent_width as usize) * self.indent
     }

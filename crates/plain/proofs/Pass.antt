@@ -13,13 +13,13 @@ use Rattle.rows.specs.Kinds.{TokenRow, Else, Other}
 use Rattle.rows.specs.Row.{Row, rowAt, rowsOf}
 use Rattle.rows.specs.Token.{bytesOf, tokensOf}
 use Rattle.rows.specs.Bounds.{Inside}
-use Rattle.rows.specs.Checks.{atStart, after, badFrom}
+use Rattle.rows.specs.Checks.{atStart, after, badFrom, GoodRows}
 use Rattle.rows.proofs.Sound.{misnamed, token-bad}
 use Rattle.lookahead.proofs.Rests.{here, over}
 use Rattle.definition.specs.Emit.{isSome}
 use Rattle.definition.specs.Plain.{plain}
 use Rattle.plain.specs.Scan.{fits, factsAfter, plainRows}
-use Rattle.plain.specs.LookBack.{factsFrom, factsAt, markFrom, fitsRow, isNamed, goodAndFits, NoBadRow, Ahead, Unfit, FitsTo}
+use Rattle.plain.specs.LookBack.{factsFrom, factsAt, markFrom, fitsRow, isNamed, goodAndFits, Ahead, Unfit, FitsTo}
 use Rattle.plain.proofs.Bytes.{part-slice}
 use Rattle.plain.proofs.LookBack.{facts-next}
 use Rattle.plain.proofs.Rows.{pass}
@@ -38,12 +38,12 @@ and-yes false = refl
 
 -- what the answer b tells
 abbrev Told : List ℕ → List ℕ → Bool → Type 0
-Told rows text b = (b ≡ true → NoBadRow rows text) × (NoBadRow rows text → b ≡ plain (tokensOf rows text))
+Told rows text b = (b ≡ true → GoodRows rows (length text)) × (GoodRows rows (length text) → b ≡ plain (tokensOf rows text))
 
 pub start-ahead : (rows text : List ℕ) → Ahead rows text 0
 start-ahead rows text = record { within = omega arith; before = atStart; count = 0; no-lead = refl; left = refl }
 
-start-mark : (rows text : List ℕ) → NoBadRow rows text → plain (tokensOf rows text) ≡ markFrom rows text 0
+start-mark : (rows text : List ℕ) → GoodRows rows (length text) → plain (tokensOf rows text) ≡ markFrom rows text 0
 unfolding factsFrom
 start-mark rows text e = pass rows text e
 
@@ -60,7 +60,7 @@ module _ {rows text : List ℕ} {at : ℕ} (α : Ahead rows text at) where
   unfolding plainRows
   mark-over h = rw (over rows at (α .within) h)
 
-  good-over : length rows - at < 16 → NoBadRow rows text
+  good-over : length rows - at < 16 → GoodRows rows (length text)
   unfolding badFrom
   good-over h = α .left ∙ rw (over rows at (α .within) h, α .no-lead)
 
@@ -173,7 +173,7 @@ module _ {rows text : List ℕ} {from at : ℕ} (π : Passed rows text from at) 
 -- ---- the loop of `plain_mark`
 
 module _ {rows text : List ℕ} {at : ℕ} (φ : FitsTo rows text 0 at) where
-  marked : NoBadRow rows text → plain (tokensOf rows text) ≡ markFrom rows text at
+  marked : GoodRows rows (length text) → plain (tokensOf rows text) ≡ markFrom rows text at
   marked good = start-mark rows text good ∙ φ .mark
 
   pub plain-over : length rows - at < 16 → Told rows text true
@@ -181,7 +181,7 @@ module _ {rows text : List ℕ} {at : ℕ} (φ : FitsTo rows text 0 at) where
 
   module _ (h : 16 ≤ length rows - at) {x : Bool} (f : x ≡ goodAndFits rows text at) where
     -- a token that fits, but is not named well, is bad
-    unfit : x ≡ false → NoBadRow rows text → markFrom rows text at ≡ false
+    unfit : x ≡ false → GoodRows rows (length text) → markFrom rows text at ≡ false
     unfit z g =
         split (fitsRow rows text at (rowAt rows at))
         (λ t.

@@ -12,7 +12,7 @@ use Rattle.shared.proofs.Logic.{split, impossible, impossible′, or-cases}
 use Rattle.rows.specs.Kinds.{Leading, TokenRow, Trailing, Eof, Newline, LeftBrace, RightBrace, Dot}
 use Rattle.rows.specs.Row.{Row, rowsOf}
 use Rattle.rows.specs.Token.{Trivia, Token, triviaOf, tokenOf, tokensFrom, tokensOf}
-use Rattle.rows.specs.Checks.{Before, atStart, after, badFrom}
+use Rattle.rows.specs.Checks.{Before, atStart, after, badFrom, GoodRows}
 use Rattle.rows.proofs.Sound.{first-sound, rest-good}
 use Rattle.lookahead.proofs.Tokens.{no-trailing}
 use Rattle.lookahead.specs.Scan.{trails}
@@ -20,7 +20,6 @@ use Rattle.lookahead.specs.Measure.{nextIs}
 use Rattle.definition.specs.Plain.{isMute, hasItsLexeme, readsWhole, endsOperator, beginsOperator, beginsDigit, tightBefore, tightAfter, clause₂, clause₃, clause₄, clause₅, clause₆, clause₇, plain}
 use Rattle.definition.proofs.PlainScan
 use Rattle.definition.proofs.PlainScan.{see, plainFrom, plain-scan}
-use Rattle.plain.specs.LookBack.{NoBadRow}
 use Rattle.plain.specs.Scan.{Facts, unseen, mute, forbids, collides, fits, factsAfter, plainRows}
 
 -- ---- what the code keeps of what has been seen
@@ -151,7 +150,7 @@ rows-plain text q opened b i (r ∷ rs) e =
     rw (h, m) (sym (and-false (not (nextIs RightBrace (tokensFrom text (triviaOf text r ∷ []) rs) && opened)))))
     (λ g. rw (third (length text) b i r rs e f g)))
 
-pub pass : (rows text : List ℕ) → NoBadRow rows text → plain (tokensOf rows text) ≡ plainRows text unseen (rowsOf rows)
+pub pass : (rows text : List ℕ) → GoodRows rows (length text) → plain (tokensOf rows text) ≡ plainRows text unseen (rowsOf rows)
 unfolding tokensOf
 pass rows text e =
     let ts = tokensFrom text [] (rowsOf rows) in

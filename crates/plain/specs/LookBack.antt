@@ -3,7 +3,6 @@
 -- Assumes nothing.
 use mathlib.Core.Bool.{Bool, false, not, _&&_, _||_}
 use mathlib.Core.List.{List}
-use mathlib.Core.Option.{none}
 use mathlib.Core.Path.{_≡_}
 use Prim.Native.Nat.{ℕ, zero, suc, _+_, _-_, _/_, _≤_}
 use lib.Dec.{eqb, ltb}
@@ -45,10 +44,6 @@ isNamed text r = not (ltb Other (r .kind) || ltb (r .end) (r .start) || ltb (len
 -- The row at an index is a token's row that is not bad, and fits.
 abbrev pub goodAndFits : List ℕ → List ℕ → ℕ → Bool
 goodAndFits rows text at = isNamed text (rowAt rows at) && fitsRow rows text at (rowAt rows at)
-
--- No row is bad (refusal 3).
-abbrev pub NoBadRow : List ℕ → List ℕ → Type 0
-NoBadRow rows text = badFrom (length text) atStart 0 (rowsOf rows) ≡ none
 
 -- ---- what the code goes by
 

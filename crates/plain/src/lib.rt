@@ -11,10 +11,11 @@ ghost use mathlib.Core.Bool.{true};
 ghost use mathlib.Core.Path.{_≡_};
 ghost use Prim.Native.Nat.{_+_, _≤_};
 ghost use lib.ListN.{length};
+ghost use Rattle.rows.specs.Checks.{GoodRows};
 ghost use Rattle.rows.specs.Row.{rowSize};
 ghost use Rattle.rows.specs.Token.{tokensOf};
 ghost use Rattle.definition.specs.Plain.{plain};
-ghost use Rattle.plain.specs.LookBack.{NoBadRow, goodAndFits, Ahead, Unfit, FitsTo};
+ghost use Rattle.plain.specs.LookBack.{goodAndFits, Ahead, Unfit, FitsTo};
 
 mod before;
 mod lexeme;
@@ -22,8 +23,8 @@ mod words;
 
 // Whether the tokens that the rows name in the text are plain. Where a row is bad the answer is no.
 pub fn plain_mark(rows: &[u8], text: &[u8]) -> bool
-    ensures good { λ r. ⌜ (r ≡ true → NoBadRow (now (rows .entry)) (now (text .entry))) ⌝ }
-    ensures mark { λ r. ⌜ (NoBadRow (now (rows .entry)) (now (text .entry))
+    ensures good { λ r. ⌜ (r ≡ true → GoodRows (now (rows .entry)) (length (now (text .entry)))) ⌝ }
+    ensures mark { λ r. ⌜ (GoodRows (now (rows .entry)) (length (now (text .entry)))
         → r ≡ plain (tokensOf (now (rows .entry)) (now (text .entry)))) ⌝ }
 {
     let mut at = fit_end(rows, text, 0);

@@ -17,7 +17,7 @@ use Rattle.sheet.specs.Line.{Line, bad, row, textOf, lineOf}
 use Rattle.sheet.specs.Row.{rowFits, withRow}
 use Rattle.sheet.specs.Answer.{fits}
 use Rattle.sheet.specs.Steps.{lineAt, Headed, HeadAt, Texted, TextAt, Stored, Unfit}
-use Rattle.sheet.proofs.Writing.{wrote-sets, within-fits, past-over}
+use Rattle.sink.proofs.Sink.{wrote-sets, within-fits, past-over}
 
 -- what the answers of `head_at` and `read_text` tell
 module _ (said : Line) (sheet : List ℕ) (at : ℕ) (r : Head) (σ : HeadAt said sheet at r) where

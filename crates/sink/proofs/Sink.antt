@@ -8,8 +8,9 @@ use native.Mathlib.Numerals.{add-one}
 use native.Mathlib.Nat.{add-zero}
 use borrow.Author.Tests.{leb-true, leb-false}
 use lib.Dec.{leb}
-use lib.ListN.{length, take, drop, set, getD, replicate, length-append, length-take, length-set, length-replicate, replicate-append-replicate}
-use lib.Seq.{slice, length-slice, drop-drop, take-suc-set, drop-set-lt, take-suc, drop-append-le, slice-empty}
+use lib.ListN.{length, take, drop, set, getD, replicate, length-append, length-take, length-set, length-replicate, replicate-append-replicate, take-append-drop}
+use lib.Seq.{sets, sets-eq, slice, length-slice, drop-drop, take-suc-set, drop-set-lt, take-suc, drop-append-le, slice-empty}
+use Rattle.shared.proofs.Logic.{split}
 use Rattle.sink.specs.Sink.{Writes}
 
 pub later : (i j : ℕ) (k l : List ℕ) → i ≤ j → drop i k ≡ drop i l → drop j k ≡ drop j l
@@ -82,6 +83,26 @@ one-more {n = n} i b w h =
 -- where they do not fit, the length is past the end
 pub past : {l xs : List ℕ} {n : ℕ} → length l < n + length xs → Writes l n xs l (length l + 1)
 past h = record { size = refl; fits = λ g. absurd (omega arith); over = λ g. omega arith }
+
+-- ---- bytes that have been written
+
+joined : (l m xs : List ℕ) (n r : ℕ) → r ≡ n + length xs → take r m ≡ take n l ++ xs → drop r m ≡ drop r l →
+    m ≡ take n l ++ xs ++ drop (n + length xs) l
+joined l m xs n r f t d = sym (take-append-drop r m) ∙ rw (t, d, f)
+
+module _ {l : List ℕ} {n : ℕ} {xs m : List ℕ} {r : ℕ} (w : Writes l n xs m r) where
+  -- where they fit, they are stored from n on
+  pub wrote-sets : n + length xs ≤ length l → m ≡ sets l n xs
+  wrote-sets h = joined l m xs n r (w .fits h .far) (w .fits h .text) (w .fits h .rest) ∙ sym (sets-eq xs l n h)
+
+  -- they fit exactly if the length is not past the end
+  pub within-fits : r ≤ length l → n + length xs ≤ length l
+  within-fits h = split (leb (n + length xs) (length l)) (λ e. leb-true _ _ e) (λ e. let o = w .over (leb-false _ _ e) in absurd (omega arith))
+
+  pub past-over : length l < r → length l < n + length xs
+  past-over h =
+      split (leb (n + length xs) (length l)) (λ e. let o = w .fits (leb-true _ _ e) .far in let i : n + length xs ≤ length l = leb-true _ _ e in absurd (omega arith))
+      (λ e. leb-false _ _ e)
 
 -- ---- a loop's turn: one byte more
 
