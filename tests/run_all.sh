@@ -18,7 +18,7 @@ whole=${1:-}
 case $whole in '' | whole) ;; *) sed -n '2,14s/^# \{0,1\}//p' "${BASH_SOURCE[0]}"; exit 2 ;; esac
 logs=target/run_all
 rm -rf "$logs" && mkdir -p "$logs"
-usual=harness/beside/$(sed -n 's/.*join("\(.*format\.rs\)").*/\1/p' harness/beside/build.rs)
+usual=harness/beside/$(sed -n 's|.*join("\(.*/format\.rs\)").*|\1|p' harness/beside/build.rs)
 rows=() failed=0
 
 # Prints why a part cannot be run: the first of its needs that is not there.
