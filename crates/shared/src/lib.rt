@@ -1,5 +1,7 @@
 // What all calls have in common: the table of refusals, the report, the memory that a refusal leaves, and
 // arithmetic that several crates use.
+#![tactic(auto)]
+
 ghost use Rattle.std.specs.Prelude.{◌≡◌};
 ghost use Rattle.shared.specs.Report.{zeroed};
 
