@@ -17,7 +17,7 @@ use rows::{Checked, MOST_ROWS, ROW_BYTES, check_unless_known};
 use shared::clear_bytes;
 
 // What a layout answers.
-#[derive(Drop)]
+#[derive(Clone, Copy)]
 pub enum Answer {
     // The text is laid out. Its length, the number of inserted commas, and the plain mark.
     Text {
@@ -78,7 +78,7 @@ pub fn format_tokens_with(
 }
 
 // What `check_and_mark` answers.
-#[derive(Drop)]
+#[derive(Clone, Copy)]
 pub enum Marked {
     // Refusal 1, as `Answer` has it.
     BadOption { position: usize },

@@ -16,7 +16,7 @@ use rows::{ROW_BYTES, kinds, row_at};
 
 // A place among fast braces: the index of the next row, the length of the text, the last token's kind, and
 // the state's `inline_depth` and `just_closed_inline`.
-#[derive(Drop)]
+#[derive(Clone, Copy)]
 pub struct FastBraces {
     pub at: usize,
     pub len: usize,

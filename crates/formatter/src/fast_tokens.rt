@@ -43,7 +43,7 @@ const ALL: u64 = 0x7_ffff_ffff;
 
 // The fields of the state that fast tokens change, but for the last kind; `changing`, the kinds that change
 // one of them; and `loose`, the kinds after which a space stands.
-#[derive(Drop)]
+#[derive(Clone, Copy)]
 pub struct FastState {
     pub fn_state: u8,
     pub group_depth: usize,
@@ -55,7 +55,7 @@ pub struct FastState {
 
 // Where fast tokens end: the index of the first row after them, the last token's kind, the length of the
 // text, and the fields that they changed.
-#[derive(Drop)]
+#[derive(Clone, Copy)]
 pub struct FastTokens {
     pub at: usize,
     pub prev: u32,

@@ -21,7 +21,7 @@ pub mod token;
 pub mod trivia;
 
 // The last token's kind: `prev`, an Option in format.rs.
-#[derive(Drop)]
+#[derive(Clone, Copy)]
 pub enum Prev {
     // No token has come yet.
     Nothing,
@@ -30,13 +30,13 @@ pub enum Prev {
 }
 
 // A field of an enum type cannot be assigned by itself, so each enum stands in a struct.
-#[derive(Drop)]
+#[derive(Clone, Copy)]
 pub struct Before {
     pub kind: Prev,
 }
 
 // Which Newline is swallowed: `suppress_newline_at`, an Option in format.rs.
-#[derive(Drop)]
+#[derive(Clone, Copy)]
 pub enum NewlineAt {
     // No Newline is swallowed.
     Never,
@@ -45,13 +45,13 @@ pub enum NewlineAt {
 }
 
 // As `Before`, around `NewlineAt`.
-#[derive(Drop)]
+#[derive(Clone, Copy)]
 pub struct Suppressed {
     pub at: NewlineAt,
 }
 
 // Where in a broken signature the walk is: `sig_break_depth`, an Option in format.rs.
-#[derive(Drop)]
+#[derive(Clone, Copy)]
 pub enum Broken {
     // The walk is in no broken signature.
     Nowhere,
@@ -61,23 +61,23 @@ pub enum Broken {
 
 // Four counts have a type of their own each, so that none is taken for another. This one is as `Before`,
 // around `Broken`.
-#[derive(Drop)]
+#[derive(Clone, Copy)]
 pub struct SignatureDepth(pub Broken);
 
 // How many round and square brackets are open.
-#[derive(Drop)]
+#[derive(Clone, Copy)]
 pub struct GroupDepth(pub usize);
 
 // How many braces of one-line blocks are open.
-#[derive(Drop)]
+#[derive(Clone, Copy)]
 pub struct InlineDepth(pub usize);
 
 // How many braces are open in a record.
-#[derive(Drop)]
+#[derive(Clone, Copy)]
 pub struct RecordDepth(pub usize);
 
 // Where the `{` of a block over several lines stands.
-#[derive(Drop)]
+#[derive(Clone, Copy)]
 pub enum BraceStyle {
     // It ends the line that opens the block.
     SameLine,
@@ -86,7 +86,7 @@ pub enum BraceStyle {
 }
 
 // The four options of a layout.
-#[derive(Drop)]
+#[derive(Clone, Copy)]
 pub struct Options {
     pub brace_style: BraceStyle,
     pub indent_width: u32,
@@ -96,7 +96,7 @@ pub struct Options {
 
 // A token: its kind, its index among the tokens, where its leading rows start, where its own row starts, and
 // where its trailing rows end.
-#[derive(Drop)]
+#[derive(Clone, Copy)]
 pub struct TokenAt {
     pub kind: u32,
     pub index: u32,
@@ -109,7 +109,7 @@ pub struct TokenAt {
 // `}`, or the rows' end where they were not looked for: from there on no list breaks, and no block is one
 // line. `width` is the width of all tokens together, as a list's width counts them; it is 0 where it was not
 // measured.
-#[derive(Drop)]
+#[derive(Clone, Copy)]
 pub struct Ends {
     pub commas: usize,
     pub braces: usize,
@@ -120,7 +120,7 @@ pub struct Ends {
 // output's end once something did not fit; `break_count`, the number of entries on the broken-group stack;
 // and `commas`, the number of inserted commas. The order of the fields was found by counting instructions
 // (docs/BENCHMARKS.md); the order of format.rs takes a tenth more.
-#[derive(Drop)]
+#[derive(Clone, Copy)]
 pub struct Formatter {
     pub fn_state: u8,
     pub inline_depth: InlineDepth,
@@ -144,7 +144,7 @@ pub struct Formatter {
 pub const STACK_SIZE: usize = 64;
 
 // How a layout ends.
-#[derive(Drop)]
+#[derive(Clone, Copy)]
 pub enum Formatted {
     // All tokens are laid out: the text has this many bytes, and this many commas in it were inserted.
     Finished { length: usize, commas: usize },

@@ -9,7 +9,7 @@ use lookahead::{after_last, total_width};
 use rows::{ROW_BYTES, kinds, number_at, row_at};
 
 // Where a token's rows start, and its index among the tokens.
-#[derive(Drop)]
+#[derive(Clone, Copy)]
 pub struct Place {
     pub at: usize,
     pub index: u32,

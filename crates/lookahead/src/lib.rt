@@ -38,7 +38,7 @@ pub fn should_break_list(rows: &[u8], list_width: u32) -> bool
 }
 
 // A signature's number of params, and its width.
-#[derive(Drop)]
+#[derive(Clone, Copy)]
 pub struct SigMeasure {
     pub params: usize,
     pub width: usize,
@@ -68,7 +68,7 @@ pub fn sig_measure(rows: &[u8]) -> SigMeasure
 }
 
 // A group's number of top-level commas, and its width.
-#[derive(Drop)]
+#[derive(Clone, Copy)]
 pub struct GroupMeasure {
     pub commas: usize,
     pub width: usize,
@@ -234,7 +234,7 @@ fn decide(rows: &[u8], span: Span, limit: usize) -> bool
 }
 
 // A measure, and the index from which it goes on.
-#[derive(Drop)]
+#[derive(Clone, Copy)]
 struct Reached {
     m: Measure,
     at: usize,

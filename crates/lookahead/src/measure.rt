@@ -8,7 +8,7 @@ ghost use Rattle.lookahead.specs.Scan.{breaks, breaks_signature, breaks_list};
 use rows::{Row, kinds};
 
 // What is measured.
-#[derive(Drop)]
+#[derive(Clone, Copy)]
 pub enum Span {
     // The parameters of a signature.
     Signature,
@@ -20,7 +20,7 @@ pub enum Span {
 
 // The running numbers of a measure: how many parens and brackets are open, the commas at the top, and the
 // width.
-#[derive(Drop)]
+#[derive(Clone, Copy)]
 pub struct Measure {
     pub parens: usize,
     pub brackets: usize,

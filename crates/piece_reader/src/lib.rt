@@ -23,7 +23,7 @@ pub fn count_pieces(text: &[u8]) -> Answer
 }
 
 // A text, and the index of the byte from which it is read on.
-#[derive(Drop)]
+#[derive(Clone, Copy)]
 pub struct PieceReader<'a> {
     pub text: &'a [u8],
     pub at: usize,

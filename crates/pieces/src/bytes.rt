@@ -3,7 +3,7 @@ ghost use Rattle.std.specs.Prelude.{◌≡◌};
 ghost use Rattle.pieces.specs.Class.{class, is_word, is_operator};
 ghost use Rattle.pieces.specs.Sets.{member, is_gap, is_single, is_quote};
 
-#[derive(Drop)]
+#[derive(Clone, Copy)]
 pub enum Class {
     // A line feed or a space.
     Gap,

@@ -13,7 +13,7 @@ pub mod eights;
 pub mod runs;
 
 // What reading a text answers.
-#[derive(Drop)]
+#[derive(Clone, Copy)]
 pub enum Answer {
     // The text was read, and has so many pieces.
     Pieces { count: usize },
@@ -53,7 +53,7 @@ pub fn read_pieces(text: &[u8], pieces: &mut [u32]) -> Answer
 }
 
 // What stands in a text from an index on.
-#[derive(Drop)]
+#[derive(Clone, Copy)]
 pub enum Next {
     // A piece, from the index of its first byte to the index after its last.
     Piece { start: usize, end: usize },

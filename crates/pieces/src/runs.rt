@@ -11,7 +11,7 @@ use crate::{bytes, eights};
 use shared::classes::is_digit;
 
 // Where a quote ends.
-#[derive(Drop)]
+#[derive(Clone, Copy)]
 pub enum QuoteEnd {
     // The index after the quote that closes it.
     At { end: usize },

@@ -12,7 +12,7 @@ use pieces::read_pieces;
 
 // What the layout answers, and what reading its text answers. After a refusal nothing is read, and `read`
 // tells of 0 pieces.
-#[derive(Drop)]
+#[derive(Clone, Copy)]
 pub struct ReadBack {
     pub laid: format_tokens::Answer,
     pub read: pieces::Answer,

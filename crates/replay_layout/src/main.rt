@@ -54,7 +54,7 @@ fn replay_case(input: &[u8], at: usize, rows: &mut [u8], out: &mut [u8]) -> usiz
 // The call; the options; the sizes of the output and of the rows, in bytes; how many rows stand in the
 // case, which are repeated until their size is reached; the sizes of the text and of the source; and where
 // the rows stand.
-#[derive(Drop)]
+#[derive(Clone, Copy)]
 struct Head {
     call: u8,
     style: u32,
@@ -95,7 +95,7 @@ fn head_at(input: &[u8], call: u8, at: usize) -> Head {
 }
 
 // A number, and where the next one stands.
-#[derive(Drop)]
+#[derive(Clone, Copy)]
 struct Number {
     value: u32,
     next: usize,

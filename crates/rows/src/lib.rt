@@ -9,7 +9,7 @@ pub mod kinds;
 pub mod options;
 
 // What the checks of the options and the rows answer.
-#[derive(Drop)]
+#[derive(Clone, Copy)]
 pub enum Checked {
     // Nothing is refused.
     Good,
@@ -82,7 +82,7 @@ pub const ROW_BYTES: usize = 16;
 pub const MOST_ROWS: usize = 65535;
 
 // What a row is (`kinds::LEADING` ..), its kind, and where its bytes start and end in the text.
-#[derive(Drop)]
+#[derive(Clone, Copy)]
 pub struct Row {
     pub what: u32,
     pub kind: u32,

@@ -8,7 +8,7 @@ use crate::numbers::put_u64;
 pub const REPORT_BYTES: usize = 24;
 
 // The refusal, or 0, and the report's three numbers.
-#[derive(Drop)]
+#[derive(Clone, Copy)]
 pub struct Report {
     pub refusal: u32,
     pub first: u64,

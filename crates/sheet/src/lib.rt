@@ -12,7 +12,7 @@ mod line;
 mod row;
 
 // What reading a sheet answers. Lines are numbered from 1, after the names line.
-#[derive(Drop)]
+#[derive(Clone, Copy)]
 pub enum Answer {
     // The whole sheet was read: how many rows it has, and how many bytes their texts have.
     Read { rows: usize, text_bytes: usize },
@@ -91,7 +91,7 @@ fn clear(rows: &mut [u8], text: &mut [u8])
 }
 
 // What reading a line answers.
-#[derive(Drop)]
+#[derive(Clone, Copy)]
 pub enum Step {
     // The line's row and text were stored: the next line starts at index `next` of the sheet, and the texts
     // so far end at index `end`.

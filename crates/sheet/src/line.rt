@@ -7,7 +7,7 @@ use shared::classes::is_digit;
 use sink::write::write_byte;
 
 // What reading a line's head answers.
-#[derive(Drop)]
+#[derive(Clone, Copy)]
 pub enum Head {
     // The row's what and kind; the line's text starts at index `from` of the sheet.
     Row { what: u8, kind: u8, from: usize },
@@ -40,7 +40,7 @@ pub fn head_at(sheet: &[u8], at: usize) -> Head
 }
 
 // What reading a line's text answers.
-#[derive(Drop)]
+#[derive(Clone, Copy)]
 pub enum Text {
     // The line ends with a line feed right before index `next` of the sheet, and the texts so far end at
     // `end`, which is past the slice where they do not fit.

@@ -11,7 +11,7 @@ use crate::copy::copy_bytes;
 use crate::put::{put_comma, put_else, put_feed, put_gap, put_part, put_tail};
 
 // What stands after a lexeme.
-#[derive(Drop)]
+#[derive(Clone, Copy)]
 pub enum Tail {
     // No byte.
     Nothing,

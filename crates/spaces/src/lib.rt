@@ -10,7 +10,7 @@ pub mod between;
 mod sets;
 
 // What `needs_space` answers.
-#[derive(Drop)]
+#[derive(Clone, Copy)]
 pub enum Space {
     // Both kinds are known, and `needed` tells whether a space stands between them.
     Needed { needed: bool },
