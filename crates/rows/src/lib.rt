@@ -1,4 +1,6 @@
 // The rows that the lexer sends, and the checks that come before a layout (specification, 'Rows').
+#![tactic(auto)]
+
 ghost use Rattle.std.specs.Prelude.{true, ◌≡◌, ◌+◌, ◌≤◌, ◌<◌, length};
 ghost use Rattle.rows.specs.Row.{row_size, number, row_at};
 ghost use Rattle.rows.specs.Checks.{may_trail, misnamed, bad_row, after, GoodRows};
