@@ -1,5 +1,7 @@
 // The space between two tokens (specification, 'Spaces'): `needs_space` and `is_value_token` of format.rs,
 // and the form of the same rule that the layout goes by (`between`).
+#![tactic(auto)]
+
 ghost use Rattle.std.specs.Prelude.{◌≡◌};
 ghost use Rattle.spaces.specs.Space.{needs_space, is_value_kind};
 ghost use Rattle.spaces.specs.Answer.{reported, space_report};
