@@ -1,5 +1,5 @@
 -- Rows without a token of a kind: no list breaks without a comma, no block closes without a `}`; `after_last` finds where they begin. Assumes nothing.
-use mathlib.Core.Bool.{Bool, true, false, not, ◌&&◌, ◌||◌, and-false}
+use mathlib.Core.Bool.{Bool, true, false, cond, not, ◌&&◌, ◌||◌, and-false}
 use mathlib.Core.List.{List, [], ◌∷◌}
 use mathlib.Core.Path.{◌≡◌, refl, sym, ap, ◌∙◌}
 use Prim.Native.Nat.{ℕ, zero, suc, ◌+◌, ◌-◌, ◌*◌, ◌/◌, ◌%◌, ◌≤◌, ◌<◌}
@@ -8,7 +8,7 @@ use lib.Dec.{eqb}
 use lib.ListN.{length, drop}
 use borrow.Author.Tests.{eqb-true, eq-eqb, ne_eqb, not-true}
 use Rattle.shared.proofs.Logic.{split, and_left, and_right}
-use Rattle.rows.specs.Kinds.{Leading, TokenRow, Eof, RightBrace, Comma}
+use Rattle.rows.specs.Kinds.{Leading, TokenRow, Eof, LeftBrace, RightBrace, Comma}
 use Rattle.rows.specs.Row.{Row, row_at, rows_of}
 use Rattle.rows.specs.Token.{Trivia, token_of, tokens_from, tokens_of}
 use Rattle.rows.proofs.RowList.{part_cons, part_none, rows_drop}
@@ -57,7 +57,7 @@ never_closes depth (r ∷ rs) e =
     split (eqb r.what Leading) (λ l. rw l)
     (λ l. split (eqb r.what TokenRow)
     (λ t. rw (l, t) (split (trails rs || ends_line r.kind) (λ s. rw s)
-    (λ s. rw (s, first-lacks RightBrace r rs e t) (never_closes _ rs (rest-lacks RightBrace r rs e)))))
+    (λ s. rw (s, first-lacks RightBrace r rs e t) (never_closes (cond (eqb r.kind LeftBrace) (depth + 1) depth) rs (rest-lacks RightBrace r rs e)))))
     (λ t. rw (l, t) (never_closes depth rs (rest-lacks RightBrace r rs e))))
 
 pub no_brace : (rows text : List ℕ) → lacks RightBrace (rows_of rows) ≡ true → block_is_single_line (tokens_of rows text) ≡ false

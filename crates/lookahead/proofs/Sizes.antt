@@ -1,15 +1,15 @@
 -- The measures over sizes: rows that lie in a text have the sizes of the tokens that they name there, and the code's loops measure the sizes of the rows. Assumes nothing.
-use mathlib.Core.Bool.{Bool, true, false, ◌&&◌, ◌||◌, beq, and-true, and-false, and_comm}
-use mathlib.Core.List.{List, [], ◌∷◌}
+use mathlib.Core.Bool.{Bool, true, false, cond, ◌&&◌, ◌||◌, beq, and-true, and-false, and_comm}
+use mathlib.Core.List.{List, [], ◌∷◌, ◌++◌}
 use mathlib.Core.Path.{◌≡◌, refl, sym, ap, ◌∙◌}
 use Prim.Native.Nat.{ℕ, ◌+◌, ◌-◌}
 use native.Mathlib.Omega.{arith}
 use lib.Dec.{eqb}
 use borrow.Author.Tests.{eqb-true, eqb-false, eq-eqb, ne_eqb}
 use Rattle.shared.proofs.Logic.{split}
-use Rattle.rows.specs.Kinds.{TokenRow, Eof, RightParen, RightBracket}
+use Rattle.rows.specs.Kinds.{TokenRow, Leading, Eof, RightParen, RightBracket}
 use Rattle.rows.specs.Row.{Row, rows_of}
-use Rattle.rows.specs.Token.{Trivia, tokens_from, tokens_of}
+use Rattle.rows.specs.Token.{Trivia, trivia_of, tokens_from, tokens_of}
 use Rattle.rows.specs.Bounds.{InBounds}
 use Rattle.rows.proofs.Sound.{bytes-length}
 use Rattle.lookahead.specs.declared.measure.Span.{Span}
@@ -24,8 +24,8 @@ unfolding row_sizes tokens_from InBounds
 sizes_from text l [] β = refl
 sizes_from text l (r ∷ rs) β =
     split (eqb r.what TokenRow)
-    (λ e. rw (e, bytes-length text r β.0) (ap (λ ts. record { kind = r.kind; size = r.end - r.start } ∷ ts) (sizes_from text _ rs β.1)))
-    (λ e. rw e (sizes_from text _ rs β.1))
+    (λ e. rw (e, bytes-length text r β.0) (ap (λ ts. record { kind = r.kind; size = r.end - r.start } ∷ ts) (sizes_from text [] rs β.1)))
+    (λ e. rw e (sizes_from text (cond (eqb r.what Leading) (l ++ (trivia_of text r ∷ [])) l) rs β.1))
 
 module _ (rows text : List ℕ) where
   pub sizes_in_bounds : InBounds text (rows_of rows) → row_sizes (rows_of rows) ≡ sizes (tokens_of rows text)

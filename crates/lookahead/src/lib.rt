@@ -1,4 +1,6 @@
 // The lookaheads of format.rs over rows.
+#![tactic(auto)]
+
 ghost use Rattle.std.specs.Prelude.{List, ◌≡◌, ℕ, ◌^◌, ◌≤◌, ◌<◌, length, drop};
 ghost use Rattle.rows.specs.Row.{rows_of};
 ghost use Rattle.rows.specs.Checks.{most_row_bytes};
