@@ -1,4 +1,6 @@
 // Writers of the bytes that rows name: the lexeme of a token, and comments with their marks (`comments`).
+#![tactic(auto)]
+
 ghost use Rattle.std.specs.Prelude.{◌++◌, ◌+◌, ◌≤◌, length};
 ghost use Rattle.rows.specs.Row.{row_size, row_at};
 ghost use Rattle.rows.specs.Bounds.{Inside};
