@@ -1,5 +1,7 @@
 // The reader of pieces (specification, 'Reading back') in its reference form, and the count of a text's
 // pieces.
+#![tactic(auto)]
+
 ghost use Rattle.std.specs.Prelude.{◌≡◌};
 ghost use Rattle.pieces.specs.Answer.{reported};
 ghost use Rattle.piece_reader.specs.Reader.{found, advanced, count_answer};

@@ -68,10 +68,10 @@ unfolding read
 read_segs end ρ s i = refl
 read_segs (gap {g = []} h r) ρ s i = read_segs r ρ s i
 read_segs {m} (gap {g = b ∷ g} {segs = segs} h r) ρ s i =
-    rw (rests_gap ρ b _ h.0, h.0, read_gaps g (flatten segs) i i (suc i) h.1, read_segs r rests_between i (past (suc i) g))
+    rw (rests_gap ρ b _ h.0, h.0, read_gaps g (flatten segs) i i (suc i) h.1, read_segs {m = between} r rests_between i (past (suc i) g))
 read_segs {m} (then {w = w} {segs = segs} e a r) ρ s i =
     let λ' = lexeme w e in
-    read-lexeme (flatten segs) ρ λ' a s i ∙ rw (read_segs r λ'.rests i (past i w), solid-end λ')
+    read-lexeme (flatten segs) ρ λ' a s i ∙ rw (read_segs {m = inside λ'.end} r λ'.rests i (past i w), solid-end λ')
 
 pub reading_segs : {n : Left} {segs : List Seg} → Separated clear segs n → reading (flatten segs) ≡ spans segs 0
 reading_segs r = read_segs r rests_between 0 0
@@ -89,7 +89,9 @@ unfolding cut numbers
 cut_segs [] pre zs = refl
 cut_segs (blank g ∷ segs) pre zs = rw (← append_assoc pre g (flatten segs), past_append pre g, cut_segs segs (pre ++ g) zs)
 cut_segs (lex w ∷ segs) pre zs =
-    rw (slice_mid pre w (flatten segs), ← append_assoc pre w (flatten segs), past_append pre w, cut_segs segs (pre ++ w) zs)
+    let rest : cut (pre ++ (w ++ flatten segs)) (length (lexemes segs)) (numbers (spans segs (past (length pre) w)) ++ zs) ≡ lexemes segs =
+    rw (← append_assoc pre w (flatten segs), past_append pre w, cut_segs segs (pre ++ w) zs) in
+    rw (slice_mid pre w (flatten segs), rest)
 
 -- the text reads back as exactly its lexemes
 pub reads_back : {n : Left} {segs : List Seg} (zs : List ℕ) → Separated clear segs n → cut (flatten segs) (length (lexemes segs)) (numbers (reading (flatten segs)) ++ zs) ≡ lexemes segs

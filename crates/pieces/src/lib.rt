@@ -1,4 +1,6 @@
 // Reading back (specification, 'Reading back'): a text read into pieces, each with its start and its end.
+#![tactic(auto)]
+
 ghost use Rattle.std.specs.Prelude.{◌≡◌, cond, ◌*◌, ◌≤◌, length};
 ghost use Rattle.pieces.specs.Reading.{read_from};
 ghost use Rattle.pieces.specs.Next.{next};
