@@ -12,8 +12,7 @@ if [ -n "${LIBDOORS:-}" ]; then
         exit 1
     fi
 else
-    mkdir -p target
-    rt staticlib doors > target/staticlib.log || { cat target/staticlib.log; exit 1; }
+    tools/build.sh doors > /dev/null || exit 1
     LIBDOORS=$PWD/target/staticlib/libdoors.a
 fi
 # where the Rust crate over the doors, which the harness depends on, looks for the library

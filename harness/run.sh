@@ -16,7 +16,7 @@ harness/run.sh calls rust|ours INPUT TIMES
 harness/run.sh help           this text
 
 FORMAT_RS names format.rs: crates/rl-tooling/src/format.rs of rl-lang/rl-lang at commit 7f8bdf9ecc.
-LIBDOORS names a libdoors.a; without it `rt staticlib doors` makes one.
+LIBDOORS names a libdoors.a; without it `tools/build.sh doors` makes one.
 END
 }
 n='[1-9][0-9]{0,8}'

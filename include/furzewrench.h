@@ -1,6 +1,6 @@
 /* furzewrench.h: the layout of rl source text, for C99 and C++11 or later. Token rows in, text out.
 
-   The library is libdoors.a, for Linux on x86-64 (`rt staticlib doors`). What each call answers is proved;
+   The library is libdoors.a, for Linux on x86-64 (`tools/build.sh doors`). What each call answers is proved;
    this header is tested, not proved. "Specification" is docs/SPECIFICATION.md, cited by its sections.
 
    Take a text only where its layout reports plain 1. Such a text reads back as the lexemes that went in, with

@@ -1,7 +1,7 @@
 #!/usr/bin/env python3
 """Runs the program `layout` beside the Rust on random token lists, with the default options.
 
-    rt check layout && python3 tests/program_beside_rust.py [LISTS [SEED]]
+    tools/build.sh layout && python3 tests/program_beside_rust.py [LISTS [SEED]]
 
 Texts are compared with those of format.rs, the plain mark with the model of definition_beside_rust.py.
 """

@@ -6,9 +6,8 @@
 #
 # In each clone the library is then built once more at the same path. Where bytes differ, it says in what the
 # libraries differ: members, times, sections, symbols, paths. This tree's library is the one that LIBDOORS
-# names, which has to be of this commit's crates; else it is built. A clone is proved from nothing, which
-# takes many minutes; RT_JOBS says how many crates at a time. Needs rt, git and binutils; it is not part of
-# the gate.
+# names, which has to be of this commit's crates; else it is built. All crates of a clone are checked and built
+# anew, which takes many minutes. Needs rt, git and binutils; it is not part of the gate.
 set -euo pipefail
 export LC_ALL=C
 if [ -n "${LIBDOORS:-}" ]; then LIBDOORS=$(realpath -m "$LIBDOORS"); fi
@@ -39,13 +38,15 @@ fail() {
     exit 1
 }
 
-# From nothing, kept as FOLDER.a; then once more, with the crates as they are proved.
+# Kept as FOLDER.a; then built once more, with the crates as they are proved. rt takes from other checkouts on
+# this machine what they built of the same text, so a comment makes the clone's text its own.
 cloned_library() { # FOLDER
     local built=$1/target/staticlib/libdoors.a
     git clone --quiet . "$1"
+    echo "// $1" >> "$1/crates/shared/src/lib.rt"
     build "$1"
     cp "$built" "$1.a"
-    rm "$built"
+    rm "$built" "$1/crates/doors/out/libdoors.a"
     build "$1"
     same "$1.a" "$built"
 }
@@ -58,7 +59,7 @@ this_library() {
 }
 
 build() { # FOLDER
-    (cd "$1" && rt staticlib doors) > "$work/log" 2>&1 || { cat "$work/log"; fail "no library in $1"; }
+    "$1/tools/build.sh" doors > "$work/log" 2>&1 || { cat "$work/log"; fail "no library in $1"; }
 }
 
 same() { # LIBRARY LIBRARY

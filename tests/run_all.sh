@@ -8,8 +8,8 @@
 # The whole of it needs x86-64, python3, rt, gcc, g++, nm, strings, git, cargo (nothing is fetched), valgrind,
 # and
 #   - format.rs, which FORMAT_RS names unless it is where harness/find_format.sh looks for it;
-#   - the crates proved, by `rt check`: else the part `library` proves them, which takes many minutes;
-#   - the program, target/bin/layout, by `rt check layout`;
+#   - the crates proved, by `rt check`: else the parts `library` and `program` prove them, which takes many
+#     minutes;
 #   - what the gate printed, in a file that GATE_LOG names.
 # What a part prints is kept under target/run_all/.
 if [ -n "${FORMAT_RS:-}" ]; then FORMAT_RS=$(realpath -m "$FORMAT_RS"); fi
@@ -28,7 +28,7 @@ missing() { # NEED..
         x86-64) [ "$(uname -m)" = x86_64 ] || { echo "not on x86-64"; return; } ;;
         library) [ -f "$logs/library.ok" ] || { echo "no static library of the doors"; return; } ;;
         format.rs) harness/find_format.sh > /dev/null 2>&1 || { echo "no format.rs: harness/run.sh help"; return; } ;;
-        program) [ -x target/bin/layout ] || { echo "no target/bin/layout: rt check layout"; return; } ;;
+        program) [ -f "$logs/program.ok" ] || { echo "no program"; return; } ;;
         gate-log) [ -f "${GATE_LOG:-}" ] || { echo "no output of the gate: GATE_LOG names it"; return; } ;;
         whole) [ "$whole" = whole ] || { echo "only by: tests/run_all.sh whole"; return; } ;;
         *) command -v "$need" > /dev/null || { echo "no $need"; return; } ;;
@@ -76,7 +76,7 @@ export PYTHONDONTWRITEBYTECODE=1
 set -o pipefail
 
 echo "What the parts need:"
-for need in x86-64 python3 rt gcc g++ nm strings git cargo valgrind format.rs program gate-log; do
+for need in x86-64 python3 rt gcc g++ nm strings git cargo valgrind format.rs gate-log; do
     why=$(missing "$need")
     echo "  $need: ${why:-there}"
 done
@@ -85,7 +85,8 @@ part lines_to_believe 'python3' python3 tests/lines_to_believe.py
 part check_docs 'python3' python3 tests/check_docs.py
 part check_trust 'python3 rt' python3 tests/check_trust.py
 part gate_table 'python3 gate-log' python3 tests/gate_table.py "${GATE_LOG:-}"
-part library 'x86-64 rt' rt staticlib doors
+part library 'x86-64 rt' tools/build.sh doors
+part program 'x86-64 rt' tools/build.sh layout
 export LIBDOORS=$PWD/target/staticlib/libdoors.a
 part run_doors 'library gcc g++ nm' tests/run_doors.sh
 part run_examples 'library gcc' tests/run_examples.sh

@@ -8,9 +8,7 @@ cd "$(dirname "${BASH_SOURCE[0]}")/.."
 mkdir -p target
 target=$PWD/target
 log=$target/bindings.log
-if [ -z "${LIBDOORS:-}" ]; then
-    rt staticlib doors > target/staticlib.log || { cat target/staticlib.log; exit 1; }
-fi
+if [ -z "${LIBDOORS:-}" ]; then tools/build.sh doors > /dev/null; fi
 folder=$(cd "$(dirname "${LIBDOORS:-target/staticlib/libdoors.a}")" && pwd)
 cd bindings/furzewrench
 unset FURZEWRENCH_LIB_DIR
@@ -43,13 +41,13 @@ in_an_archive() {
     if cargo build --offline --quiet > "$log" 2>&1; then
         fail 'the crate builds where no library is'
     fi
-    grep --quiet 'there is no .*/target/staticlib/libdoors.a and no .*/lib/libdoors.a. Run `rt' "$log" ||
+    grep --quiet 'there is no .*/target/staticlib/libdoors.a and no .*/lib/libdoors.a. Run `tools/build.sh' "$log" ||
         fail 'where no library is, the build does not name its two places'
     cp "$folder/libdoors.a" "$archive/lib"
     quietly cargo test --offline --quiet --lib
 }
 
-says /nowhere 'there is no /nowhere/libdoors.a. Run `rt staticlib doors`'
+says /nowhere 'there is no /nowhere/libdoors.a. Run `tools/build.sh doors`'
 says nowhere 'name the folder by an absolute path'
 if cargo fmt --version > /dev/null 2>&1; then
     quietly cargo fmt --check

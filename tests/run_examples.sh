@@ -7,9 +7,7 @@ set -e
 cd "$(dirname "${BASH_SOURCE[0]}")/.."
 library=${LIBDOORS:-target/staticlib/libdoors.a}
 mkdir -p target/examples
-if [ -z "${LIBDOORS:-}" ]; then
-    rt staticlib doors > target/staticlib.log || { cat target/staticlib.log; exit 1; }
-fi
+if [ -z "${LIBDOORS:-}" ]; then tools/build.sh doors > /dev/null; fi
 count=0 failed=0
 for source in examples/*.c; do
     name=$(basename "$source" .c)

@@ -8,9 +8,7 @@ cd "$(dirname "${BASH_SOURCE[0]}")/.."
 root=$PWD
 work=$root/target/readme
 rm -rf "$work" && mkdir -p "$work/src"
-if [ -z "${LIBDOORS:-}" ]; then
-    rt staticlib doors > target/staticlib.log || { cat target/staticlib.log; exit 1; }
-fi
+if [ -z "${LIBDOORS:-}" ]; then tools/build.sh doors > /dev/null; fi
 library=${LIBDOORS:-$root/target/staticlib/libdoors.a}
 
 # The one block of a language.

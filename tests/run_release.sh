@@ -36,10 +36,7 @@ fail() {
 }
 
 library() {
-    if [ -z "${LIBDOORS:-}" ]; then
-        mkdir -p target
-        rt staticlib doors > target/staticlib.log 2>&1 || { cat target/staticlib.log; exit 1; }
-    fi
+    if [ -z "${LIBDOORS:-}" ]; then tools/build.sh doors > /dev/null; fi
     export LIBDOORS=${LIBDOORS:-$root/target/staticlib/libdoors.a}
 }
 

@@ -6,10 +6,7 @@
 set -e
 cd "$(dirname "${BASH_SOURCE[0]}")/.."
 library=${LIBDOORS:-target/staticlib/libdoors.a}
-if [ -z "${LIBDOORS:-}" ]; then
-    mkdir -p target
-    rt staticlib doors > target/staticlib.log || { cat target/staticlib.log; exit 1; }
-fi
+if [ -z "${LIBDOORS:-}" ]; then tools/build.sh doors > /dev/null; fi
 symbols=$(nm "$library" | awk '{ print $3 }')
 fallen=$(grep '^formatter::' <<< "$symbols" || true)
 if [ -n "$fallen" ]; then

@@ -102,9 +102,7 @@ known_files() { # PATH PLACE
 library() {
     if [ -z "${LIBDOORS:-}" ]; then
         command -v rt > /dev/null || fail "no rt to build the library with, and LIBDOORS names none"
-        mkdir -p target
-        rt staticlib doors > target/staticlib.log 2>&1 \
-            || fail "rt staticlib doors failed, see target/staticlib.log"
+        tools/build.sh doors > /dev/null || fail "tools/build.sh doors failed, see target/doors.log"
     fi
     local built=${LIBDOORS:-target/staticlib/libdoors.a}
     [ -f "$built" ] || fail "there is no library $built"

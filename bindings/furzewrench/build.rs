@@ -35,7 +35,7 @@ fn library_folders() -> Vec<PathBuf> {
 fn nowhere(folders: &[PathBuf]) -> String {
     let places: Vec<_> = folders.iter().map(|folder| folder.join(LIBRARY).display().to_string()).collect();
     format!(
-        "there is no {}. Run `rt staticlib doors` in the repository, which writes \
+        "there is no {}. Run `tools/build.sh doors` in the repository, which writes \
          target/staticlib/libdoors.a, or name the folder that has libdoors.a in {VARIABLE}",
         places.join(" and no ")
     )

@@ -2,8 +2,9 @@
 //!
 //! These are safe calls of the five C doors of the repository's static library, in which every function is
 //! proved to meet its contract. docs/SPECIFICATION.md decides what they answer, and is cited here by its
-//! sections, as: specification, 'Rows'. No call panics or allocates: the caller lends all memory, and each
-//! answer is the complete result or one [`Refusal`] with its place.
+//! sections, as: specification, 'Rows'. No call panics, and none allocates but [`rows_to_bytes`] and
+//! [`rows_from_bytes`]: the caller lends all memory, and each answer is the complete result or one
+//! [`Refusal`] with its place.
 //!
 //! # How to use it
 //!
@@ -18,7 +19,7 @@
 //!
 //! 1. in the folder that the environment variable `FURZEWRENCH_LIB_DIR` names, by an absolute path; where
 //!    that is not set,
-//! 2. in the repository's `target/staticlib`, where `rt staticlib doors` proves the library and writes it;
+//! 2. in the repository's `target/staticlib`, where `tools/build.sh doors` proves the library and writes it;
 //!    and then
 //! 3. in `lib` of a release archive, which has this crate as `rust/furzewrench`.
 //!
@@ -172,7 +173,7 @@ mod rows;
 pub use numbers::{Kind, Style, Trivia, What};
 pub use read_back::{layout_and_read_back, ReadBack};
 pub use refusal::Refusal;
-pub use rows::{bytes_as_rows, rows_as_bytes, Row};
+pub use rows::{bytes_as_rows, rows_as_bytes, rows_from_bytes, rows_to_bytes, Row};
 
 /// How a layout is to look (specification, 'Options'). Each is a number, as the door takes it: one that is
 /// out of bounds is [`Refusal::Option`].

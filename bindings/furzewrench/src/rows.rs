@@ -44,6 +44,18 @@ impl Row {
         Row::new(What::Trailing.number(), trivia.number(), start, end)
     }
 
+    /// The four numbers, little-endian.
+    pub const fn to_bytes(self) -> [u8; Row::BYTES] {
+        let [[a, b, c, d], [e, f, g, h], [i, j, k, l], [m, n, o, p]] = self.0;
+        [a, b, c, d, e, f, g, h, i, j, k, l, m, n, o, p]
+    }
+
+    /// The row that these bytes are.
+    pub const fn from_bytes(bytes: [u8; Row::BYTES]) -> Row {
+        let [a, b, c, d, e, f, g, h, i, j, k, l, m, n, o, p] = bytes;
+        Row([[a, b, c, d], [e, f, g, h], [i, j, k, l], [m, n, o, p]])
+    }
+
     /// The number of a [`What`].
     pub const fn what(self) -> u32 {
         u32::from_le_bytes(self.0[0])
@@ -101,6 +113,17 @@ pub const fn bytes_as_rows(bytes: &[u8]) -> (&[Row], &[u8]) {
     (unsafe { std::slice::from_raw_parts(whole.as_ptr().cast(), number) }, rest)
 }
 
+/// A copy of the bytes of rows. [`rows_as_bytes`] copies nothing.
+pub fn rows_to_bytes(rows: &[Row]) -> Vec<u8> {
+    rows_as_bytes(rows).to_vec()
+}
+
+/// A copy of the rows that these bytes are. Up to 15 bytes after the last whole row are passed over.
+/// [`bytes_as_rows`] copies nothing.
+pub fn rows_from_bytes(bytes: &[u8]) -> Vec<Row> {
+    bytes_as_rows(bytes).0.to_vec()
+}
+
 #[cfg(test)]
 mod tests {
     use super::*;
@@ -113,6 +136,17 @@ mod tests {
         assert_eq!(bytes_as_rows(bytes), (&rows[..], &[][..]));
         let [row] = rows;
         assert_eq!((row.what(), row.kind(), row.start(), row.end()), (1, 34, 0x0403_0201, u32::MAX));
+        assert_eq!(row.to_bytes(), [1, 0, 0, 0, 34, 0, 0, 0, 1, 2, 3, 4, 255, 255, 255, 255]);
+        assert_eq!(Row::from_bytes(row.to_bytes()), row);
+    }
+
+    #[test]
+    fn a_rest_is_passed_over() {
+        let rows = [Row::token(Kind::Fn, 3, 5), Row::trailing(Trivia::DocComment, 5, 9)];
+        let mut bytes = rows_to_bytes(&rows);
+        assert_eq!(bytes.len(), 32);
+        bytes.extend([7; 15]);
+        assert_eq!(rows_from_bytes(&bytes), rows);
     }
 
     #[test]

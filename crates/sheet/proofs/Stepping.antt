@@ -9,30 +9,15 @@ use lib.Dec.{leb}
 use lib.ListN.{length}
 use borrow.Author.Tests.{le-leb, lt-leb}
 use Rattle.rows.specs.Row.{row_size}
-use Rattle.sheet.specs.declared.line.Head.{Head}
-use Rattle.sheet.specs.declared.line.Head.TheVariants as head
-use Rattle.sheet.specs.declared.line.Text.{Text}
-use Rattle.sheet.specs.declared.line.Text.TheVariants as text-read
 use Rattle.sheet.specs.Line.{Line, bad, row, text_of, line_of}
 use Rattle.sheet.specs.Row.{row_fits, with_row}
 use Rattle.sheet.specs.Answer.{fits}
-use Rattle.sheet.specs.Steps.{line_at, Headed, HeadAt, Texted, TextAt, Stored, Unfit}
+use Rattle.sheet.specs.Steps.{line_at, Headed, Texted, Stored, Unfit}
 use Rattle.sink.proofs.Sink.{wrote_sets, within-fits, past_over}
 
--- what the answers of `head_at` and `read_text` tell
-module _ (said : Line) (sheet : List ℕ) (at : ℕ) (r : Head) (σ : HeadAt said sheet at r) where
-  pub headed : {what kind from : ℕ} → r ≡ head.Row what kind from → Headed said sheet at what kind from
-  headed e = rw e at σ
-
-  pub head-bad : r ≡ head.Bad → said ≡ bad
-  head-bad e = rw e at σ
-
-module _ (sheet : List ℕ) (from : ℕ) (text : List ℕ) (len : ℕ) (r : Text) (text' : List ℕ) (σ : TextAt sheet from text len r text') where
-  pub texted : {next end : ℕ} → r ≡ text-read.End next end → Texted sheet from text len next end text'
-  texted e = rw e at σ
-
-  pub text-bad : {said : Line} {at what kind : ℕ} → Headed said sheet at what kind from → r ≡ text-read.Bad → said ≡ bad
-  text-bad η e = let w : text_of false (line_at sheet from) ≡ none = rw e at σ in η.says ∙ rw w
+-- what `Bad` of `read_text` tells
+pub text-bad : {said : Line} {at what kind : ℕ} (sheet : List ℕ) (from : ℕ) → text_of false (line_at sheet from) ≡ none → Headed said sheet at what kind from → said ≡ bad
+text-bad sheet from w η = η.says ∙ rw w
 
 module _ {sheet : List ℕ} {at : ℕ} (rows : List ℕ) (n : ℕ) {text : List ℕ} {len what kind from next end : ℕ} {text' : List ℕ} (η : Headed (line_of (line_at sheet at)) sheet at what kind from) (τ : Texted sheet from text len next end text') where
   said_row : line_of (line_at sheet at) ≡ row what kind τ.bs

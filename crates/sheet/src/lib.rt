@@ -1,4 +1,6 @@
 // The sheet reader (specification, 'The sheet'): it reads a sheet's lines into rows and their texts.
+#![tactic(auto)]
+
 ghost use Rattle.std.specs.Prelude.{◌≡◌, ◌*◌, ◌≤◌, ◌<◌, length};
 ghost use Rattle.shared.specs.Report.{zeroed};
 ghost use Rattle.rows.specs.Row.{row_size};
