@@ -19,7 +19,7 @@ push_lead-self-requires c = record {
     }
 
 pub overflow_add-at : goal.overflow_add-at
-overflow_add-at c = let b = row_within c.loop-at.invariant.part c.loop-at-test.true in omega (arith, c.well-formed.1.1.1.0.0)
+overflow_add-at c = let b = row_within c.loop-at.invariant.part c.loop-at-test.true in omega (arith, c.well_formed.1.1.1.0.0)
 
 pub loop-at-smaller : goal.loop-at-smaller
 loop-at-smaller c = omega arith

@@ -36,7 +36,7 @@ returns-in-19 c = λ t ts σ x u v. at_else _ _ t ts (σ.kind ∙ c.in-19.is) (c
 
 pub returns-in_default : goal.returns-in_default
 returns-in_default c = λ t ts σ x u v.
-    let r = c.in_default.rest in
+    let r = c.in_default.in_default-own.rest in
     at_other _ _ t ts σ.kind
     r.0.0.0.0.0.0.0.0.0.1 r.0.0.0.0.0.0.0.0.1 r.0.0.0.0.0.0.0.1 r.0.0.0.0.0.0.1 r.0.0.0.0.0.1
     r.0.0.0.0.1 r.0.0.0.1 r.0.0.1 r.0.1 r.1 (c.other_arm.ensures t ts σ _ x)

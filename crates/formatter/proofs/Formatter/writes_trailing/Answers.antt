@@ -26,8 +26,3 @@ returns-in-7 c = λ text t ts σ.
     rw
     (lt-ltb (c.args.token.own + 16) c.args.token.next (omega (arith, n, c.requires.row_size_bound.0)), σ.kind, c.in-7.is, c.in_broken_list.ensures)
 
-pub returns-in_default : goal.returns-in_default
-returns-in_default c = λ text t ts σ.
-    let n = c.if-token.false in
-    rw
-    (lt-ltb (c.args.token.own + 16) c.args.token.next (omega (arith, n, c.requires.row_size_bound.0)), σ.kind, ne_eqb _ 2 c.in_default.rest.0.0.1, ne_eqb _ 5 c.in_default.rest.0.1, ne_eqb _ 7 c.in_default.rest.1)
