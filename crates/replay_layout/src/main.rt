@@ -25,7 +25,7 @@ fn read_full(reader: &mut impl Read, buf: &mut [u8]) -> io::Result<usize>
     ensures { IfOk result (λ n. n ≤ length buf.new) }
 {
     let mut size = 0;
-    for _ in 0..u64::MAX {
+    while size < buf.len() {
         let read = reader.read(&mut buf[size..])?;
         if read == 0 {
             break;
