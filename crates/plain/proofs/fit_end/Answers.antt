@@ -23,7 +23,7 @@ pub returns-then-row-ne-TOKEN : goal.returns-then-row-ne-TOKEN
 returns-then-row-ne-TOKEN c = stop_trivia c.loop-at.invariant (search rules) c.row_at-row.ensures c.if-row-ne-TOKEN.true
 
 pub returns-then-misnames : goal.returns-then-misnames
-returns-then-misnames c = stop-misnamed c.loop-at.invariant (search rules) c.row_at-row.ensures c.if-row-ne-TOKEN.false c.misnames.ensures c.if-misnames.true
+returns-then-misnames c = stop-misnamed c.loop-at.invariant (search rules) c.row_at-row.ensures (omega arith) c.misnames.ensures c.if-misnames.true
 
 pub slice_bounds-lexeme-count : goal.slice_bounds-lexeme-count
 slice_bounds-lexeme-count c = (inside (goal.at.slice_bounds-lexeme-count c).Else-misnames).ordered
@@ -38,11 +38,11 @@ pub fits_fixed-requires : goal.fits_fixed-requires
 fits_fixed-requires c = (c.loop-at.invariant.ahead.within, c.if-kind-gt-ELSE.false)
 
 pub returns-then-not-fits_fixed : goal.returns-then-not-fits_fixed
-returns-then-not-fits_fixed c = stop-fixed c.loop-at.invariant (search rules) c.row_at-row.ensures c.if-row-ne-TOKEN.false c.misnames.ensures c.if-misnames.false
+returns-then-not-fits_fixed c = stop-fixed c.loop-at.invariant (search rules) c.row_at-row.ensures (omega arith) c.misnames.ensures c.if-misnames.false
     c.fits_fixed.ensures c.if-not-fits_fixed.true
 
 pub loop-at-preserved : goal.loop-at-preserved
-loop-at-preserved c = let more = passed_more c.loop-at.invariant (search rules) c.row_at-row.ensures c.if-row-ne-TOKEN.false c.misnames.ensures c.if-misnames.false in
+loop-at-preserved c = let more = passed_more c.loop-at.invariant (search rules) c.row_at-row.ensures (omega arith) c.misnames.ensures c.if-misnames.false in
     elim c.if-kind-gt-ELSE.branch [ then-kind-gt-ELSE+else-not-fits_free w ↦ more (w.fits_free.ensures w.if-not-fits_free.false) | else-kind-gt-ELSE+else-not-fits_fixed w ↦ more (sym w.fits_fixed.ensures ∙ w.if-not-fits_fixed.false) ]
 
 pub returns : goal.returns
