@@ -1,7 +1,7 @@
 -- `formatter::Formatter::may_start_fast_braces` meets its contract. Assumes nothing.
 use native.Mathlib.Omega.{arith}
 use borrow.Author.Rules.{rules}
-use borrow.Author.Tests.{not-false, eqb-true}
+use borrow.Author.Tests.{eqb-true}
 use Rattle.shared.proofs.Logic.{impossible'}
 use Rattle.formatter.proofs.Formatter.may_start_fast_braces.Goals as goal
 
@@ -32,7 +32,7 @@ returns-then-self-3 c = λ e. impossible' e
 pub returns : goal.returns
 returns c = λ e.
     record {
-      bare = not-false _ c.if-not-bare.false;
+      bare = c.if-not-bare.false;
       mid_line = c.if-self.false;
       no_record = c.if-self-2.false;
       outside = c.if-self-3.false;

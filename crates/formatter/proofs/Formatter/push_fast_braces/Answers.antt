@@ -2,7 +2,6 @@
 use Prim.Native.Nat.{◌+◌, ◌-◌, ◌≤◌, ◌<◌}
 use native.Mathlib.Omega.{arith}
 use borrow.Author.Rules.{rules}
-use borrow.Author.Tests.{not-false}
 use lib.ListN.{length}
 use Rattle.formatter.proofs.FastBraces.{FastBracesSoFar, starts, goes_open, goes_close, ends}
 use Rattle.formatter.proofs.Formatter.push_fast_braces.Goals as goal
@@ -14,12 +13,12 @@ row_inside c = let w = c.loop-b.invariant.done.within in let t = c.loop-b-test.t
 
 -- A block is open, and two bytes are free.
 brace_fits : (c : Else-not-takes_brace) → (0 < c.loop-b.b.depth) × (2 ≤ length c.loop-b.out - c.loop-b.b.len)
-brace_fits c = c.takes_brace.ensures (not-false _ c.if-not-takes_brace.false)
+brace_fits c = c.takes_brace.ensures c.if-not-takes_brace.false
 
 -- ---- the answers
 
 pub loop-b-init : goal.loop-b-init
-loop-b-init c = let p = c.requires in starts p.0.0 p.0.1 p.1.0
+loop-b-init c = starts c.requires.at_in_bounds.0 c.requires.at_in_bounds.1 c.requires.rows_value
 
 pub overflow_sub-rows : goal.overflow_sub-rows
 overflow_sub-rows c = c.loop-b.invariant.done.within
@@ -53,7 +52,7 @@ pub loop-b-smaller-then-kind-eq-LEFT_BRACE : goal.loop-b-smaller-then-kind-eq-LE
 loop-b-smaller-then-kind-eq-LEFT_BRACE c = let w = row_inside (goal.at.loop-b-smaller-then-kind-eq-LEFT_BRACE c).In-loop-b in rw c.open_fast_brace-b.ensures.1 (omega arith)
 
 pub loop-b-preserved-then-kind-eq-LEFT_BRACE : goal.loop-b-preserved-then-kind-eq-LEFT_BRACE
-loop-b-preserved-then-kind-eq-LEFT_BRACE c = goes_open c.loop-b.invariant c.loop-b-test.taken _ c.row_at-row.ensures c.if-kind-eq-LEFT_BRACE.true
+loop-b-preserved-then-kind-eq-LEFT_BRACE c = goes_open c.loop-b.invariant c.loop-b-test.true _ c.row_at-row.ensures c.if-kind-eq-LEFT_BRACE.true
     (brace_fits (goal.at.loop-b-preserved-then-kind-eq-LEFT_BRACE c).Else-not-takes_brace).0 (brace_fits (goal.at.loop-b-preserved-then-kind-eq-LEFT_BRACE c).Else-not-takes_brace).1 c.open_fast_brace-b.ensures
 
 pub close_fast_brace-b-requires : goal.close_fast_brace-b-requires
@@ -71,7 +70,7 @@ pub loop-b-smaller : goal.loop-b-smaller
 loop-b-smaller c = let w = row_inside (goal.at.loop-b-smaller c).In-loop-b in rw c.close_fast_brace-b.ensures.1 (omega arith)
 
 pub loop-b-preserved : goal.loop-b-preserved
-loop-b-preserved c = goes_close c.loop-b.invariant c.loop-b-test.taken _ c.row_at-row.ensures c.if-kind-eq-RIGHT_BRACE.true
+loop-b-preserved c = goes_close c.loop-b.invariant c.loop-b-test.true _ c.row_at-row.ensures c.if-kind-eq-RIGHT_BRACE.true
     (brace_fits (goal.at.loop-b-preserved c).Else-not-takes_brace).0 (brace_fits (goal.at.loop-b-preserved c).Else-not-takes_brace).1 c.close_fast_brace-b.ensures
 
 pub shape_of-out-else-kind-eq-RIGHT_BRACE : goal.shape_of-out-else-kind-eq-RIGHT_BRACE

@@ -1,7 +1,7 @@
 -- `formatter::fast_tokens::is_fast_token` meets its contract. Assumes nothing.
 use mathlib.Core.Path.{ap, ◌∙◌}
 use native.Mathlib.Omega.{arith}
-use borrow.Author.Tests.{not-false}
+
 use borrow.Author.Rules.{rules}
 use Rattle.formatter.specs.FastTokens.{space_before}
 use Rattle.spaces.specs.Between.{bit}
@@ -46,7 +46,7 @@ returns c = λ e.
     record {
       ahead = c.if-rows-at.false;
       kind = λ q. c.if-fast-kind-eq0.false (ap (λ j. bit c.args.fast j) k ∙ q);
-      alone = c.is_bare_row.ensures (not-false _ c.if-not-is_bare_row.false);
+      alone = c.is_bare_row.ensures c.if-not-is_bare_row.false;
       byte = omega (arith, f.0, a, b);
       fits = omega (arith, f.1, s, a, b);
     }
