@@ -15,16 +15,16 @@ use Rattle.formatter.specs.declared.TokenAt.{TokenAt}
 use Rattle.formatter.specs.CodeState.{code_state, options_of}
 use Rattle.shared.specs.Report.{deep, full}
 use Rattle.formatter.proofs.Formatter.format.Goals as goal
-use Rattle.formatter.proofs.Formatter.format.Goals.{After-next_place-place, After-token_at-token, After-track_fn_state-state, At-loop-place, Else-out-self-2, Joined-token}
+use Rattle.formatter.proofs.Formatter.format.Goals.{After-next_place-place, After-token_at-token, After-track_fn_state-state, Joined-token, then-token, else-token+else-out-self, then-trails, else-trails}
 
 -- What is known of the token, from the loop's head and from its call of `token_at`.
-abbrev KnownAt : At-loop-place → TokenAt → Type 0
-KnownAt c token =
-    let a = (entry c).args in
+abbrev KnownAt : After-token_at-token → Type 0
+KnownAt c =
+    let a = c.args in
     let l = c.loop-place in
-    Known a.options a.rows.now a.text.now a.stack.now a.out.now l.place.index l.place.at l.self l.stack-1 l.out-1 token
+    Known a.options a.rows.now a.text.now a.stack.now a.out.now l.place.index l.place.at l.self l.stack l.out c.token_at-token.result
 
-known : (c : After-token_at-token) → KnownAt c c.token_at-token.result
+known : (c : After-token_at-token) → KnownAt c
 known c = record { checked = c.requires.checked_rows; loop = c.loop-place.invariant; inside = c.loop-place-test.true; its_token = c.token_at-token.ensures }
 
 -- The leading trivia are written and fit, or there are none.
@@ -33,22 +33,20 @@ leading :
     → LeadingDone (options_of c.args.options) c.args.rows.now c.args.text.now
     c.token_at-token.result c.loop-place.self c.loop-place.out c.if-token.self c.if-token.out
 leading c =
-    ⊎_elim
-    (λ w. without_leading w.0.taken w.1.ensures.0 w.1.ensures.1 w.2 w.3)
-    (λ w. leading-written w.2.ensures w.6.left w.7 w.8)
-    c.if-token.branch
+    elim c.if-token.branch [
+      then-token w ↦ without_leading w.if-token.true w.clear_inline_close-self.ensures.does w.clear_inline_close-self.ensures.len w.self-is w.out-is
+    | else-token+else-out-self w ↦ leading-written w.push_leading-self.ensures w.if-out-self.false w.self-is w.out-is
+    ]
 
 -- What the calls of the turn say, after the leading trivia.
 abbrev CallsAt : After-track_fn_state-state → Type 0
 CallsAt c =
-    let a = arm c.before in
-    let d = led (calm a) in
-    let t = token_led d in
-    let g = (entry (head t)).args in
-    let l = (head t).loop in
-    Calls g.options g.rows.now g.text.now t.token_at-token.result l.self l.stack-1 d.if-token.self d.if-token.out
-    (calm a).before.overflows.result d.takes_inline_close-inline_close.result a.writes_trailing-trails.result
-    a.push_token-self.result a.push_token-self.last.1.1.1.1.0 a.push_token-self.last.1.1.1.0 c.if-trails.self c.if-trails.out c.track_fn_state-state.result
+    let a = c.args in
+    let l = c.loop-place in
+    let p = c.push_token-self in
+    Calls a.options a.rows.now a.text.now c.token_at-token.result l.self l.stack c.if-token.self c.if-token.out
+    c.overflows.result c.takes_inline_close-inline_close.result c.writes_trailing-trails.result
+    p.result p.new.stack p.new.out c.if-trails.self c.if-trails.out c.track_fn_state-state.result
 
 calls : (c : After-track_fn_state-state) → CallsAt c
 calls c =
@@ -58,39 +56,33 @@ calls c =
       taken = c.takes_inline_close-inline_close.ensures;
       trailing = c.writes_trailing-trails.ensures _;
       arms = c.push_token-self.ensures;
-      trailed =
-          ⊎_elim
-          (λ w. written w.0.taken w.2.ensures w.5 w.6)
-          (λ w. left_out w.0.left w.1 w.2)
-          c.if-trails.branch;
+      trailed = elim c.if-trails.branch [
+        then-trails w ↦ written w.if-trails.true w.push_trailing-self.ensures w.self-is w.out-is
+      | else-trails w ↦ left_out w.if-trails.false w.self-is w.out-is
+      ];
       tracked = c.track_fn_state-state.ensures;
     }
 
 -- The invariant holds at the next place.
 abbrev PlacedAt : After-next_place-place → Type 0
 PlacedAt c =
-    let a = (entry (head_placed c)).args in
-    let t = turn c.before in
+    let a = c.args in
     let n = c.next_place-place.result in
     Placed a.rows.now a.text.now (options_of a.options) a.stack.now a.out.now n.index n.at
-    (with_fn_state t.track_fn_state-state.result t.if-trails.self) (arm t.before).push-token.last.1.1.1.1.0 t.if-trails.out a.bare
-
--- The arm leaves the stack's length as it was.
-lent : (c : Else-out-self-2) → length c.push_token-self.last.1.1.1.1.0 ≡ length c.loop-place.stack
-lent c = c.stack-1.given
+    (with_fn_state c.track_fn_state-state.result c.if-trails.self) c.push_token-self.new.stack c.if-trails.out a.bare
 
 at_place : (c : After-next_place-place) → PlacedAt c
 at_place c =
     record {
       checked = c.requires.checked_rows;
-      loop = placed (known c.before.before.before.before.before.before.before.before.before.before.before.before.before.before.before.before.before.before) (leading c.before.before.before.before.before.before.before.before.before.before.before.before.before.before.before) (calls c.before.before.before) c.if-out-self-2.false (lent c.before) c.next_place-place.ensures;
+      loop = placed (known (goal.at.may_start_fast_tokens-requires c).After-token_at-token) (leading (goal.at.may_start_fast_tokens-requires c).Joined-token) (calls (goal.at.may_start_fast_tokens-requires c).After-track_fn_state-state) c.if-out-self-2.false c.push_token-self.auto.stack c.next_place-place.ensures;
       only = c.requires.no_trivia_if;
     }
 
 -- The next place lies further on.
 is_further : (c : After-next_place-place) → c.loop-place.place.at < c.next_place-place.result.at
 is_further c =
-    further (known c.before.before.before.before.before.before.before.before.before.before.before.before.before.before.before.before.before.before) (leading c.before.before.before.before.before.before.before.before.before.before.before.before.before.before.before) (calls c.before.before.before) c.if-out-self-2.false (lent c.before) c.next_place-place.ensures
+    further (known (goal.at.may_start_fast_tokens-requires c).After-token_at-token) (leading (goal.at.may_start_fast_tokens-requires c).Joined-token) (calls (goal.at.may_start_fast_tokens-requires c).After-track_fn_state-state) c.if-out-self-2.false c.push_token-self.auto.stack c.next_place-place.ensures
 
 -- ---- the answers
 
@@ -98,7 +90,7 @@ pub ends_of-ends-requires : goal.ends_of-ends-requires
 ends_of-ends-requires c = c.requires.checked_rows.few
 
 pub loop-place-init : goal.loop-place-init
-loop-place-init c = let e = c.requires in begins _ e.1.0 e.0.0
+loop-place-init c = begins _ c.requires.checked_rows c.requires.fresh.0
 
 pub token_at-token-requires : goal.token_at-token-requires
 token_at-token-requires c = next_token c.requires.checked_rows c.loop-place.invariant.going.head c.loop-place-test.true c.requires.no_trivia_if
@@ -165,7 +157,7 @@ pub shape_of-out-then-out-self-2 : goal.shape_of-out-then-out-self-2
 shape_of-out-then-out-self-2 c = turn-size (known (goal.at.shape_of-out-then-out-self-2 c).After-token_at-token) (leading (goal.at.shape_of-out-then-out-self-2 c).Joined-token) (calls (goal.at.shape_of-out-then-out-self-2 c).After-track_fn_state-state)
 
 pub shape_of-stack-then-out-self-2 : goal.shape_of-stack-then-out-self-2
-shape_of-stack-then-out-self-2 c = c.stack-1.given ∙ c.loop-place.invariant.going.lent
+shape_of-stack-then-out-self-2 c = c.push_token-self.auto.stack ∙ c.loop-place.invariant.going.lent
 
 pub returns-then-out-self-2 : goal.returns-then-out-self-2
 returns-then-out-self-2 c = let θ = known (goal.at.returns-then-out-self-2 c).After-token_at-token in
@@ -176,8 +168,8 @@ pub next_place-place-requires : goal.next_place-place-requires
 next_place-place-requires c = let θ = known (goal.at.next_place-place-requires c).After-token_at-token in
     let ν = leading (goal.at.next_place-place-requires c).Joined-token in
     record {
-      next_in_bounds = next-bounds θ ν (calls (goal.at.next_place-place-requires c).After-track_fn_state-state) c.if-out-self-2.false (lent (goal.at.next_place-place-requires c).Else-out-self-2);
-      next_token = next_there_too θ ν (calls (goal.at.next_place-place-requires c).After-track_fn_state-state) c.if-out-self-2.false (lent (goal.at.next_place-place-requires c).Else-out-self-2) c.requires.no_trivia_if;
+      next_in_bounds = next-bounds θ ν (calls (goal.at.next_place-place-requires c).After-track_fn_state-state) c.if-out-self-2.false c.push_token-self.auto.stack;
+      next_token = next_there_too θ ν (calls (goal.at.next_place-place-requires c).After-track_fn_state-state) c.if-out-self-2.false c.push_token-self.auto.stack c.requires.no_trivia_if;
     }
 
 pub may_start_fast_tokens-requires : goal.may_start_fast_tokens-requires
@@ -187,8 +179,8 @@ pub push_fast_tokens-ahead-requires : goal.push_fast_tokens-ahead-requires
 push_fast_tokens-ahead-requires c = let π = at_place (goal.at.push_fast_tokens-ahead-requires c).After-next_place-place in
     record {
       stack_room = fast_tokens_room π (c.may_start_fast_tokens.ensures c.if-may_start_fast_tokens.true);
-      len_in_bounds = (π.loop-place.going.room, π.checked);
-      token_boundary = π.loop-place.going.head;
+      len_in_bounds = (π.loop.going.room, π.checked);
+      token_boundary = π.loop.going.head;
       no_trivia_if = π.only;
     }
 
@@ -212,7 +204,8 @@ may_start_fast_braces-requires c = rows_left (at_place (goal.at.may_start_fast_b
 pub push_fast_braces-braces-requires : goal.push_fast_braces-braces-requires
 push_fast_braces-braces-requires c = let π = at_place (goal.at.push_fast_braces-braces-requires c).After-next_place-place in
     let ρ = c.may_start_fast_braces.ensures c.if-may_start_fast_braces.true in
-    let said = (fast_braces_place π ρ, fast_braces_rows π ρ) in record { at_in_bounds = said.0; rows_value = said.1.0; rows_bound = said.1.1 }
+    let rows = fast_braces_rows π ρ in
+    record { at_in_bounds = fast_braces_place π ρ; rows_value = rows.0; rows_bound = rows.1 }
 
 pub place_at-place-requires-then-may_start_fast_braces : goal.place_at-place-requires-then-may_start_fast_braces
 place_at-place-requires-then-may_start_fast_braces c = past (at_place (goal.at.place_at-place-requires-then-may_start_fast_braces c).After-next_place-place) c.push_fast_braces-braces.ensures.whole c.push_fast_braces-braces.ensures.within
@@ -230,11 +223,11 @@ loop-place-preserved-then-may_start_fast_braces c = rw (c.place_at-place-then-ma
 
 pub loop-place-smaller : goal.loop-place-smaller
 loop-place-smaller c = let f = is_further (goal.at.loop-place-smaller c).After-next_place-place in
-    let b = (at_place (goal.at.loop-place-smaller c).After-next_place-place).loop-place.going.head.within in
+    let b = (at_place (goal.at.loop-place-smaller c).After-next_place-place).loop.going.head.within in
     omega arith
 
 pub loop-place-preserved : goal.loop-place-preserved
-loop-place-preserved c = (at_place (goal.at.loop-place-preserved c).After-next_place-place).loop-place
+loop-place-preserved c = (at_place (goal.at.loop-place-preserved c).After-next_place-place).loop
 
 pub shape_of-out : goal.shape_of-out
 shape_of-out c = c.loop-place.invariant.going.size

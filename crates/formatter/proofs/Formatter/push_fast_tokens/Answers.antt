@@ -13,10 +13,6 @@ use Rattle.spaces.specs.Between.{bit}
 use Rattle.formatter.proofs.Formatter.push_fast_tokens.Goals as goal
 use Rattle.formatter.proofs.Formatter.push_fast_tokens.Goals.{After-row_at-row, At-loop-row, In-loop-row}
 
--- The rows are checked.
-checked : (c : At-loop-row) → CheckedRows c.args.rows.now c.args.text.now
-checked c = c.requires.len_in_bounds.1
-
 -- The next token is fast.
 taken :
     (c : In-loop-row)
@@ -29,11 +25,11 @@ few-spaces c = let b = bit-few c.loop-row.state.loose c.loop-row.prev in let e =
 
 -- The token's row lies in the rows.
 row_inside : (c : In-loop-row) → c.loop-row.at + 16 ≤ length c.args.rows.now
-row_inside c = whole_row (checked c.before.before) c.loop-row.invariant.0.head (taken c).ahead
+row_inside c = whole_row c.requires.len_in_bounds.1 c.loop-row.invariant.0.head (taken c).ahead
 
 -- The token's kind is a kind.
 known_kind : (c : After-row_at-row) → c.row_at-row.result.kind ≤ Other
-known_kind c = row_known (checked c.before.before.before) c.loop-row.invariant.0.head (taken c.before).ahead _ c.row_at-row.ensures
+known_kind c = row_known c.requires.len_in_bounds.1 c.loop-row.invariant.0.head (c.is_fast_token.ensures c.loop-row-test.true).ahead _ c.row_at-row.ensures
 
 -- ---- the answers
 
@@ -45,12 +41,12 @@ space_after-spaced-requires c = rw c.kind_of-prev.ensures c.requires.stack_room.
 
 pub loop-row-init : goal.loop-row-init
 loop-row-init c = let p = c.requires in
-    (starts _ (rw c.kind_of-prev.ensures p.0.1) p.1.0.0 (rw c.fast_state-state.ensures (record { changing = refl; loose = refl })) p.1.1.0, c.space_after-spaced.ensures)
+    (starts _ (rw c.kind_of-prev.ensures p.stack_room.1) p.len_in_bounds.0 (rw c.fast_state-state.ensures (record { changing = refl; loose = refl })) p.token_boundary, c.space_after-spaced.ensures)
 
 pub is_fast_token-requires : goal.is_fast_token-requires
 is_fast_token-requires c = let α = c.loop-row.invariant.0 in
     record {
-      row_ahead = λ h. (whole_row (checked (goal.at.is_fast_token-requires c).At-loop-row) α.head h, (α.head.whole, row_known (checked (goal.at.is_fast_token-requires c).At-loop-row) α.head h _ refl));
+      row_ahead = λ h. (whole_row c.requires.len_in_bounds.1 α.head h, (α.head.whole, row_known c.requires.len_in_bounds.1 α.head h _ refl));
       no_trivia_if = c.requires.no_trivia_if;
       len_le_size = (α.room, search rules, few-spaces (goal.at.is_fast_token-requires c).At-loop-row);
     }
@@ -59,7 +55,7 @@ pub row_at-row-requires : goal.row_at-row-requires
 row_at-row-requires c = row_inside (goal.at.row_at-row-requires c).In-loop-row
 
 pub put_token-len-requires : goal.put_token-len-requires
-put_token-len-requires c = let said = taken-fits (checked (goal.at.put_token-len-requires c).At-loop-row) c.loop-row.invariant.0 (taken (goal.at.put_token-len-requires c).In-loop-row).ahead (taken (goal.at.put_token-len-requires c).In-loop-row) (few-spaces (goal.at.put_token-len-requires c).At-loop-row) _ c.row_at-row.ensures c.space_before-space.ensures in record { start_lt_end = said.0; space_bound = said.1.0; start_in_bounds = said.1.1 }
+put_token-len-requires c = let said = taken-fits c.requires.len_in_bounds.1 c.loop-row.invariant.0 (taken (goal.at.put_token-len-requires c).In-loop-row).ahead (taken (goal.at.put_token-len-requires c).In-loop-row) (few-spaces (goal.at.put_token-len-requires c).At-loop-row) _ c.row_at-row.ensures c.space_before-space.ensures in record { start_lt_end = said.0; space_bound = said.1.0; start_in_bounds = said.1.1 }
 
 pub fast_state_after-state-requires : goal.fast_state_after-state-requires
 fast_state_after-state-requires c = (c.loop-row.invariant.0.right, known_kind (goal.at.fast_state_after-state-requires c).After-row_at-row)
@@ -69,7 +65,7 @@ space_after-spaced-requires-in-loop-row c = known_kind (goal.at.space_after-spac
 
 pub overflow_add-at : goal.overflow_add-at
 overflow_add-at c = let h = row_inside (goal.at.overflow_add-at c).In-loop-row in
-    let l = (checked (goal.at.overflow_add-at c).At-loop-row).few in
+    let l = c.requires.len_in_bounds.1.few in
     omega arith
 
 pub loop-row-smaller : goal.loop-row-smaller
@@ -77,7 +73,7 @@ loop-row-smaller c = let h = row_inside (goal.at.loop-row-smaller c).In-loop-row
 
 pub loop-row-preserved : goal.loop-row-preserved
 loop-row-preserved c = let e = c.args in (
-      again (checked (goal.at.loop-row-preserved c).At-loop-row) c.loop-row.invariant.0 (taken (goal.at.loop-row-preserved c).In-loop-row).ahead (taken (goal.at.loop-row-preserved c).In-loop-row) c.loop-row.invariant.1 _ (fast_kinds_of e.self e.stack.now) c.fast_kinds-fast.ensures
+      again c.requires.len_in_bounds.1 c.loop-row.invariant.0 (taken (goal.at.loop-row-preserved c).In-loop-row).ahead (taken (goal.at.loop-row-preserved c).In-loop-row) c.loop-row.invariant.1 _ (fast_kinds_of e.self e.stack.now) c.fast_kinds-fast.ensures
           c.row_at-row.ensures c.space_before-space.ensures c.put_token-len.ensures c.fast_state_after-state.ensures,
       c.space_after-spaced-in-loop-row.ensures,
     )
