@@ -12,8 +12,8 @@ use Rattle.formatter.proofs.Formatter.clear_inline_close.Goals as goal
 pub returns : goal.returns
 unfolding leading_trivia
 returns c = record {
-      does = λ o l s x.
-          let p = code_state c.args.self s l in
-          seq {a = update (λ f. f)} {b = update (take_inline_close true)} {p = p} {q = p} stays (updated {g = take_inline_close true} {p = p} refl refl nothing);
-      len = refl;
-    }
+  does = λ o l s x.
+      let p = code_state c.args.self s l in
+      seq {a = update (λ f. f)} {b = update (take_inline_close true)} {p = p} {q = p} stays (updated {g = take_inline_close true} {p = p} refl refl nothing);
+  len = refl;
+}

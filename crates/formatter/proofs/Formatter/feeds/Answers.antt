@@ -1,5 +1,4 @@
 -- `formatter::Formatter::feeds` meets its contract. Assumes nothing.
-use borrow.Author.Rules.{rules}
 use borrow.Author.Tests.{eq-eqb}
 use Rattle.formatter.proofs.Does.{told}
 use Rattle.formatter.proofs.Newlines.{empty-take, no_start}

@@ -1,18 +1,14 @@
 -- `formatter::Formatter::format` meets its contract. Assumes nothing.
-use mathlib.Core.Path.{◌≡◌, ◌∙◌}
-use mathlib.Core.Logic.{⊎_elim}
-use Prim.Native.Nat.{◌-◌, ◌<◌}
+use mathlib.Core.Path.{◌∙◌}
+use Prim.Native.Nat.{◌<◌}
 use native.Mathlib.Omega.{arith}
-use lib.ListN.{length}
-use borrow.Author.Rules.{rules}
-use Rattle.formatter.proofs.Loop.{Loop, Known, Placed, begins, small-indent, its_rows, lead_rows, trail_rows, ends-ahead}
+use Rattle.formatter.proofs.Loop.{Known, Placed, begins, small-indent, its_rows, lead_rows, trail_rows, ends-ahead}
 use Rattle.formatter.proofs.Loop.{LeadingDone, without_leading, leading-written, lead-size, full-lead, led_size, ready, stack-room, deep-at}
 use Rattle.formatter.proofs.Loop.{Calls, written, left_out, with_fn_state, turn-size, full-turn, next-bounds, next_there_too, placed, further}
 use Rattle.formatter.proofs.Loop.{rows_left, past, fast_tokens_room, past_fast_tokens, fast_braces_place, fast_braces_rows, past_fast_braces}
 use Rattle.formatter.proofs.Going.{laid_stopped, laid_done}
 use Rattle.formatter.proofs.Place.{next_token}
-use Rattle.formatter.specs.declared.TokenAt.{TokenAt}
-use Rattle.formatter.specs.CodeState.{code_state, options_of}
+use Rattle.formatter.specs.CodeState.{options_of}
 use Rattle.shared.specs.Report.{deep, full}
 use Rattle.formatter.proofs.Formatter.format.Goals as goal
 use Rattle.formatter.proofs.Formatter.format.Goals.{After-next_place-place, After-token_at-token, After-track_fn_state-state, Joined-token, then-token, else-token+else-out-self, then-trails, else-trails}
@@ -34,8 +30,8 @@ leading :
     c.token_at-token.result c.loop-place.self c.loop-place.out c.if-token.self c.if-token.out
 leading c =
     elim c.if-token.branch [
-      then-token w ↦ without_leading w.if-token.true w.clear_inline_close-self.ensures.does w.clear_inline_close-self.ensures.len w.self-is w.out-is
-    | else-token+else-out-self w ↦ leading-written w.push_leading-self.ensures w.if-out-self.false w.self-is w.out-is
+      | then-token w ↦ without_leading w.if-token.true w.clear_inline_close-self.ensures.does w.clear_inline_close-self.ensures.len w.self-is w.out-is
+      | else-token+else-out-self w ↦ leading-written w.push_leading-self.ensures w.if-out-self.false w.self-is w.out-is
     ]
 
 -- What the calls of the turn say, after the leading trivia.
@@ -57,8 +53,8 @@ calls c =
       trailing = c.writes_trailing-trails.ensures _;
       arms = c.push_token-self.ensures;
       trailed = elim c.if-trails.branch [
-        then-trails w ↦ written w.if-trails.true w.push_trailing-self.ensures w.self-is w.out-is
-      | else-trails w ↦ left_out w.if-trails.false w.self-is w.out-is
+        | then-trails w ↦ written w.if-trails.true w.push_trailing-self.ensures w.self-is w.out-is
+        | else-trails w ↦ left_out w.if-trails.false w.self-is w.out-is
       ];
       tracked = c.track_fn_state-state.ensures;
     }

@@ -3,7 +3,6 @@ use mathlib.Core.Path.{refl, sym}
 use Prim.Native.Nat.{◌<◌}
 use native.Mathlib.Omega.{arith}
 use lib.ListN.{length}
-use borrow.Author.Rules.{rules}
 use Rattle.sink.proofs.Sink.{nothing}
 use Rattle.formatter.specs.CodeState.{options_of}
 use Rattle.formatter.specs.Token.{bare_token, lexeme_of}

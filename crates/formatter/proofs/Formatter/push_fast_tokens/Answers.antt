@@ -1,15 +1,13 @@
 -- `formatter::Formatter::push_fast_tokens` meets its contract. Assumes nothing.
-use mathlib.Core.Path.{◌≡◌, refl}
-use Prim.Native.Nat.{◌+◌, ◌-◌, ◌≤◌, ◌<◌}
+use mathlib.Core.Path.{refl}
+use Prim.Native.Nat.{◌+◌, ◌≤◌, ◌<◌}
 use native.Mathlib.Omega.{arith}
 use lib.ListN.{length}
 use borrow.Author.Rules.{rules}
-use Rattle.formatter.proofs.FastTokens.{FastTokensSoFar, starts, taken-fits, again, ends, whole_row, row_known}
+use Rattle.formatter.proofs.FastTokens.{starts, taken-fits, again, ends, whole_row, row_known}
 use Rattle.rows.specs.Kinds.{Other}
-use Rattle.formatter.specs.Format.{CheckedRows}
 use Rattle.formatter.specs.FastTokens.{IsFastToken, fast_kinds_of}
 use Rattle.spaces.proofs.Pairs.{bit-few}
-use Rattle.spaces.specs.Between.{bit}
 use Rattle.formatter.proofs.Formatter.push_fast_tokens.Goals as goal
 use Rattle.formatter.proofs.Formatter.push_fast_tokens.Goals.{After-row_at-row, At-loop-row, In-loop-row}
 
@@ -73,10 +71,10 @@ loop-row-smaller c = let h = row_inside (goal.at.loop-row-smaller c).In-loop-row
 
 pub loop-row-preserved : goal.loop-row-preserved
 loop-row-preserved c = let e = c.args in (
-      again c.requires.len_in_bounds.1 c.loop-row.invariant.0 (taken (goal.at.loop-row-preserved c).In-loop-row).ahead (taken (goal.at.loop-row-preserved c).In-loop-row) c.loop-row.invariant.1 _ (fast_kinds_of e.self e.stack.now) c.fast_kinds-fast.ensures
-          c.row_at-row.ensures c.space_before-space.ensures c.put_token-len.ensures c.fast_state_after-state.ensures,
-      c.space_after-spaced-in-loop-row.ensures,
-    )
+  again c.requires.len_in_bounds.1 c.loop-row.invariant.0 (taken (goal.at.loop-row-preserved c).In-loop-row).ahead (taken (goal.at.loop-row-preserved c).In-loop-row) c.loop-row.invariant.1 _ (fast_kinds_of e.self e.stack.now) c.fast_kinds-fast.ensures
+      c.row_at-row.ensures c.space_before-space.ensures c.put_token-len.ensures c.fast_state_after-state.ensures,
+  c.space_after-spaced-in-loop-row.ensures,
+)
 
 pub shape_of-out : goal.shape_of-out
 shape_of-out c = c.loop-row.invariant.0.size

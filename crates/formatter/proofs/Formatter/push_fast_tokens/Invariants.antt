@@ -1,13 +1,7 @@
-use mathlib.Core.Path.{◌≡◌, refl}
-use Prim.Native.Nat.{◌+◌, ◌-◌, ◌≤◌, ◌<◌}
-use native.Mathlib.Omega.{arith}
+use mathlib.Core.Path.{◌≡◌}
+use Prim.Native.Nat.{◌-◌}
 use lib.ListN.{length}
-use borrow.Author.Rules.{rules}
-use Rattle.formatter.proofs.FastTokens.{FastTokensSoFar, starts, taken-fits, again, ends, whole_row, row_known}
-use Rattle.rows.specs.Kinds.{Other}
-use Rattle.formatter.specs.Format.{CheckedRows}
-use Rattle.formatter.specs.FastTokens.{IsFastToken, fast_kinds_of}
-use Rattle.spaces.proofs.Pairs.{bit-few}
+use Rattle.formatter.proofs.FastTokens.{FastTokensSoFar}
 use Rattle.spaces.specs.Between.{bit}
 use Rattle.formatter.proofs.Formatter.push_fast_tokens.Given as goal
 

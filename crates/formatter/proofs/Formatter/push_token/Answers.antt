@@ -1,7 +1,6 @@
 -- `formatter::Formatter::push_token` meets its contract. Assumes nothing.
 use Rattle.formatter.proofs.ByKind.{at_eof, at_newline, at-right_brace, at-left_brace, at-left_paren, at_left_bracket, at-right_paren, at-right_bracket, at-comma, at_else, at_other}
 use mathlib.Core.Path.{◌∙◌}
-use borrow.Author.Rules.{rules}
 use Rattle.formatter.proofs.Formatter.push_token.Goals as goal
 
 pub returns-in-0 : goal.returns-in-0
