@@ -1,0 +1,15 @@
+-- `formatter::Formatter::close_list` meets its contract. Assumes nothing.
+use mathlib.Core.Path.{sym}
+use Rattle.definition.specs.Emit.{on_new_line}
+use Rattle.formatter.specs.CodeState.{options_of}
+use Rattle.formatter.proofs.Does.{closing}
+use Rattle.formatter.proofs.Stack.{top_popped}
+use Rattle.formatter.proofs.Formatter.close_list.Goals as goal
+
+pub returns : goal.returns
+returns c = λ s x.
+    closing (on_new_line (options_of c.args.options)) _
+    c.args.wanted
+    (sym (rw (c.ended_by-bracket.ensures, c.less.ensures, c.less-2.ensures, c.less-3.ensures, top_popped)))
+    (rw c.count_comma.ensures.0)
+    (rw (← c.less-2.ensures, ← c.indent_size-spaces.ensures.0) c.write_closer-len.ensures)

@@ -1,0 +1,13 @@
+-- `formatter::Formatter::close_signature` meets its contract. Assumes nothing.
+use mathlib.Core.Path.{refl, sym}
+use Rattle.definition.specs.Act.{run}
+use Rattle.definition.proofs.Said.{said}
+use Rattle.formatter.proofs.Does.{does}
+use Rattle.formatter.proofs.Formatter.close_signature.Goals as goal
+
+pub returns : goal.returns
+unfolding run said
+returns c = λ s x.
+    does
+    (sym (rw (c.ended_by-paren.ensures, c.less.ensures, c.less-2.ensures))) refl
+    (rw (← c.indent_size-spaces.ensures.0) c.write_closer-len.ensures)

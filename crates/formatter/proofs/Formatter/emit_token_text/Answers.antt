@@ -1,0 +1,15 @@
+-- `formatter::Formatter::emit_token_text` meets its contract. Assumes nothing.
+use mathlib.Core.Path.{refl}
+use Rattle.sink.specs.Tail.{tail_bytes}
+use Rattle.formatter.specs.CodeState.{options_of}
+use Rattle.formatter.specs.Token.{bare_token, lexeme_of}
+use Rattle.formatter.proofs.Lexemes.{emitted}
+use Rattle.formatter.proofs.Formatter.emit_token_text.Goals as goal
+
+pub returns : goal.returns
+returns c = let a = c.args in
+    let t = bare_token a.kind (lexeme_of a.token a.rows.now a.text.now) in
+    record {
+      does = λ s x. emitted (options_of a.options) t (tail_bytes a.tail) (rw c.ended_by-prev.ensures) refl c.gap_before-gap.ensures.0 c.write_lexeme-len.ensures;
+      kept = record { indent = refl; group = refl; count = refl };
+    }

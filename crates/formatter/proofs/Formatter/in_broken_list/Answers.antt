@@ -1,0 +1,15 @@
+-- `formatter::Formatter::in_broken_list` meets its contract. Assumes nothing.
+use mathlib.Core.Path.{sym}
+use Prim.Native.Nat.{◌-◌}
+use native.Mathlib.Omega.{arith}
+use Rattle.formatter.proofs.Stack.{top_is, top_isnt}
+use Rattle.formatter.proofs.Formatter.in_broken_list.Goals as goal
+
+pub overflow_cast-result : goal.overflow_cast-result
+overflow_cast-result c = omega (arith, c.shared_slice_known-1.given (c.args.self.break_count - 1))
+
+pub returns-then-count-gt0 : goal.returns-then-count-gt0
+returns-then-count-gt0 c = sym (top_is _ _ _ c.if-count-gt0.true)
+
+pub returns : goal.returns
+returns c = sym (top_isnt _ _ _ c.if-count-gt0.false)

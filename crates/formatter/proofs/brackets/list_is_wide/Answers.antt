@@ -1,0 +1,22 @@
+-- `formatter::brackets::list_is_wide` meets its contract. Assumes nothing.
+use mathlib.Core.Path.{refl, sym}
+use native.Mathlib.Nat.{le_trans}
+use Rattle.lookahead.proofs.Lacks.{no_comma}
+use Rattle.lookahead.proofs.Narrow.{narrow}
+use Rattle.lookahead.proofs.Sizes.{list_tokens}
+use Rattle.lookahead.specs.Measure.{should_break_list}
+use Rattle.formatter.proofs.Looked.{looked, part_is}
+use Rattle.formatter.proofs.brackets.list_is_wide.Goals as goal
+
+pub returns-then-ends-lead : goal.returns-then-ends-lead
+returns-then-ends-lead c = λ text t ts σ. looked σ (should_break_list c.args.list_width) refl (λ b. sym (no_comma _ _ text (c.requires.ahead.commas c.if-ends-lead.true)))
+
+pub returns-then-ends-list_width : goal.returns-then-ends-list_width
+returns-then-ends-list_width c = λ text t ts σ.
+    looked σ (should_break_list c.args.list_width) refl
+    (λ b. sym (narrow _ _ text b (le_trans (c.requires.ahead.width c.if-ends-gt0.true) c.if-ends-list_width.true)))
+
+pub returns : goal.returns
+returns c = λ text t ts σ.
+    looked σ (should_break_list c.args.list_width)
+    (part_is c.args.token.lead c.args.rows.now) (list_tokens _ text _ c.should_break_list.ensures)

@@ -1,0 +1,18 @@
+-- `formatter::token::rows_end` meets its contract. Assumes nothing.
+use mathlib.Core.Path.{ap, sym, ◌∙◌}
+use native.Mathlib.Omega.{arith}
+use borrow.Author.Rules.{rules}
+use Rattle.formatter.proofs.RunEnd.{runs_start, runs_more, runs_other, runs_none}
+use Rattle.formatter.proofs.token.rows_end.Goals as goal
+
+pub loop-end-init : goal.loop-end-init
+loop-end-init c = runs_start (search rules)
+
+pub returns-then-row-what : goal.returns-then-row-what
+returns-then-row-what c = runs_other c.loop-end.invariant (search rules) (λ e. c.if-row-what.true (ap (λ r. r.what) c.row_at-row.ensures ∙ e))
+
+pub loop-end-preserved : goal.loop-end-preserved
+loop-end-preserved c = runs_more c.loop-end.invariant (search rules) (sym (ap (λ r. r.what) c.row_at-row.ensures) ∙ c.if-row-what.false)
+
+pub returns : goal.returns
+returns c = runs_none c.loop-end.invariant (let t = c.loop-end-test.false in let w = c.loop-end.invariant.within in omega arith)
