@@ -1,12 +1,9 @@
 -- From the layout on the rest of the output to the layout after a line. Assumes nothing.
-use mathlib.Core.Bool.{true, false, cond}
+use mathlib.Core.Bool.{Bool, true, false, cond}
 use mathlib.Core.List.{List, [], ◌∷◌, ◌++◌, append-nil}
-use mathlib.Core.Logic.{⊎_elim}
 use mathlib.Core.Path.{◌≡◌, refl, sym, ap, subst, ◌∙◌}
 use Prim.Native.Nat.{ℕ, ◌+◌, ◌-◌, ◌≤◌, ◌<◌, min}
 use native.Mathlib.Omega.{arith}
-use types.Run.{OneOf}
-use denote.Enum.Declared.{tag_of}
 use lib.Dec.{eqb, leb, ltb}
 use lib.ListN.{length, take, drop, length-append, length-take, length-drop, take-append-drop, drop_of_length-le}
 use lib.Seq.{take_all, drop_at}
@@ -21,7 +18,6 @@ use Rattle.definition.proofs.Laid.{layout-size, layout-fits, layout_unchanged}
 use Rattle.format_tokens.specs.declared.Answer.{Answer}
 use Rattle.format_tokens.specs.declared.Answer.TheVariants.{Text, BadOption, RaggedRows, BadRow, Deep, Full}
 use Rattle.format_tokens.specs.Answer.{reported}
-use Rattle.format_tokens.specs.contracts.Answer.{the_type}
 use Rattle.format_source.specs.Source.{is_shebang, shebang, before_walk, with_line, after_line, default_layout, layout_source}
 use Rattle.format_source.proofs.Lines.{line_first_lem}
 
@@ -32,10 +28,9 @@ pub record Meets (l : Layout) (r : Report) (m : List ℕ) : Type 0 where
 
 -- ---- the line put first
 
--- an answer that is no text, by its variant's number
-pub no_text : (a : Answer) → OneOf (1 ∷ 2 ∷ 3 ∷ 4 ∷ 5 ∷ []) (tag_of the_type a) → accepted (reported a) ≡ false
-no_text (Text length commas plain) h =
-    ⊎_elim (λ e. absurd (omega arith)) (⊎_elim (λ e. absurd (omega arith)) (⊎_elim (λ e. absurd (omega arith)) (⊎_elim (λ e. absurd (omega arith)) (λ e. absurd (omega arith))))) h
+-- an answer that is no text
+pub no_text : (a : Answer) → ((n c : ℕ) (b : Bool) → a ≡ Text n c b → ⊥) → accepted (reported a) ≡ false
+no_text (Text length commas plain) h = absurd (h length commas plain refl)
 no_text (BadOption position) h = refl
 no_text RaggedRows h = refl
 no_text (BadRow row) h = refl

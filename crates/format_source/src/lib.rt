@@ -1,4 +1,6 @@
 // The layout of a source's tokens after its shebang line (specification, 'The shebang wrapper').
+#![tactic(auto)]
+
 ghost use Rattle.std.specs.Prelude.{[], ◌++◌, ◌≡◌, ◌+◌, ◌<◌, length, drop};
 ghost use Rattle.shared.specs.Bytes.{line_feed};
 ghost use Rattle.shared.specs.Lines.{first_line};

@@ -1,11 +1,9 @@
 -- What a caller sees is the layout, and what it reads back. Assumes nothing.
 use mathlib.Core.Bool.{Bool, false}
-use mathlib.Core.List.{List, [], ◌∷◌}
+use mathlib.Core.List.{List}
 use mathlib.Core.Path.{◌≡◌, refl, sym, ap, subst, ◌∙◌}
 use Prim.Native.Nat.{ℕ, ◌≤◌}
 use lib.ListN.{length}
-use denote.Enum.Declared.{tag_of}
-use types.Run.{OneOf, miss}
 use Rattle.shared.specs.Report.{Report, accepted}
 use Rattle.pieces.specs.Answer.{read_answer, read_slots}
 use Rattle.definition.specs.Layout.{Layout, layout}
@@ -15,15 +13,14 @@ use Rattle.definition.proofs.Demand3.{first_half}
 use Rattle.format_tokens.specs.declared.Answer.{Answer}
 use Rattle.format_tokens.specs.declared.Answer.TheVariants.{Text, BadOption, RaggedRows, BadRow, Deep, Full}
 use Rattle.format_tokens.specs.Answer.{reported}
-use Rattle.format_tokens.specs.contracts.Answer.{the_type}
 use Rattle.read_back.specs.ReadBack.{seen, read_back_answer, read_back_slots}
 use Rattle.read_back.specs.Steps.{Fits}
 
 -- ---- the layout's answer, as the code tells its cases apart
 
--- every variant but the first is a refusal
-pub refused : (laid : Answer) → OneOf (1 ∷ 2 ∷ 3 ∷ 4 ∷ 5 ∷ []) (tag_of the_type laid) → accepted (reported laid) ≡ false
-refused (Text length commas plain) h = absurd (miss (1 ∷ 2 ∷ 3 ∷ 4 ∷ 5 ∷ []) 0 tt h)
+-- every variant but `Text` is a refusal
+pub refused : (laid : Answer) → ((n c : ℕ) (b : Bool) → laid ≡ Text n c b → ⊥) → accepted (reported laid) ≡ false
+refused (Text length commas plain) h = absurd (h length commas plain refl)
 refused (BadOption position) h = refl
 refused RaggedRows h = refl
 refused (BadRow row) h = refl

@@ -1,4 +1,6 @@
 // Laying out and reading back (demand 3): the text that a layout writes is read into pieces at once.
+#![tactic(auto)]
+
 ghost use Rattle.std.specs.Prelude.{◌≡◌, length};
 ghost use Rattle.definition.specs.Layout.{layout};
 ghost use Rattle.definition.specs.Demand3.{lexemes, FirstHalfOf};
