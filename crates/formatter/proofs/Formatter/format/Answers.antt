@@ -1,18 +1,14 @@
 -- `formatter::Formatter::format` meets its contract. Assumes nothing.
-use mathlib.Core.Path.{◌≡◌, ◌∙◌}
-use mathlib.Core.Logic.{⊎_elim}
-use Prim.Native.Nat.{◌-◌, ◌<◌}
+use mathlib.Core.Path.{◌∙◌}
+use Prim.Native.Nat.{◌<◌}
 use native.Mathlib.Omega.{arith}
-use lib.ListN.{length}
-use borrow.Author.Rules.{rules}
-use Rattle.formatter.proofs.Loop.{Loop, Known, Placed, begins, small-indent, its_rows, lead_rows, trail_rows, ends-ahead}
+use Rattle.formatter.proofs.Loop.{Known, Placed, begins, small-indent, its_rows, lead_rows, trail_rows, ends-ahead}
 use Rattle.formatter.proofs.Loop.{LeadingDone, without_leading, leading-written, lead-size, full-lead, led_size, ready, stack-room, deep-at}
 use Rattle.formatter.proofs.Loop.{Calls, written, left_out, with_fn_state, turn-size, full-turn, next-bounds, next_there_too, placed, further}
 use Rattle.formatter.proofs.Loop.{rows_left, past, fast_tokens_room, past_fast_tokens, fast_braces_place, fast_braces_rows, past_fast_braces}
 use Rattle.formatter.proofs.Going.{laid_stopped, laid_done}
 use Rattle.formatter.proofs.Place.{next_token}
-use Rattle.formatter.specs.declared.TokenAt.{TokenAt}
-use Rattle.formatter.specs.CodeState.{code_state, options_of}
+use Rattle.formatter.specs.CodeState.{options_of}
 use Rattle.shared.specs.Report.{deep, full}
 use Rattle.formatter.proofs.Formatter.format.Goals as goal
 use Rattle.formatter.proofs.Formatter.format.Goals.{After-next_place-place, After-token_at-token, After-track_fn_state-state, Joined-token, then-token, else-token+else-out-self, then-trails, else-trails}
@@ -73,16 +69,18 @@ PlacedAt c =
 
 at_place : (c : After-next_place-place) → PlacedAt c
 at_place c =
+    let a = goal.at.may_start_fast_tokens-requires c in
     record {
       checked = c.requires.checked_rows;
-      loop = placed (known (goal.at.may_start_fast_tokens-requires c).After-token_at-token) (leading (goal.at.may_start_fast_tokens-requires c).Joined-token) (calls (goal.at.may_start_fast_tokens-requires c).After-track_fn_state-state) c.if-out-self-2.false c.push_token-self.auto.stack c.next_place-place.ensures;
+      loop = placed (known a.After-token_at-token) (leading a.Joined-token) (calls a.After-track_fn_state-state) c.if-out-self-2.false c.push_token-self.auto.stack c.next_place-place.ensures;
       only = c.requires.no_trivia_if;
     }
 
 -- The next place lies further on.
 is_further : (c : After-next_place-place) → c.loop-place.place.at < c.next_place-place.result.at
 is_further c =
-    further (known (goal.at.may_start_fast_tokens-requires c).After-token_at-token) (leading (goal.at.may_start_fast_tokens-requires c).Joined-token) (calls (goal.at.may_start_fast_tokens-requires c).After-track_fn_state-state) c.if-out-self-2.false c.push_token-self.auto.stack c.next_place-place.ensures
+    let a = goal.at.may_start_fast_tokens-requires c in
+    further (known a.After-token_at-token) (leading a.Joined-token) (calls a.After-track_fn_state-state) c.if-out-self-2.false c.push_token-self.auto.stack c.next_place-place.ensures
 
 -- ---- the answers
 
