@@ -7,8 +7,8 @@ Builds format.rs (harness/, FORMAT_RS names the file if it is elsewhere), lays o
 (1000 unless given), and has the checker compute `layout` on the same lists: options, row bytes, text bytes
 and an output go in; report and output come out. Texts, commas and the places of refusals 4 and 5 are the
 Rust's, stepped token by token; the plain mark is the model's below, which goes by the specification, 'The
-plain mark'. It writes a scratch crate under target/ and proves nothing of the repository anew where target/
-has it proved. Needs rt, cargo and format.rs.
+plain mark'. It checks a scratch crate over copies of the crates, outside the repository, and proves nothing of
+them anew that `rt check` has proved. Needs rt, cargo and format.rs.
 """
 import os
 import random
@@ -17,6 +17,7 @@ import shutil
 import struct
 import subprocess
 import sys
+import tempfile
 
 HERE = os.path.dirname(os.path.abspath(__file__))
 ROOT = os.path.dirname(HERE)
@@ -133,7 +134,8 @@ def answers(rng, lists):
 
 
 def module(lists, expected):
-    head = open(os.path.join(ROOT, "crates", "definition", "proofs", "Cases.antt")).read()
+    with open(os.path.join(ROOT, "crates", "definition", "proofs", "Cases.antt"), encoding="utf-8") as opened:
+        head = opened.read()
     unfolding = next(line for line in head.split("\n") if line.startswith("unfolding "))
     uses = "\n".join(line for line in head.split("\n") if line.startswith("use "))
     theorems = []
@@ -142,7 +144,7 @@ def module(lists, expected):
         call = "layout %d %d %d %d %s %s (replicate %d %d)" % (options + (antt_bytes(rows), antt_bytes(text), size, UNTOUCHED))
         answer = "success %d %d %d" % report[1:] if report[0] == 0 else "refuse %d %d" % report[:2]
         theorems.append("same%d : %s ≡ record { report = %s; out = %s }\n%s\nsame%d = refl\n\n" % (n, call, answer, antt_bytes(out), unfolding, n))
-    return uses.replace("Rattle·definition·specs.specs", "Rattle·definition.specs") + "\n\n" + "".join(theorems)
+    return uses + "\n\n" + "".join(theorems)
 
 
 def reached(crate, listed):
@@ -151,31 +153,41 @@ def reached(crate, listed):
     return dict.fromkeys(below + [crate])
 
 
+def write(path, text):
+    os.makedirs(os.path.dirname(path), exist_ok=True)
+    with open(path, "w", encoding="utf-8") as opened:
+        opened.write(text)
+
+
+def scratch_crate(scratch):
+    """Makes a repository of copies of `definition` and the crates below it, and a crate over them, whose folder it answers."""
+    with open(os.path.join(ROOT, "crates.txt"), encoding="utf-8") as opened:
+        listed = {re.match(r"\w+", line).group(): line for line in opened if ":" in line and not line.startswith("#")}
+    names = list(reached("definition", listed))
+    for name in names:
+        shutil.copytree(os.path.join(ROOT, "crates", name), os.path.join(scratch, "crates", name), ignore=shutil.ignore_patterns("out"))
+    write(os.path.join(scratch, "crates.txt"), "".join(listed[name] for name in names) + "run: " + " ".join(names) + "\n")
+    folder = os.path.join(scratch, "crates", "run")
+    write(os.path.join(folder, "src", "lib.rt"), "// scratch\n#![tactic(auto)]\n")
+    write(os.path.join(folder, "proofs", "Lib.antt"), "mod Run\n")
+    return folder
+
+
 def main():
     rng = random.Random(SEED)
     lists = [make(rng) for _ in range(LISTS)]
     expected = list(answers(rng, lists))
-    scratch = os.path.join(ROOT, "target", "definition")
-    listed = {line.split(":")[0]: line for line in open(os.path.join(ROOT, "crates.txt")) if ":" in line and not line.startswith("#")}
-    names = list(reached("definition", listed))
-    shutil.rmtree(os.path.join(scratch, "crates"), ignore_errors=True)
-    os.makedirs(os.path.join(scratch, "target"), exist_ok=True)
-    for name in names:
-        shutil.copytree(os.path.join(ROOT, "crates", name), os.path.join(scratch, "crates", name))
-    proved = [os.path.join(ROOT, "target", kept) for kept in ("rlib", "stamp")]
-    if all(map(os.path.isdir, proved)):  # what is proved there and has not changed is not proved again
-        subprocess.run(["cp", "-au", *proved, os.path.join(scratch, "target")], check=True)
-    open(os.path.join(scratch, "crates.txt"), "w").write("".join(listed[name] for name in names) + "run: " + " ".join(names) + "\n")
-    folder = os.path.join(scratch, "crates", "run")
-    os.makedirs(os.path.join(folder, "src"), exist_ok=True)
-    os.makedirs(os.path.join(folder, "specs"), exist_ok=True)
-    open(os.path.join(folder, "src", "lib.rt"), "w").write("// scratch\n")
+    # outside the repository, where `rt ci` would find files of no crate
+    with tempfile.TemporaryDirectory() as scratch:
+        compare(scratch_crate(scratch), lists, expected)
+
+
+def compare(folder, lists, expected):
     compared = marks = refused = 0
     for at in range(0, LISTS, BATCH):
         some, said = lists[at:at + BATCH], expected[at:at + BATCH]
-        open(os.path.join(folder, "specs", "Lib.antt"), "w").write("pub mod Run\n")
-        open(os.path.join(folder, "specs", "Run.antt"), "w").write(module(some, said))
-        run = subprocess.run(["rt", "check", "run"], cwd=scratch, text=True, capture_output=True)
+        write(os.path.join(folder, "proofs", "Run.antt"), module(some, said))
+        run = subprocess.run(["rt", "check"], cwd=folder, text=True, capture_output=True)
         if run.returncode:
             print(run.stdout[-3000:], run.stderr[-3000:])
             sys.exit("lists %d to %d: the definition and the Rust differ, or the check could not be made" % (at, at + len(some)))

@@ -23,14 +23,14 @@ ROOT = os.path.dirname(os.path.dirname(os.path.abspath(__file__)))
 
 # Theorems that only documents name, by module of proofs/: they are promises, and their statements count as contracts.
 PROMISES = {
-    "definition.Demand3": "first-half second-half",  # demand 3
-    "format_source.Demand3": "first-half-source second-half-source second-half-beside",  # the same of the shebang wrapper
+    "definition.Demand3": "first_half second_half",  # demand 3
+    "format_source.Demand3": "first_half_source second_half_source second_half_beside",  # the same of the shebang wrapper
     "definition.Cases": "paper more",  # worked cases, by computation
-    "definition.Setters": "sets-*",  # a setter changes its field and no other
+    "definition.Setters": "sets_*",  # a setter changes its field and no other
     "*.Value": "little_endian_value",  # four bytes tell their number
     "piece_reader.Counting": "counted-fit",  # a slice for as many pieces as were counted has room for them
-    "sheet.Written": "written-reads line-written",  # a line of a sheet and its row
-    "*.Reported": "reported-injective",  # no two answers have the same report
+    "sheet.Written": "written-reads line_written",  # a line of a sheet and its row
+    "*.Reported": "reported_injective",  # no two answers have the same report
 }
 
 NAME = r"(?:«[^»\n]*»|[^\s(){}.;,@\"«»]+)"
@@ -40,8 +40,10 @@ SIGNATURE = re.compile(r"%s(%s)(?: \{[^}:]*\})?(?: :(?:\s|$)|$)" % (MARKS, NAME)
 TYPE = re.compile(r"%s(?:data|record) (%s)" % (MARKS, NAME))
 LINE = re.compile(r"^( *)(?:module \S+(.*?)\bwhere[ \t]*|(\S[^\n]*))$", re.M | re.S)
 USE = re.compile(r"^(?:(?:unfoldable|pub|ghost) )*use\s+([^\s{;]+?)(?:(?:\.|::)\{([^}]*)\})?(?:\s+as\s+([^\s;]+))?;?[ \t]*$", re.M)
-CONTRACT = re.compile(r"\b(?:requires|ensures)\b(?:\s+\w+)?\s*\{")
-HOME = re.compile(r"Rattle·(\w+?)(?:·specs|·proofs)?\.(specs|proofs)\.(.+)")
+CONTRACT = re.compile(r"\b(?:requires|ensures)\b\*?(?:\s+\w+)?\s*\{")
+IN_CLAUSES = re.compile(r"[^\x00-\x7f]|\b(?:requires|ensures|result)\b|\.(?:now|old|new)\b")
+TACTIC = re.compile(r"#!?\[tactic\(.*?\)\]", re.S)
+HOME = re.compile(r"Rattle\.(\w+)\.(specs|proofs)\.(.+)")
 BRACKETS = list("(){};,@")
 NO_BINDER = ["", ":", "=", "λ", "let", "in"]
 
@@ -60,13 +62,13 @@ def without_comments(text, code):
 
 
 def unmarked(name):
-    """«x» is x; a name with a `_` between « and » is no operator, and keeps the marks."""
-    return name[1:-1] if name.startswith("«") and "_" not in name else name
+    """«x» is x."""
+    return name[1:-1] if name.startswith("«") else name
 
 
 def spellings(name):
-    """How a text may write a name: an operator by its parts too, `_≡_` by `≡`."""
-    return {name} if name.startswith("«") else {name} | {part for part in name.split("_") if part}
+    """How a text may write a name: an operator by its parts too, `◌≡◌` by `≡`."""
+    return {name} | {part for part in name.split("◌") if part}
 
 
 def uses(text):
@@ -95,8 +97,12 @@ class Declared:
         self.parameters, self.needs = parameters, set()
 
     def names(self):
-        constructors = re.findall(r"^ +(%s) :" % NAME, self.text, re.M) if re.match(MARKS + "data ", self.text.strip()) else []
-        return [self.name] + [unmarked(name) for name in constructors]
+        is_data = re.match(MARKS + "data ", self.text.strip())
+        lines = re.findall(r"^ +((?:%s )+):" % NAME, self.text, re.M) if is_data else []
+        return [self.name] + [unmarked(name) for line in lines for name in line.split()]
+
+    def is_public(self):
+        return "pub" in re.match(MARKS, self.text.strip()).group().split()
 
     def statement(self):
         """The signature, without the clauses; of a type, all of it."""
@@ -114,7 +120,7 @@ class File:
             self.text = without_comments(opened.read(), self.code)
         self.imports = [found for use in USE.finditer(self.text) for found in imported(use, self)]
         self.body = USE.sub(blank, self.text)
-        self.contracts = "\n".join(contracts(self.body)) if self.code else ""
+        self.contracts = "\n".join([*contracts(self.body), *lemmas_used(self)]) if self.code else ""
         self.edits = "\n".join(edits(self))
         self.declared = [] if self.code else declarations(self)
         self.scope, self.modules = {}, {}
@@ -144,11 +150,20 @@ def imported(use, file):
 
 
 def edits(file):
-    """What the must-fail edits of its crate put into a file of antt, or into the contracts of a file of code."""
+    """What the must-fail edits of its crate put into a file of antt, or into the clauses of a file of code."""
     for edit in pathlib.Path(ROOT, "crates", file.crate, "must-fail").glob("*.edit"):
         lines = edit.read_text(encoding="utf-8").split("\n")
         if "file: " + file.path.split("/", 2)[2] in lines:
-            yield from (line[5:] for line in lines if line.startswith("new: ") and ("⌜" in line or not file.code))
+            new = (line[5:] for line in lines if line.startswith("new: "))
+            yield from (line for line in new if IN_CLAUSES.search(line) or not file.code)
+
+
+def lemmas_used(file):
+    """The lemmas and definitions that its tactics name, as `using(crate::proofs::Runs::ends)`."""
+    for tactic in TACTIC.finditer(file.body):
+        for crate, place, rest in re.findall(r"\b(\w+)::(proofs|specs)::([\w:]+)", tactic.group()):
+            home = file.crate if crate == "crate" else crate
+            yield ".".join(["Rattle", home, place, *rest.split("::")])
 
 
 def contracts(code):
@@ -245,13 +260,22 @@ def promised(file):
     return [d for d in file.declared if file.place == "proofs" and any(fnmatch.fnmatchcase(d.name, name) for name in names)]
 
 
+def proving(file):
+    """What the check looks for in the proof of a function: its answers and invariants, or the end of a walk."""
+    last = file.module.rsplit(".", 1)[-1]
+    if file.place != "proofs" or last == file.module:
+        return []
+    if last == "Proof":
+        return [d for d in file.declared if d.name.endswith("-spec")]
+    return [d for d in file.declared if d.is_public()] if last in ("Answers", "Invariants") else []
+
+
 def idle_declarations(files, meant):
     promises = [d for file in files for d in promised(file)]
     said = set().union(*(meant(words, file) for file in files for words in uses(file.contracts + "\n" + file.edits)))
     said |= set().union(*(meant(words, d.file) for d in promises for words in uses(d.parameters + d.statement())))
     specs = reached(said, lambda declared: declared.file.place == "specs")
-    proofs = [d for file in files for d in file.declared if file.module.endswith("Proof") and d.name.endswith("-spec")]
-    needed = reached(list(said) + promises + proofs)
+    needed = reached(list(said) + promises + [d for file in files for d in proving(file)])
     everyone = [d for file in files for d in file.declared]
     cited = set().union(*(d.needs for d in everyone))
     for one in everyone:
@@ -266,11 +290,12 @@ def idle_dependencies(files):
     with open(os.path.join(ROOT, "crates.txt"), encoding="utf-8") as opened:
         lines = opened.read().split("\n")
     for number, line in enumerate(lines, 1):
-        crate, _, names = line.split("#")[0].partition(":")
-        text = "\n".join(file.text for file in files if file.crate == crate.strip())
+        listed, _, names = line.split("#")[0].partition(":")
+        crate = next(iter(listed.split()), "")
+        text = "\n".join(file.text for file in files if file.crate == crate)
         for name in names.split():
-            if not re.search(r"\b%s::|Rattle·%s[.·]" % (name, name), text):
-                yield crate.strip(), "crates.txt", number, "`%s`: no file of `%s` names it" % (name, crate.strip())
+            if not re.search(r"\b%s::|\bRattle\.%s\." % (name, name), text):
+                yield crate, "crates.txt", number, "`%s`: no file of `%s` names it" % (name, crate)
 
 
 def lost_promises(files):

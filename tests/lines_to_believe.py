@@ -20,7 +20,7 @@ NAMED = {
     "lookahead": "sig_measure group_measure should_break_sig should_break_list block_is_single_line"
                  " next_has_comment".split(),
 }
-DEMAND_3 = ["first-half", "second-half", "first-half-source", "second-half-source", "second-half-beside"]
+DEMAND_3 = "first_half second_half first_half_source second_half_source second_half_beside".split()
 
 
 def public_contracts(file):
@@ -45,7 +45,8 @@ def believed(files, meant):
 def counts():
     """Of each file, in the order of crates.txt: its lines, those that say something, its path."""
     files = dead.all_files()
-    crates = [line.split(":")[0] for line in open(os.path.join(dead.ROOT, "crates.txt"), encoding="utf-8")]
+    with open(os.path.join(dead.ROOT, "crates.txt"), encoding="utf-8") as listed:
+        crates = [re.match(r"\w*", line).group() for line in listed]
     found = believed(files, dead.link(files))
     for file in sorted(found, key=lambda file: (crates.index(file.crate), file.path)):
         lines = open(os.path.join(dead.ROOT, file.path), encoding="utf-8").read().splitlines()

@@ -1,4 +1,6 @@
 // The layout of rl source text (docs/SPECIFICATION.md): token rows in, text out.
+#![tactic(auto)]
+
 ghost use Rattle.std.specs.Prelude.{true, ◌≡◌, ◌≤◌, length};
 ghost use Rattle.rows.specs.Options;
 ghost use Rattle.rows.specs.Checks.{most_row_bytes, GoodRows};

@@ -5,7 +5,7 @@ use mathlib.Core.Option.{none, some}
 use mathlib.Core.Path.{◌≡◌, refl, sym, ap, ◌∙◌}
 use Prim.Native.Nat.{ℕ, ◌+◌, ◌-◌, ◌/◌, ◌≤◌, ◌<◌}
 use native.Mathlib.Omega.{arith}
-use borrow.Author.Tests.{lt-ltb, le-ltb}
+use borrow.Author.Tests.{lt-ltb}
 use lib.Dec.{eqb, ltb}
 use lib.ListN.{length, take, drop}
 use lib.Seq.{length-take-le}
@@ -35,32 +35,6 @@ pub record FastBracesSoFar (rows : List ℕ) (from : FastBraces) (l : List ℕ) 
   pub far : from.at ≤ b.at
   pub only : only_tokens (rows_of (drop b.at rows)) ≡ true
   pub done : FastBracesLaidOut rows from l m b
-
-after_none : {f : Formatter} {b : FastBraces} (close : Bool) → BeforeFastBraces f b → after_fast_braces false close b f ≡ f
-after_none close σ = rw (← σ.prev, ← σ.depth, ← σ.closed)
-
-pub starts : {rows l : List ℕ} {b : FastBraces} → b.at ≤ length rows → b.len ≤ length l → only_tokens (rows_of (drop b.at rows)) ≡ true → FastBracesSoFar rows b l b l
-starts {rows} {l} {b} h g o =
-    record {
-      far = omega arith;
-      only = o;
-      done =
-          record {
-            whole = omega arith;
-            within = h;
-            last = λ e. e;
-            size = refl;
-            far = omega arith;
-            room = g;
-            rest = refl;
-            deep = omega arith;
-            close = false;
-            lays = λ text opts f c i σ.
-                let e : ltb b.at b.at ≡ false = le-ltb b.at b.at (omega arith) in
-                let z : i + (b.at - b.at) / 16 ≡ i = omega arith in
-                rw (e, z, after_none false σ);
-          };
-    }
 
 -- ---- one brace
 
@@ -144,13 +118,6 @@ module _ {rows l m : List ℕ} {from b : FastBraces} (α : FastBracesSoFar rows 
       → Writes m b.len (closer_bytes b.prev) m' r.len × (r ≡ after_closer b r.len) → FastBracesSoFar rows from l r m'
   goes_close row {r} {m'} e k d f w =
       rw w.1 (more (rw e at k) (close_turns b r.len d) refl (omega arith) (omega arith) (closer-fits f) w.0)
-
--- At the end, by the kind that the code found last.
-pub ends :
-    {rows l m : List ℕ} {at len prev before depth : ℕ} {closed : Bool} {r : FastBraces} → prev ≡ before
-    → FastBracesSoFar rows (record { at = at; len = len; prev = prev; depth = depth; closed = closed }) l r m
-    → FastBracesLaidOut rows (record { at = at; len = len; prev = before; depth = depth; closed = closed }) l m r
-ends e α = rw e at α.done
 
 -- ---- where they begin
 

@@ -1,6 +1,8 @@
 // The formatter of format.rs: its state and its methods, under the names that they have there. A method takes
 // the state by value and returns it. The output, the broken-group stack, the rows and the text are lent to
 // it.
+#![tactic(auto)]
+
 ghost use Rattle.std.specs.Prelude.{List, ◌≡◌, ℕ, ◌+◌, ◌*◌, ◌≤◌, ◌<◌, length};
 ghost use Rattle.shared.specs.Numbers.{most32};
 ghost use Rattle.definition.specs.Emit.{is_at};

@@ -19,8 +19,8 @@ use Rattle.pieces.proofs.Resume.{flushed, starts_after}
 
 -- ---- what a text leaves open at its end
 
---     clear           nothing
---     shut            a lexeme that takes no more
+--     clear            nothing
+--     shut             a lexeme that takes no more
 --     after_word       one that takes word bytes
 --     after_number     one begun with a digit, which takes a dot before a digit too
 --     after_operator   one that takes operator bytes

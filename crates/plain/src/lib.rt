@@ -1,6 +1,8 @@
 // The plain mark (specification, 'The plain mark'), in one pass over the rows, which looks for bad rows too.
 // Nothing is kept of the rows that were passed: a clause that asks for them looks back, over as many rows as
 // lie between.
+#![tactic(auto)]
+
 ghost use Rattle.std.specs.Prelude.{true, ◌≡◌, ◌+◌, ◌≤◌, length};
 ghost use Rattle.rows.specs.Checks.{GoodRows};
 ghost use Rattle.rows.specs.Row.{row_size};

@@ -1,20 +1,38 @@
 // Lays out stored lists and writes each answer with the output after it.
 // tests/make_replay_layout.py makes them and, from format.rs and from the specification, what is expected.
-ghost use Rattle.std.specs.Prelude.{◌≡◌, ◌≤◌, length};
+#![tactic(auto)]
+
+ghost use Rattle.std.specs.Prelude.{◌≡◌, ◌≤◌, length, IfOk};
 
 use format_source::format_source_with_shebang;
 use format_tokens::{Answer, format_tokens_with};
-use libc::{STDIN_FILENO, STDOUT_FILENO};
 use rows::ROW_BYTES;
 use shared::numbers::put_u32;
 use shared::refusals;
+use std::io;
+use std::io::Read;
 
-fn main() {
+fn main(rt: HostRuntime) -> io::Result<()> {
     let mut input = buffer();
     let mut rows = buffer();
-    let mut out = io::large_buffer();
-    let size = io::read_full(STDIN_FILENO, &mut input);
-    replay(&input[..size], &mut rows, &mut out);
+    let mut out = [0u8; 65536];
+    let size = read_full(&mut rt.reader(), &mut input)?;
+    replay(&rt, &input[..size], &mut rows, &mut out)
+}
+
+// Reads until `buf` is full or the input ends, and returns how many bytes were read.
+fn read_full(reader: &mut impl Read, buf: &mut [u8]) -> io::Result<usize>
+    ensures { IfOk result (λ n. n ≤ length buf.new) }
+{
+    let mut size = 0;
+    while size < buf.len() {
+        let read = reader.read(&mut buf[size..])?;
+        if read == 0 {
+            break;
+        }
+        size += read;
+    }
+    Ok(size)
 }
 
 // Room for 65,536 rows, one more than a layout takes.
@@ -24,31 +42,38 @@ fn buffer() -> [u8; 1048576]
     [0; 1048576]
 }
 
-fn replay(input: &[u8], rows: &mut [u8], out: &mut [u8]) {
+fn replay(rt: &impl Print, input: &[u8], rows: &mut [u8], out: &mut [u8]) -> io::Result<()> {
     let mut at = 0;
     while at < input.len() {
-        let next = replay_case(input, at, rows, out);
+        let next = replay_case(rt, input, at, rows, out)?;
         if next <= at {
-            return;
+            break;
         }
         at = next;
     }
+    Ok(())
 }
 
 // Replays the case at `at`, and returns where the next case stands, or 0 where no whole case stands at
 // `at`. A case is a letter for the call (L `format_tokens_with`, S `format_source_with_shebang`), the
 // numbers of its head, its rows, its text, its source and a line feed. Numbers are decimal, each with one
 // byte after it.
-fn replay_case(input: &[u8], at: usize, rows: &mut [u8], out: &mut [u8]) -> usize {
+fn replay_case(
+    rt: &impl Print,
+    input: &[u8],
+    at: usize,
+    rows: &mut [u8],
+    out: &mut [u8],
+) -> io::Result<usize> {
     if input.len() < at {
-        return 0;
+        return Ok(0);
     }
     if input.len() - at < 2 {
-        return 0;
+        return Ok(0);
     }
     let head = head_at(input, input[at], at + 2);
     let text_at = read_rows(input, head, rows);
-    replay_list(input, text_at, head, rows, out)
+    replay_list(rt, input, text_at, head, rows, out)
 }
 
 // The call; the options; the sizes of the output and of the rows, in bytes; how many rows stand in the
@@ -163,45 +188,60 @@ fn repeat(bytes: &mut [u8], period: usize) {
 }
 
 // Lays out the rows with the text and the source that stand at `at`, and returns where the next case stands.
-fn replay_list(input: &[u8], at: usize, head: Head, rows: &[u8], out: &mut [u8]) -> usize {
+fn replay_list(
+    rt: &impl Print,
+    input: &[u8],
+    at: usize,
+    head: Head,
+    rows: &[u8],
+    out: &mut [u8],
+) -> io::Result<usize> {
     let text_size = head.text_size;
     let source_size = head.source_size;
     if input.len() < at {
-        return 0;
+        return Ok(0);
     }
     if input.len() - at < text_size {
-        return 0;
+        return Ok(0);
     }
     let source_at = at + text_size;
     if input.len() - source_at <= source_size {
-        return 0;
+        return Ok(0);
     }
     let end = source_at + source_size;
     replay_call(
+        rt,
         head,
         &input[source_at..end],
         rows,
         &input[at..source_at],
         out,
-    );
-    end + 1
+    )?;
+    Ok(end + 1)
 }
 
 // The output is filled before the call, so that what is unchanged can be told from what is zeroed.
-fn replay_call(head: Head, source: &[u8], rows: &[u8], text: &[u8], out: &mut [u8]) {
+fn replay_call(
+    rt: &impl Print,
+    head: Head,
+    source: &[u8],
+    rows: &[u8],
+    text: &[u8],
+    out: &mut [u8],
+) -> io::Result<()> {
     let row_bytes = head.row_bytes;
     let out_size = head.out_size;
     if rows.len() < row_bytes {
-        return;
+        return Ok(());
     }
     if out.len() < out_size {
-        return;
+        return Ok(());
     }
     fill(&mut out[..out_size]);
     let answer = call(head, source, &rows[..row_bytes], text, &mut out[..out_size]);
-    print_answer(answer);
-    io::write_all(STDOUT_FILENO, &out[..out_size]);
-    io::write_all(STDOUT_FILENO, b"\n");
+    print_answer(rt, answer)?;
+    rt.write_all(&out[..out_size])?;
+    println!(rt)
 }
 
 fn call(head: Head, source: &[u8], rows: &[u8], text: &[u8], out: &mut [u8]) -> Answer {
@@ -225,31 +265,36 @@ fn fill(a: &mut [u8]) {
     }
 }
 
-fn print_answer(answer: Answer) {
+fn print_answer(rt: &impl Print, answer: Answer) -> io::Result<()> {
     match answer {
         Answer::Text {
             length,
             commas,
             plain,
-        } => print_report(0, length as u64, commas as u64, plain as u64),
-        Answer::BadOption { position } => print_report(refusals::OPTION, position as u64, 0, 0),
-        Answer::RaggedRows => print_report(refusals::RAGGED_ROWS, 0, 0, 0),
-        Answer::BadRow { row } => print_report(refusals::BAD_ROW, row as u64, 0, 0),
-        Answer::Deep { index } => print_report(refusals::DEEP, index as u64, 0, 0),
-        Answer::Full { index } => print_report(refusals::FULL, index as u64, 0, 0),
+        } => print_report(rt, 0, length as u64, commas as u64, plain as u64),
+        Answer::BadOption { position } => print_report(rt, refusals::OPTION, position as u64, 0, 0),
+        Answer::RaggedRows => print_report(rt, refusals::RAGGED_ROWS, 0, 0, 0),
+        Answer::BadRow { row } => print_report(rt, refusals::BAD_ROW, row as u64, 0, 0),
+        Answer::Deep { index } => print_report(rt, refusals::DEEP, index as u64, 0, 0),
+        Answer::Full { index } => print_report(rt, refusals::FULL, index as u64, 0, 0),
     }
 }
 
 // Writes the refusal and the report's three numbers.
-fn print_report(refusal: u32, first: u64, second: u64, third: u64) {
-    io::print_decimal(STDOUT_FILENO, refusal as u64);
-    print_number(first);
-    print_number(second);
-    print_number(third);
-    io::write_all(STDOUT_FILENO, b"\n");
+fn print_report(
+    rt: &impl Print,
+    refusal: u32,
+    first: u64,
+    second: u64,
+    third: u64,
+) -> io::Result<()> {
+    print!(rt; "{refusal}")?;
+    print_number(rt, first)?;
+    print_number(rt, second)?;
+    print_number(rt, third)?;
+    println!(rt)
 }
 
-fn print_number(n: u64) {
-    io::write_all(STDOUT_FILENO, b" ");
-    io::print_decimal(STDOUT_FILENO, n);
+fn print_number(rt: &impl Print, n: u64) -> io::Result<()> {
+    print!(rt; " {n}")
 }

@@ -1,46 +1,65 @@
 // Reads stored texts back and writes each answer, the count of pieces and the slice after the call.
 // tests/make_replay_pieces.py makes the texts and, by its own reading of the specification, what is expected.
-ghost use Rattle.std.specs.Prelude.{◌<◌};
+#![tactic(auto)]
 
-use libc::{STDIN_FILENO, STDOUT_FILENO};
+ghost use Rattle.std.specs.Prelude.{◌<◌, ◌≤◌, length, IfOk};
+
 use shared::refusals;
+use std::io;
+use std::io::Read;
 
-fn main() {
-    let mut input = io::large_buffer();
-    let size = io::read_full(STDIN_FILENO, &mut input);
-    replay(&input[..size]);
+fn main(rt: HostRuntime) -> io::Result<()> {
+    let mut input = [0u8; 65536];
+    let size = read_full(&mut rt.reader(), &mut input)?;
+    replay(&rt, &input[..size])
+}
+
+// Reads until `buf` is full or the input ends, and returns how many bytes were read.
+fn read_full(reader: &mut impl Read, buf: &mut [u8]) -> io::Result<usize>
+    ensures { IfOk result (λ n. n ≤ length buf.new) }
+{
+    let mut size = 0;
+    while size < buf.len() {
+        let read = reader.read(&mut buf[size..])?;
+        if read == 0 {
+            break;
+        }
+        size += read;
+    }
+    Ok(size)
 }
 
 // Replays the cases one by one, up to the first that is not whole.
-fn replay(input: &[u8]) {
+fn replay(rt: &impl Print, input: &[u8]) -> io::Result<()> {
     let mut at = 0;
     while at < input.len() {
-        let next = replay_case(input, at);
+        let next = replay_case(rt, input, at)?;
         if next <= at {
-            return;
+            break;
         }
         at = next;
     }
+    Ok(())
 }
 
 // A case is two lines: how many numbers the slice has and how many bytes the text, three digits each; then
 // the text. Reads the case at `at`, and answers where the next one stands, or 0 where no whole case stands.
-fn replay_case(input: &[u8], at: usize) -> usize {
+fn replay_case(rt: &impl Print, input: &[u8], at: usize) -> io::Result<usize> {
     if input.len() < at {
-        return 0;
+        return Ok(0);
     }
     let rest = &input[at..];
     if rest.len() < 8 {
-        return 0;
+        return Ok(0);
     }
     let slots = number(rest[0], rest[1], rest[2]);
     let length = number(rest[4], rest[5], rest[6]);
     let end = 8 + length;
     if rest.len() < end {
-        return 0;
+        return Ok(0);
     }
-    read_back(&rest[8..end], slots);
-    at + end + 1
+    read_back(rt, &rest[8..end], slots)?;
+    Ok(at + end + 1)
 }
 
 // The number of three digits.
@@ -62,50 +81,50 @@ fn digit(b: u8) -> usize
 
 // Reads the text into a slice of so many numbers, at most 64. It is filled with 7 before the call, so that
 // what is unchanged can be told from what is zeroed.
-fn read_back(text: &[u8], slots: usize) {
+fn read_back(rt: &impl Print, text: &[u8], slots: usize) -> io::Result<()> {
     let mut numbers = [7u32; 64];
-    let space: &mut [u32] = &mut numbers;
-    if slots <= space.len() {
-        read_into(text, &mut space[..slots]);
+    if slots <= numbers.len() {
+        read_into(rt, text, &mut numbers[..slots])?;
     }
+    Ok(())
 }
 
 // Writes a line: the answer of `read_pieces`, that of `count_pieces`, and the slice after the call.
-fn read_into(text: &[u8], numbers: &mut [u32]) {
-    print_answer(pieces::read_pieces(text, numbers));
-    io::write_all(STDOUT_FILENO, b", ");
-    print_answer(piece_reader::count_pieces(text));
-    io::write_all(STDOUT_FILENO, b":");
-    print_slots(numbers);
-    io::write_all(STDOUT_FILENO, b"\n");
+fn read_into(rt: &impl Print, text: &[u8], numbers: &mut [u32]) -> io::Result<()> {
+    print_answer(rt, pieces::read_pieces(text, numbers))?;
+    print!(rt; ", ")?;
+    print_answer(rt, piece_reader::count_pieces(text))?;
+    print!(rt; ":")?;
+    print_slots(rt, numbers)?;
+    println!(rt)
 }
 
 // Writes an answer as its refusal, or 0, and its number.
-fn print_answer(answer: pieces::Answer) {
+fn print_answer(rt: &impl Print, answer: pieces::Answer) -> io::Result<()> {
     match answer {
-        pieces::Answer::Pieces { count } => print_pair(0, count as u64),
-        pieces::Answer::Unreadable { index } => print_pair(refusals::UNREADABLE, index as u64),
-        pieces::Answer::PiecesFull { start } => print_pair(refusals::PIECES_FULL, start as u64),
+        pieces::Answer::Pieces { count } => print_pair(rt, 0, count as u64),
+        pieces::Answer::Unreadable { index } => print_pair(rt, refusals::UNREADABLE, index as u64),
+        pieces::Answer::PiecesFull { start } => print_pair(rt, refusals::PIECES_FULL, start as u64),
     }
 }
 
 // Writes two numbers with a space between.
-fn print_pair(refusal: u32, value: u64) {
-    io::print_decimal(STDOUT_FILENO, refusal as u64);
-    print_number(value);
+fn print_pair(rt: &impl Print, refusal: u32, value: u64) -> io::Result<()> {
+    print!(rt; "{refusal}")?;
+    print_number(rt, value)
 }
 
 // Writes each number of the slice after a space.
-fn print_slots(numbers: &[u32]) {
-    for i in 0..numbers.len() {
-        print_number(wide(numbers[i]));
+fn print_slots(rt: &impl Print, numbers: &[u32]) -> io::Result<()> {
+    for n in numbers {
+        print_number(rt, wide(*n))?;
     }
+    Ok(())
 }
 
 // Writes a space and the number.
-fn print_number(n: u64) {
-    io::write_all(STDOUT_FILENO, b" ");
-    io::print_decimal(STDOUT_FILENO, n);
+fn print_number(rt: &impl Print, n: u64) -> io::Result<()> {
+    print!(rt; " {n}")
 }
 
 // The same number in 64 bits.

@@ -1,6 +1,5 @@
 -- `formatter::Formatter::after_fast_braces` meets its contract. Assumes nothing.
 use mathlib.Core.Path.{refl}
-use borrow.Author.Rules.{rules}
 use Rattle.formatter.proofs.Formatter.after_fast_braces.Goals as goal
 
 pub returns : goal.returns

@@ -1,6 +1,5 @@
 -- `formatter::Formatter::after_fast_tokens` meets its contract. Assumes nothing.
 use mathlib.Core.Path.{refl}
-use borrow.Author.Rules.{rules}
 use Rattle.formatter.proofs.Formatter.after_fast_tokens.Goals as goal
 
 pub returns : goal.returns

@@ -1,5 +1,4 @@
 -- `formatter::Formatter::at_signature` meets its contract. Assumes nothing.
-use borrow.Author.Rules.{rules}
 use borrow.Author.Tests.{eq-eqb, ne_eqb}
 use Rattle.formatter.proofs.Does.{told}
 use Rattle.formatter.proofs.Groups.{outside, inside}

@@ -1,5 +1,4 @@
 -- `formatter::Formatter::breaks_comma` meets its contract. Assumes nothing.
-use borrow.Author.Rules.{rules}
 use Rattle.formatter.proofs.Does.{told}
 use Rattle.formatter.proofs.Formatter.breaks_comma.Goals as goal
 

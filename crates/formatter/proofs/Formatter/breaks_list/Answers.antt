@@ -1,5 +1,4 @@
 -- `formatter::Formatter::breaks_list` meets its contract. Assumes nothing.
-use borrow.Author.Rules.{rules}
 use Rattle.formatter.proofs.Does.{told}
 use Rattle.formatter.proofs.Groups.{outside, inside}
 use Rattle.formatter.proofs.Formatter.breaks_list.Goals as goal

@@ -1,6 +1,5 @@
 -- `formatter::Formatter::close_group` meets its contract. Assumes nothing.
 use mathlib.Core.Path.{refl, sym}
-use borrow.Author.Rules.{rules}
 use Rattle.sink.proofs.Sink.{nothing}
 use Rattle.formatter.proofs.Does.{seq, updated}
 use Rattle.formatter.proofs.Formatter.close_group.Goals as goal

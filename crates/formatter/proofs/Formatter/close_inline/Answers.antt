@@ -1,6 +1,5 @@
 -- `formatter::Formatter::close_inline` meets its contract. Assumes nothing.
 use mathlib.Core.Path.{refl, sym}
-use borrow.Author.Rules.{rules}
 use Rattle.definition.specs.Act.{run}
 use Rattle.definition.proofs.Said.{said}
 use Rattle.formatter.specs.Parts.{inline_close_size}

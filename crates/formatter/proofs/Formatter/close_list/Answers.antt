@@ -1,6 +1,5 @@
 -- `formatter::Formatter::close_list` meets its contract. Assumes nothing.
 use mathlib.Core.Path.{sym}
-use borrow.Author.Rules.{rules}
 use Rattle.definition.specs.Emit.{on_new_line}
 use Rattle.formatter.specs.CodeState.{options_of}
 use Rattle.formatter.proofs.Does.{closing}

@@ -1,6 +1,5 @@
 -- `formatter::Formatter::close_signature` meets its contract. Assumes nothing.
 use mathlib.Core.Path.{refl, sym}
-use borrow.Author.Rules.{rules}
 use Rattle.definition.specs.Act.{run}
 use Rattle.definition.proofs.Said.{said}
 use Rattle.formatter.proofs.Does.{does}

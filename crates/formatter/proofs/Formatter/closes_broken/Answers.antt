@@ -1,5 +1,4 @@
 -- `formatter::Formatter::closes_broken` meets its contract. Assumes nothing.
-use borrow.Author.Rules.{rules}
 use Rattle.formatter.proofs.Does.{told}
 use Rattle.formatter.proofs.Formatter.closes_broken.Goals as goal
 

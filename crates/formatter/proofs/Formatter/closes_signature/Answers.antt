@@ -1,5 +1,4 @@
 -- `formatter::Formatter::closes_signature` meets its contract. Assumes nothing.
-use borrow.Author.Rules.{rules}
 use Rattle.formatter.proofs.Groups.{below_two}
 use Rattle.formatter.proofs.Formatter.closes_signature.Goals as goal
 

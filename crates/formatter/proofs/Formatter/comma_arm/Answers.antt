@@ -1,6 +1,5 @@
 -- `formatter::Formatter::comma_arm` meets its contract. Assumes nothing.
 use mathlib.Core.Path.{refl, sym}
-use borrow.Author.Rules.{rules}
 use Rattle.definition.specs.Act.{run}
 use Rattle.definition.specs.Arms.{comma_arm}
 use Rattle.definition.proofs.Said.{said}

@@ -1,6 +1,5 @@
 -- `formatter::Formatter::else_arm` meets its contract. Assumes nothing.
 use mathlib.Core.Path.{refl}
-use borrow.Author.Rules.{rules}
 use Rattle.definition.specs.Arms.{else_arm}
 use Rattle.definition.specs.Act.{run}
 use Rattle.definition.proofs.Said.{said}

@@ -1,5 +1,4 @@
 -- `formatter::Formatter::else_on_new_line` meets its contract. Assumes nothing.
-use borrow.Author.Rules.{rules}
 use Rattle.formatter.proofs.Lexemes.{some_depth, no_depth}
 use Rattle.formatter.proofs.Does.{told}
 use Rattle.formatter.proofs.Formatter.else_on_new_line.Goals as goal

@@ -1,6 +1,5 @@
 -- `formatter::Formatter::emit_token_text` meets its contract. Assumes nothing.
 use mathlib.Core.Path.{refl}
-use borrow.Author.Rules.{rules}
 use Rattle.sink.specs.Tail.{tail_bytes}
 use Rattle.formatter.specs.CodeState.{options_of}
 use Rattle.formatter.specs.Token.{bare_token, lexeme_of}

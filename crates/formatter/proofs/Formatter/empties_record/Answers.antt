@@ -1,6 +1,5 @@
 -- `formatter::Formatter::empties_record` meets its contract. Assumes nothing.
 use Prim.Native.Nat.{◌+◌}
-use borrow.Author.Rules.{rules}
 use Rattle.rows.specs.Kinds.{RightBrace}
 use Rattle.lookahead.specs.Measure.{next_is}
 use Rattle.formatter.proofs.Looked.{looked_after, part_is}

@@ -1,6 +1,5 @@
 -- `formatter::Formatter::empty_record` meets its contract. Assumes nothing.
 use mathlib.Core.Path.{refl, sym}
-use borrow.Author.Rules.{rules}
 use Rattle.shared.specs.Bytes.{bytes}
 use Rattle.rows.specs.Kinds.{LeftBrace}
 use Rattle.definition.specs.Act.{run}

@@ -1,5 +1,4 @@
 -- `formatter::Formatter::fast_kinds` meets its contract. Assumes nothing.
-use borrow.Author.Rules.{rules}
 use Rattle.formatter.proofs.Formatter.fast_kinds.Goals as goal
 
 pub returns : goal.returns

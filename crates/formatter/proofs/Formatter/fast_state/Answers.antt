@@ -1,5 +1,4 @@
 -- `formatter::Formatter::fast_state` meets its contract. Assumes nothing.
-use borrow.Author.Rules.{rules}
 use Rattle.formatter.proofs.Formatter.fast_state.Goals as goal
 
 pub returns : goal.returns

@@ -1,6 +1,5 @@
 -- `formatter::Formatter::gap_before` meets its contract. Assumes nothing.
 use native.Mathlib.Omega.{arith}
-use borrow.Author.Rules.{rules}
 use Rattle.spaces.proofs.Pairs.{spaces_are, spaces-few}
 use Rattle.formatter.proofs.Formatter.gap_before.Goals as goal
 

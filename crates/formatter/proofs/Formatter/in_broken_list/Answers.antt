@@ -2,7 +2,6 @@
 use mathlib.Core.Path.{sym}
 use Prim.Native.Nat.{◌-◌}
 use native.Mathlib.Omega.{arith}
-use borrow.Author.Rules.{rules}
 use Rattle.formatter.proofs.Stack.{top_is, top_isnt}
 use Rattle.formatter.proofs.Formatter.in_broken_list.Goals as goal
 

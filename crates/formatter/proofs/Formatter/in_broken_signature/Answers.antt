@@ -1,5 +1,4 @@
 -- `formatter::Formatter::in_broken_signature` meets its contract. Assumes nothing.
-use borrow.Author.Rules.{rules}
 use Rattle.formatter.proofs.Formatter.in_broken_signature.Goals as goal
 
 pub returns-in-At : goal.returns-in-At

@@ -1,6 +1,5 @@
 -- `formatter::Formatter::indent_or_space` meets its contract. Assumes nothing.
 use native.Mathlib.Omega.{arith}
-use borrow.Author.Rules.{rules}
 use Rattle.formatter.proofs.Formatter.indent_or_space.Goals as goal
 
 pub returns-then-self : goal.returns-then-self

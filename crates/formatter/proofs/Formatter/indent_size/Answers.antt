@@ -1,7 +1,6 @@
 -- `formatter::Formatter::indent_size` meets its contract. Assumes nothing.
 use mathlib.Core.Path.{refl}
 use native.Mathlib.Omega.{arith}
-use borrow.Author.Rules.{rules}
 use Rattle.formatter.proofs.Lexemes.{indent-small}
 use Rattle.formatter.proofs.Formatter.indent_size.Goals as goal
 

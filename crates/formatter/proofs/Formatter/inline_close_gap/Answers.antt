@@ -1,6 +1,5 @@
 -- `formatter::Formatter::inline_close_gap` meets its contract. Assumes nothing.
 use native.Mathlib.Omega.{arith}
-use borrow.Author.Rules.{rules}
 use Rattle.formatter.proofs.Does.{told}
 use Rattle.formatter.proofs.Formatter.inline_close_gap.Goals as goal
 

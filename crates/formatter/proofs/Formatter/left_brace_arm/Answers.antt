@@ -1,5 +1,4 @@
 -- `formatter::Formatter::left_brace_arm` meets its contract. Assumes nothing.
-use borrow.Author.Rules.{rules}
 use Rattle.definition.specs.Arms.{empty_record}
 use Rattle.formatter.specs.CodeState.{options_of}
 use Rattle.formatter.proofs.Blocks.{brace}

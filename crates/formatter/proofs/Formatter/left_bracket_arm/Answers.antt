@@ -1,6 +1,5 @@
 -- `formatter::Formatter::left_bracket_arm` meets its contract. Assumes nothing.
 use mathlib.Core.Path.{◌∙◌}
-use borrow.Author.Rules.{rules}
 use Rattle.definition.specs.Arms.{left_bracket_arm}
 use Rattle.formatter.specs.CodeState.{options_of}
 use Rattle.formatter.proofs.Does.{yes, no, told}

@@ -1,6 +1,5 @@
 -- `formatter::Formatter::left_paren_arm` meets its contract. Assumes nothing.
 use mathlib.Core.Path.{refl, sym, ◌∙◌}
-use borrow.Author.Rules.{rules}
 use Rattle.definition.specs.Arms.{open_group, left_paren_arm}
 use Rattle.sink.proofs.Sink.{nothing}
 use Rattle.formatter.specs.CodeState.{options_of}

@@ -1,7 +1,6 @@
 -- `formatter::Formatter::may_start_fast_tokens` meets its contract. Assumes nothing.
 use mathlib.Core.Path.{sym, ◌∙◌}
 use native.Mathlib.Omega.{arith}
-use borrow.Author.Rules.{rules}
 use borrow.Author.Tests.{eqb-true}
 use Rattle.shared.proofs.Logic.{impossible, impossible'}
 use Rattle.formatter.proofs.Does.{told}

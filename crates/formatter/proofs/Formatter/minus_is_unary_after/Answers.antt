@@ -1,6 +1,5 @@
 -- `formatter::Formatter::minus_is_unary_after` meets its contract. Assumes nothing.
 use borrow.Author.Tests.{eq-eqb, ne_eqb}
-use borrow.Author.Rules.{rules}
 use Rattle.formatter.proofs.Formatter.minus_is_unary_after.Goals as goal
 
 pub returns-in-Nothing : goal.returns-in-Nothing

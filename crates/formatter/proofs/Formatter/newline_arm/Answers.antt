@@ -1,7 +1,6 @@
 -- `formatter::Formatter::newline_arm` meets its contract. Assumes nothing.
 use mathlib.Core.Path.{refl, sym}
 use Prim.Native.Nat.{◌+◌}
-use borrow.Author.Rules.{rules}
 use Rattle.definition.specs.Act.{run}
 use Rattle.definition.specs.Arms.{newline_arm}
 use Rattle.definition.proofs.Said.{said}

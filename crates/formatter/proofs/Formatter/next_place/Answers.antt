@@ -4,7 +4,6 @@ use Rattle.formatter.specs.Format.{next_row}
 use borrow.Author.Tests.{eq-eqb, ne_eqb}
 use native.Mathlib.Omega.{arith}
 use mathlib.Core.Path.{refl, ap, ◌∙◌}
-use borrow.Author.Rules.{rules}
 use Rattle.formatter.proofs.Formatter.next_place.Goals as goal
 
 pub token_at-taken-requires : goal.token_at-taken-requires

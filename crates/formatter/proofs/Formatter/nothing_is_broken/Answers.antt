@@ -1,6 +1,5 @@
 -- `formatter::Formatter::nothing_is_broken` meets its contract. Assumes nothing.
 use Rattle.formatter.proofs.Does.{told}
-use borrow.Author.Rules.{rules}
 use Rattle.formatter.proofs.Formatter.nothing_is_broken.Goals as goal
 
 pub returns-then-in_broken_signature : goal.returns-then-in_broken_signature

@@ -1,5 +1,4 @@
 -- `formatter::Formatter::omits_brace` meets its contract. Assumes nothing.
-use borrow.Author.Rules.{rules}
 use Rattle.formatter.proofs.Does.{told}
 use Rattle.formatter.proofs.Formatter.omits_brace.Goals as goal
 

@@ -1,7 +1,6 @@
 -- `formatter::Formatter::open_allman` meets its contract. Assumes nothing.
 use mathlib.Core.List.{append-nil}
 use mathlib.Core.Path.{refl, sym}
-use borrow.Author.Rules.{rules}
 use Rattle.definition.specs.Act.{run}
 use Rattle.definition.proofs.Said.{said}
 use Rattle.formatter.proofs.Does.{does}

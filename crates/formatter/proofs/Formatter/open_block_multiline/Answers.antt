@@ -1,6 +1,5 @@
 -- `formatter::Formatter::open_block_multiline` meets its contract. Assumes nothing.
 use mathlib.Core.Path.{ap}
-use borrow.Author.Rules.{rules}
 use Rattle.formatter.specs.CodeState.{options_of, style_of}
 use Rattle.formatter.proofs.Blocks.{block_same_line, block_allman}
 use Rattle.formatter.proofs.Formatter.open_block_multiline.Goals as goal

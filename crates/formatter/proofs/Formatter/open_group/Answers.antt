@@ -1,6 +1,5 @@
 -- `formatter::Formatter::open_group` meets its contract. Assumes nothing.
 use mathlib.Core.Path.{refl}
-use borrow.Author.Rules.{rules}
 use Rattle.sink.proofs.Sink.{nothing}
 use Rattle.formatter.proofs.Does.{seq, updated}
 use Rattle.formatter.proofs.Formatter.open_group.Goals as goal

@@ -3,7 +3,6 @@ use mathlib.Core.Path.{refl, sym}
 use Prim.Native.Nat.{◌<◌}
 use native.Mathlib.Omega.{arith}
 use lib.ListN.{length}
-use borrow.Author.Rules.{rules}
 use Rattle.sink.proofs.Sink.{nothing}
 use Rattle.formatter.specs.CodeState.{options_of}
 use Rattle.formatter.specs.Token.{bare_token, lexeme_of}
@@ -23,10 +22,10 @@ returns c = λ few x.
     let a = c.args in
     let z = c.requires.ready.1.size in
     let e = c.emit_token_text-self in
-    let k = e.ensures.1.count in
+    let k = e.ensures.kept.count in
     let room : e.result.break_count < length a.stack.now = omega arith in
     list_opens (options_of a.options) a.token.index
-    (bare_token a.kind (lexeme_of a.token a.rows.now a.text.now)) (e.ensures.0 _ x)
+    (bare_token a.kind (lexeme_of a.token a.rows.now a.text.now)) (e.ensures.does _ x)
     (updated
     (sym
     (rw

@@ -1,6 +1,5 @@
 -- `formatter::Formatter::open_one_line` meets its contract. Assumes nothing.
 use mathlib.Core.Path.{refl, sym}
-use borrow.Author.Rules.{rules}
 use Rattle.formatter.specs.CodeState.{options_of}
 use Rattle.formatter.proofs.Blocks.{one_line}
 use Rattle.formatter.proofs.Formatter.open_one_line.Goals as goal

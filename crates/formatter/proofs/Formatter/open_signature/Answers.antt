@@ -1,6 +1,5 @@
 -- `formatter::Formatter::open_signature` meets its contract. Assumes nothing.
 use mathlib.Core.Path.{refl}
-use borrow.Author.Rules.{rules}
 use Rattle.lookahead.proofs.Sizes.{sig_tokens}
 use Rattle.lookahead.specs.Measure.{should_break_sig}
 use Rattle.definition.specs.Arms.{open_group}

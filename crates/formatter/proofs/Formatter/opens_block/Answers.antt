@@ -1,7 +1,6 @@
 -- `formatter::Formatter::opens_block` meets its contract. Assumes nothing.
 use mathlib.Core.Bool.{not}
 use mathlib.Core.Path.{refl, sym, ap}
-use borrow.Author.Rules.{rules}
 use Rattle.lookahead.proofs.Lacks.{no_brace}
 use Rattle.lookahead.specs.Measure.{block_is_single_line}
 use Rattle.formatter.proofs.Does.{told}

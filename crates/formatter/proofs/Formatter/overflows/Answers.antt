@@ -3,7 +3,6 @@ use Rattle.formatter.proofs.Overflow.{not_full, full-signature, full_paren, full
 use Rattle.formatter.proofs.Does.{told}
 use Rattle.formatter.specs.CodeState.{options_of}
 use mathlib.Core.Path.{◌∙◌}
-use borrow.Author.Rules.{rules}
 use Rattle.formatter.proofs.Formatter.overflows.Goals as goal
 
 pub returns-then-self-lt-STACK_SIZE : goal.returns-then-self-lt-STACK_SIZE

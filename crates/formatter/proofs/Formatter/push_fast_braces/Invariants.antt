@@ -1,9 +1,7 @@
-use Prim.Native.Nat.{◌+◌, ◌-◌, ◌≤◌, ◌<◌}
-use native.Mathlib.Omega.{arith}
-use borrow.Author.Rules.{rules}
-use borrow.Author.Tests.{not-false}
+-- The invariant and the measure of the loop of `formatter::Formatter::push_fast_braces`. Assumes nothing.
+use Prim.Native.Nat.{◌-◌}
 use lib.ListN.{length}
-use Rattle.formatter.proofs.FastBraces.{FastBracesSoFar, starts, goes_open, goes_close, ends}
+use Rattle.formatter.proofs.FastBraces.{FastBracesSoFar}
 use Rattle.formatter.proofs.Formatter.push_fast_braces.Given as goal
 
 abbrev pub invariant-loop-b : goal.invariant-loop-b
@@ -11,5 +9,3 @@ invariant-loop-b l = FastBracesSoFar l.rows l.initial.b l.initial.out l.b l.out
 
 abbrev pub decreases-loop-b : goal.decreases-loop-b
 decreases-loop-b l = length l.rows - l.b.at
-
--- ---- the ways back: each leads from a place in the code to an earlier one

@@ -2,11 +2,15 @@
 use Rattle.formatter.proofs.Gaps.{gapped, indent_or_space_lem}
 use Rattle.formatter.proofs.Does.{does_then}
 use Rattle.formatter.proofs.Comments.{blank_row, lead-comment}
-use Rattle.formatter.specs.CodeState.{options_of, formatter_of}
+use Rattle.formatter.specs.CodeState.{options_of, formatter_of, code_state}
 use Rattle.sink.proofs.Sink.{and_then}
 use Rattle.rows.specs.Bounds.{row_of}
 use Rattle.definition.proofs.Said.{said}
-use Rattle.definition.specs.Act.{run}
+use Rattle.definition.specs.Act.{run, comment}
+use Rattle.definition.specs.Formatter.{set_at_line_start}
+use Rattle.shared.specs.Bytes.{line_feed}
+use mathlib.Core.Bool.{cond, true}
+use mathlib.Core.List.{[]}
 use mathlib.Core.Path.{refl}
 use borrow.Author.Rules.{rules}
 use Rattle.formatter.proofs.Formatter.push_lead.Goals as goal
@@ -14,12 +18,12 @@ use Rattle.formatter.proofs.Formatter.push_lead.Goals as goal
 pub returns-then-row-gt-BLOCK_COMMENT : goal.returns-then-row-gt-BLOCK_COMMENT
 unfolding run said
 returns-then-row-gt-BLOCK_COMMENT c = record {
-      does = λ s x. rw (blank_row c.args.text.now (row_of c.args.row) c.if-row-gt-BLOCK_COMMENT.true) (does_then refl refl c.write_blank_line-fed.ensures);
-      indent = refl;
-    }
+  does = λ s x. rw (blank_row c.args.text.now (row_of c.args.row) c.if-row-gt-BLOCK_COMMENT.true) (does_then {a = comment (λ f. cond f.in_record [] line_feed)} {g = set_at_line_start true} {x = x} {p = code_state c.args.self s c.args.out.now} refl refl c.write_blank_line-fed.ensures);
+  indent = refl;
+}
 
 pub returns : goal.returns
 returns c = record {
-      does = λ s x. lead-comment (options_of c.args.options) c.args.text.now (row_of c.args.row) (search rules) refl refl (gapped _ _ _ (indent_or_space_lem (options_of c.args.options) (formatter_of c.args.self s x)) c.indent_or_space-gap.ensures.0 (and_then c.write_spaces-gapped.ensures c.write_lead-len.ensures));
-      indent = refl;
-    }
+  does = λ s x. lead-comment (options_of c.args.options) c.args.text.now (row_of c.args.row) (search rules) refl refl (gapped _ _ _ (indent_or_space_lem (options_of c.args.options) (formatter_of c.args.self s x)) c.indent_or_space-gap.ensures.0 (and_then c.write_spaces-gapped.ensures c.write_lead-len.ensures));
+  indent = refl;
+}

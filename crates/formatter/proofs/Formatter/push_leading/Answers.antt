@@ -1,9 +1,7 @@
 -- `formatter::Formatter::push_leading` meets its contract. Assumes nothing.
-use Rattle.formatter.proofs.Comments.{LeadsLeft, lead_after, leads-after, leads-whole, row_inside, row_within}
-use Rattle.formatter.specs.CodeState.{options_of}
+use Rattle.formatter.proofs.Comments.{lead_after, leads-after, leads-whole, row_inside, row_within}
 use borrow.Author.Rules.{rules}
 use native.Mathlib.Omega.{arith}
-use Prim.Native.Nat.{◌-◌}
 use Rattle.formatter.proofs.Formatter.push_leading.Goals as goal
 
 pub loop-at-init : goal.loop-at-init
@@ -14,12 +12,12 @@ row_at-requires c = row_within c.loop-at.invariant.part c.loop-at-test.true
 
 pub push_lead-self-requires : goal.push_lead-self-requires
 push_lead-self-requires c = record {
-      indent_bounds = (c.requires.indent_bounds.0, c.loop-at.invariant.indent);
-      inside = row_inside c.loop-at.invariant.part c.loop-at-test.true c.row_at.ensures;
-    }
+  indent_bounds = (c.requires.indent_bounds.0, c.loop-at.invariant.indent);
+  inside = row_inside c.loop-at.invariant.part c.loop-at-test.true c.row_at.ensures;
+}
 
 pub overflow_add-at : goal.overflow_add-at
-overflow_add-at c = let b = row_within c.loop-at.invariant.part c.loop-at-test.true in omega (arith, c.well-formed.1.1.1.0.0)
+overflow_add-at c = let b = row_within c.loop-at.invariant.part c.loop-at-test.true in omega (arith, c.well_formed.1.1.1.0.0)
 
 pub loop-at-smaller : goal.loop-at-smaller
 loop-at-smaller c = omega arith

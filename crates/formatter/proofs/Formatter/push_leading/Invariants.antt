@@ -1,7 +1,5 @@
-use Rattle.formatter.proofs.Comments.{LeadsLeft, lead_after, leads-after, leads-whole, row_inside, row_within}
+use Rattle.formatter.proofs.Comments.{LeadsLeft}
 use Rattle.formatter.specs.CodeState.{options_of}
-use borrow.Author.Rules.{rules}
-use native.Mathlib.Omega.{arith}
 use Prim.Native.Nat.{◌-◌}
 use Rattle.formatter.proofs.Formatter.push_leading.Given as goal
 

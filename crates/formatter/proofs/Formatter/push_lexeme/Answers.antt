@@ -1,6 +1,5 @@
 -- `formatter::Formatter::push_lexeme` meets its contract. Assumes nothing.
 use mathlib.Core.Path.{refl}
-use borrow.Author.Rules.{rules}
 use Rattle.sink.proofs.Sink.{nothing}
 use Rattle.formatter.specs.CodeState.{options_of}
 use Rattle.formatter.specs.Token.{bare_token, lexeme_of}
@@ -13,6 +12,6 @@ returns c = let a = c.args in
     let t = bare_token a.kind (lexeme_of a.token a.rows.now a.text.now) in
     let emitted = c.emit_token_text-self.ensures in
     record {
-      does = λ s x. pushed (options_of a.options) t c.minus_is_unary_after-unary.ensures (emitted.0 s x) (updated refl refl nothing);
-      kept = record { indent = emitted.1.indent; group = emitted.1.group; count = emitted.1.count };
+      does = λ s x. pushed (options_of a.options) t c.minus_is_unary_after-unary.ensures (emitted.does s x) (updated refl refl nothing);
+      kept = record { indent = emitted.kept.indent; group = emitted.kept.group; count = emitted.kept.count };
     }

@@ -1,7 +1,6 @@
 -- `formatter::Formatter::push_token` meets its contract. Assumes nothing.
 use Rattle.formatter.proofs.ByKind.{at_eof, at_newline, at-right_brace, at-left_brace, at-left_paren, at_left_bracket, at-right_paren, at-right_bracket, at-comma, at_else, at_other}
 use mathlib.Core.Path.{◌∙◌}
-use borrow.Author.Rules.{rules}
 use Rattle.formatter.proofs.Formatter.push_token.Goals as goal
 
 pub returns-in-0 : goal.returns-in-0
@@ -36,7 +35,7 @@ returns-in-19 c = λ t ts σ x u v. at_else _ _ t ts (σ.kind ∙ c.in-19.is) (c
 
 pub returns-in_default : goal.returns-in_default
 returns-in_default c = λ t ts σ x u v.
-    let r = c.in_default.rest in
+    let r = c.in_default.in_default-own.rest in
     at_other _ _ t ts σ.kind
     r.0.0.0.0.0.0.0.0.0.1 r.0.0.0.0.0.0.0.0.1 r.0.0.0.0.0.0.0.1 r.0.0.0.0.0.0.1 r.0.0.0.0.0.1
     r.0.0.0.0.1 r.0.0.0.1 r.0.0.1 r.0.1 r.1 (c.other_arm.ensures t ts σ _ x)

@@ -1,7 +1,6 @@
 -- `formatter::Formatter::push_trailing` meets its contract. Assumes nothing.
-use Rattle.formatter.proofs.Comments.{TrailsLeft, row_inside, row_within, trailing_does, trails-after, trails_none, trails-whole}
+use Rattle.formatter.proofs.Comments.{row_inside, row_within, trailing_does, trails-after, trails_none, trails-whole}
 use native.Mathlib.Omega.{arith}
-use Prim.Native.Nat.{◌-◌}
 use mathlib.Core.Path.{refl}
 use Rattle.formatter.proofs.Formatter.push_trailing.Goals as goal
 

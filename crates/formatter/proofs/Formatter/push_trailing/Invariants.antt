@@ -1,7 +1,5 @@
-use Rattle.formatter.proofs.Comments.{TrailsLeft, row_inside, row_within, trailing_does, trails-after, trails_none, trails-whole}
-use native.Mathlib.Omega.{arith}
+use Rattle.formatter.proofs.Comments.{TrailsLeft}
 use Prim.Native.Nat.{◌-◌}
-use mathlib.Core.Path.{refl}
 use Rattle.formatter.proofs.Formatter.push_trailing.Given as goal
 
 abbrev pub invariant-loop-at : goal.invariant-loop-at

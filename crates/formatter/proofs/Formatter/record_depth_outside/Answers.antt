@@ -1,5 +1,4 @@
 -- `formatter::Formatter::record_depth_outside` meets its contract. Assumes nothing.
-use borrow.Author.Rules.{rules}
 use Rattle.formatter.proofs.Formatter.record_depth_outside.Goals as goal
 
 pub returns-then-self : goal.returns-then-self

@@ -1,5 +1,4 @@
 -- `formatter::Formatter::right_brace_arm` meets its contract. Assumes nothing.
-use borrow.Author.Rules.{rules}
 use Rattle.definition.specs.Arms.{right_brace_arm}
 use Rattle.formatter.proofs.Does.{told, yes, no}
 use Rattle.formatter.proofs.Formatter.right_brace_arm.Goals as goal

@@ -1,6 +1,5 @@
 -- `formatter::Formatter::right_bracket_arm` meets its contract. Assumes nothing.
 use mathlib.Core.Bool.{not}
-use borrow.Author.Rules.{rules}
 use Rattle.rows.specs.Kinds.{Comma}
 use Rattle.definition.specs.Arms.{right_bracket_arm}
 use Rattle.definition.specs.Emit.{prev_is}

@@ -1,6 +1,5 @@
 -- `formatter::Formatter::right_paren_arm` meets its contract. Assumes nothing.
 use mathlib.Core.Path.{refl, sym}
-use borrow.Author.Rules.{rules}
 use Rattle.definition.specs.Act.{run}
 use Rattle.definition.specs.Arms.{close_group, right_paren_arm}
 use Rattle.sink.proofs.Sink.{nothing}

@@ -1,5 +1,4 @@
 -- `formatter::Formatter::suppresses` meets its contract. Assumes nothing.
-use borrow.Author.Rules.{rules}
 use Rattle.formatter.proofs.Formatter.suppresses.Goals as goal
 
 pub returns-in-Never : goal.returns-in-Never

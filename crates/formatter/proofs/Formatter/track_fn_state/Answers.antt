@@ -1,6 +1,5 @@
 -- `formatter::Formatter::track_fn_state` meets its contract. Assumes nothing.
 use borrow.Author.Tests.{ne_eqb}
-use borrow.Author.Rules.{rules}
 use lib.Dec.{eqb}
 use Rattle.rows.specs.Kinds.{Identifier, Newline}
 use Rattle.definition.specs.Emit.{is_some}
@@ -24,6 +23,3 @@ returns-in-22 c = rw (told c.in_broken_signature.ensures c.if-in_broken_signatur
 
 pub returns-in-1 : goal.returns-in-1
 returns-in-1 c = rw (told c.in_broken_signature.ensures c.if-in_broken_signature.false, c.in-1.is)
-
-pub returns-in_default : goal.returns-in_default
-returns-in_default c = rw (told c.in_broken_signature.ensures c.if-in_broken_signature.false, ne_eqb _ _ c.in_default.rest.0.0.1, ne_eqb _ _ c.in_default.rest.0.1, ne_eqb _ _ c.in_default.rest.1)

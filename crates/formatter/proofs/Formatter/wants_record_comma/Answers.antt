@@ -1,5 +1,4 @@
 -- `formatter::Formatter::wants_record_comma` meets its contract. Assumes nothing.
-use borrow.Author.Rules.{rules}
 use Rattle.formatter.proofs.Does.{told}
 use Rattle.formatter.proofs.Formatter.wants_record_comma.Goals as goal
 

@@ -1,6 +1,5 @@
 -- `formatter::Formatter::write_inline_opener` meets its contract. Assumes nothing.
 use mathlib.Core.List.{append-nil}
-use borrow.Author.Rules.{rules}
 use Rattle.formatter.specs.Parts.{indent_or_space_size}
 use Rattle.formatter.specs.CodeState.{options_of, fields_of}
 use Rattle.formatter.proofs.Does.{told}

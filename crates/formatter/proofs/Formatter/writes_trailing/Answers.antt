@@ -1,8 +1,7 @@
 -- `formatter::Formatter::writes_trailing` meets its contract. Assumes nothing.
-use borrow.Author.Tests.{le-ltb, lt-ltb, ne_eqb}
+use borrow.Author.Tests.{le-ltb, lt-ltb}
 use native.Mathlib.Omega.{arith}
 use Prim.Native.Nat.{◌+◌}
-use borrow.Author.Rules.{rules}
 use Rattle.formatter.proofs.Formatter.writes_trailing.Goals as goal
 
 pub returns-then-token : goal.returns-then-token
@@ -25,9 +24,3 @@ returns-in-7 c = λ text t ts σ.
     let n = c.if-token.false in
     rw
     (lt-ltb (c.args.token.own + 16) c.args.token.next (omega (arith, n, c.requires.row_size_bound.0)), σ.kind, c.in-7.is, c.in_broken_list.ensures)
-
-pub returns-in_default : goal.returns-in_default
-returns-in_default c = λ text t ts σ.
-    let n = c.if-token.false in
-    rw
-    (lt-ltb (c.args.token.own + 16) c.args.token.next (omega (arith, n, c.requires.row_size_bound.0)), σ.kind, ne_eqb _ 2 c.in_default.rest.0.0.1, ne_eqb _ 5 c.in_default.rest.0.1, ne_eqb _ 7 c.in_default.rest.1)

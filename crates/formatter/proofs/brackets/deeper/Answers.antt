@@ -1,6 +1,5 @@
 -- `formatter::brackets::deeper` meets its contract. Assumes nothing.
 use native.Mathlib.Omega.{arith}
-use borrow.Author.Rules.{rules}
 use Rattle.formatter.proofs.brackets.deeper.Goals as goal
 
 pub overflow_add-result : goal.overflow_add-result

@@ -1,7 +1,6 @@
 -- `formatter::brackets::list_is_wide` meets its contract. Assumes nothing.
 use mathlib.Core.Path.{refl, sym}
 use native.Mathlib.Nat.{le_trans}
-use borrow.Author.Rules.{rules}
 use Rattle.lookahead.proofs.Lacks.{no_comma}
 use Rattle.lookahead.proofs.Narrow.{narrow}
 use Rattle.lookahead.proofs.Sizes.{list_tokens}

@@ -1,7 +1,6 @@
 -- `formatter::brackets::push_entry` meets its contract. Assumes nothing.
 use mathlib.Core.Path.{sym}
 use lib.Seq.{set_out}
-use borrow.Author.Rules.{rules}
 use Rattle.formatter.proofs.brackets.push_entry.Goals as goal
 
 pub returns-else-count-stack : goal.returns-else-count-stack

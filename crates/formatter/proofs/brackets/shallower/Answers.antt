@@ -1,5 +1,4 @@
 -- `formatter::brackets::shallower` meets its contract. Assumes nothing.
-use borrow.Author.Rules.{rules}
 use Rattle.formatter.proofs.brackets.shallower.Goals as goal
 
 pub returns-in-At : goal.returns-in-At

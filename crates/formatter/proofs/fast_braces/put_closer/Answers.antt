@@ -1,6 +1,5 @@
 -- `formatter::fast_braces::put_closer` meets its contract. Assumes nothing.
 use native.Mathlib.Omega.{arith}
-use borrow.Author.Rules.{rules}
 use borrow.Author.Tests.{eq-eqb, ne_eqb}
 use Rattle.sink.proofs.Sink.{one}
 use Rattle.formatter.proofs.fast_braces.put_closer.Goals as goal

@@ -1,7 +1,6 @@
 -- `formatter::fast_braces::put_spaced` meets its contract. Assumes nothing.
 use native.Mathlib.Omega.{arith}
 use lib.ListN.{length-set}
-use borrow.Author.Rules.{rules}
 use Rattle.sink.proofs.Sink.{and_then, one}
 use Rattle.formatter.proofs.fast_braces.put_spaced.Goals as goal
 

@@ -1,5 +1,4 @@
 -- `formatter::fast_braces::takes_brace` meets its contract. Assumes nothing.
-use borrow.Author.Rules.{rules}
 use Rattle.shared.proofs.Logic.{impossible'}
 use Rattle.formatter.proofs.fast_braces.takes_brace.Goals as goal
 

@@ -1,6 +1,5 @@
 -- `formatter::fast_tokens::changing_kinds` meets its contract. Assumes nothing.
 use borrow.Author.Tests.{ne_eqb}
-use borrow.Author.Rules.{rules}
 use Rattle.formatter.proofs.fast_tokens.changing_kinds.Goals as goal
 
 pub returns-then-fn_state-eq0 : goal.returns-then-fn_state-eq0

@@ -1,5 +1,4 @@
 -- `formatter::fast_tokens::fast_state_after` meets its contract. Assumes nothing.
-use borrow.Author.Rules.{rules}
 use Rattle.formatter.proofs.FastTokenTurn.{state_kept}
 use Rattle.formatter.proofs.fast_tokens.fast_state_after.Goals as goal
 

@@ -1,6 +1,5 @@
 -- `formatter::fast_tokens::group_depth_after` meets its contract. Assumes nothing.
 use borrow.Author.Tests.{ne_eqb}
-use borrow.Author.Rules.{rules}
 use Rattle.formatter.proofs.fast_tokens.group_depth_after.Goals as goal
 
 pub returns-then-kind-eq-RIGHT_PAREN : goal.returns-then-kind-eq-RIGHT_PAREN

@@ -1,7 +1,6 @@
 -- `formatter::fast_tokens::has_room` meets its contract. Assumes nothing.
 use Prim.Native.Nat.{◌+◌, ◌-◌}
 use native.Mathlib.Omega.{arith}
-use borrow.Author.Rules.{rules}
 use borrow.Author.Tests.{leb-true}
 use Rattle.shared.proofs.Logic.{impossible'}
 use Rattle.formatter.proofs.fast_tokens.has_room.Goals as goal

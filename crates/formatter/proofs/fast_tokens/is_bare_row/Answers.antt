@@ -2,7 +2,6 @@
 use mathlib.Core.Path.{◌≡◌, refl, ap, sym, ◌∙◌}
 use Prim.Native.Nat.{ℕ, ◌+◌}
 use native.Mathlib.Omega.{arith}
-use borrow.Author.Rules.{rules}
 use borrow.Author.Tests.{eqb-false, not-true}
 use Rattle.rows.specs.Kinds.{Leading, TokenRow, Trailing}
 use Rattle.shared.proofs.Logic.{impossible'}

@@ -1,6 +1,5 @@
 -- `formatter::fast_tokens::pending_after` meets its contract. Assumes nothing.
 use borrow.Author.Tests.{ne_eqb, le-leb, lt-leb}
-use borrow.Author.Rules.{rules}
 use Rattle.formatter.proofs.fast_tokens.pending_after.Goals as goal
 
 pub returns-then-kind-le-COMMA : goal.returns-then-kind-le-COMMA

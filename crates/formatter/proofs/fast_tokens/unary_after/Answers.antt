@@ -2,7 +2,6 @@
 use mathlib.Core.Bool.{not}
 use mathlib.Core.Path.{ap}
 use borrow.Author.Tests.{ne_eqb}
-use borrow.Author.Rules.{rules}
 use Rattle.formatter.proofs.fast_tokens.unary_after.Goals as goal
 
 pub returns-then-kind-eq-MINUS : goal.returns-then-kind-eq-MINUS

@@ -1,7 +1,6 @@
 -- `formatter::lines::ends_with_two_feeds` meets its contract. Assumes nothing.
 use mathlib.Core.Path.{sym}
 use native.Mathlib.Omega.{arith}
-use borrow.Author.Rules.{rules}
 use borrow.Author.Tests.{eq-eqb, ne_eqb}
 use Rattle.formatter.proofs.Feeds.{ends_short, ends_at}
 use Rattle.formatter.proofs.lines.ends_with_two_feeds.Goals as goal

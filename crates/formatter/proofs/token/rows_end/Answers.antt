@@ -1,10 +1,8 @@
 -- `formatter::token::rows_end` meets its contract. Assumes nothing.
 use mathlib.Core.Path.{ap, sym, ◌∙◌}
-use Prim.Native.Nat.{◌-◌}
 use native.Mathlib.Omega.{arith}
-use lib.ListN.{length}
 use borrow.Author.Rules.{rules}
-use Rattle.formatter.proofs.RunEnd.{Runs, runs_start, runs_more, runs_other, runs_none}
+use Rattle.formatter.proofs.RunEnd.{runs_start, runs_more, runs_other, runs_none}
 use Rattle.formatter.proofs.token.rows_end.Goals as goal
 
 pub loop-end-init : goal.loop-end-init

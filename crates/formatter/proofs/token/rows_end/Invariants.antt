@@ -1,9 +1,6 @@
-use mathlib.Core.Path.{ap, sym, ◌∙◌}
 use Prim.Native.Nat.{◌-◌}
-use native.Mathlib.Omega.{arith}
 use lib.ListN.{length}
-use borrow.Author.Rules.{rules}
-use Rattle.formatter.proofs.RunEnd.{Runs, runs_start, runs_more, runs_other, runs_none}
+use Rattle.formatter.proofs.RunEnd.{Runs}
 use Rattle.formatter.proofs.token.rows_end.Given as goal
 
 abbrev pub invariant-loop-end : goal.invariant-loop-end

@@ -1,7 +1,6 @@
 -- `formatter::token::token_at` meets its contract. Assumes nothing.
 -- `formatter::token::token_at` meets its contract. Assumes nothing.
 use native.Mathlib.Omega.{arith}
-use borrow.Author.Rules.{rules}
 use Rattle.formatter.proofs.token.token_at.Goals as goal
 
 pub token_of-requires : goal.token_of-requires
