@@ -5,7 +5,7 @@ use mathlib.Core.Option.{none, some}
 use mathlib.Core.Path.{◌≡◌, refl, sym, ap, ◌∙◌}
 use Prim.Native.Nat.{ℕ, ◌+◌, ◌-◌, ◌/◌, ◌≤◌, ◌<◌}
 use native.Mathlib.Omega.{arith}
-use borrow.Author.Tests.{lt-ltb, le-ltb, eqb-true, not-true}
+use borrow.Author.Tests.{lt-ltb, eqb-true, not-true}
 use lib.Dec.{eqb, ltb}
 use lib.ListN.{length, take, drop, replicate, length-append, length-replicate}
 use lib.Seq.{length-slice, length-take-le}
@@ -103,35 +103,6 @@ pub record FastTokensSoFar (rows text : List ℕ) (from n before : ℕ) (m₀ : 
   pub head : TokenBoundary rows text at
   pub done : (t : FastKinds) → fast ≡ fast_kind_bits t → FastTokensLaidOut rows text from n before m₀ t l k (ended at len prev m)
   pub still : (t : FastKinds) → fast ≡ fast_kind_bits t → (f : Formatter) → BeforeFastTokens f before m₀ t → BeforeFastTokens (after_fast_tokens (ltb from at) prev m f) prev m t
-
-after_none : {f : Formatter} {p : ℕ} {m : FastState} {t : FastKinds} → BeforeFastTokens f p m t → after_fast_tokens false p m f ≡ f
-after_none σ = σ.with_state
-
-pub starts :
-    {rows text l : List ℕ} {from n before : ℕ} {m : FastState} (fast : ℕ) → before ≤ Other → n ≤ length l → Consistent m → TokenBoundary rows text from
-    → FastTokensSoFar rows text from n before m fast l from n before m l
-starts {rows} {text} {l} {from} {n} {before} {m} fast p g r η =
-    let e : ltb from from ≡ false = le-ltb from from (omega arith) in
-    record {
-      right = r;
-      last = p;
-      room = g;
-      size = refl;
-      head = η;
-      done = λ t q.
-          record {
-            whole = omega arith;
-            head = η;
-            last = p;
-            group = omega arith;
-            size = refl;
-            far = omega arith;
-            room = g;
-            rest = refl;
-            lays = λ o f c i σ. let z : i + (from - from) / 16 ≡ i = omega arith in rw (e, z, after_none σ);
-          };
-      still = λ t q f σ. rw (e, after_none σ) σ;
-    }
 
 less_group : (k n : ℕ) → group_after k n ≤ n
 less_group k n = split (is_closer k) (λ e. rw e (omega arith)) (λ e. rw e (omega arith))

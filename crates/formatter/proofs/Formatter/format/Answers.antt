@@ -69,16 +69,18 @@ PlacedAt c =
 
 at_place : (c : After-next_place-place) → PlacedAt c
 at_place c =
+    let a = goal.at.may_start_fast_tokens-requires c in
     record {
       checked = c.requires.checked_rows;
-      loop = placed (known (goal.at.may_start_fast_tokens-requires c).After-token_at-token) (leading (goal.at.may_start_fast_tokens-requires c).Joined-token) (calls (goal.at.may_start_fast_tokens-requires c).After-track_fn_state-state) c.if-out-self-2.false c.push_token-self.auto.stack c.next_place-place.ensures;
+      loop = placed (known a.After-token_at-token) (leading a.Joined-token) (calls a.After-track_fn_state-state) c.if-out-self-2.false c.push_token-self.auto.stack c.next_place-place.ensures;
       only = c.requires.no_trivia_if;
     }
 
 -- The next place lies further on.
 is_further : (c : After-next_place-place) → c.loop-place.place.at < c.next_place-place.result.at
 is_further c =
-    further (known (goal.at.may_start_fast_tokens-requires c).After-token_at-token) (leading (goal.at.may_start_fast_tokens-requires c).Joined-token) (calls (goal.at.may_start_fast_tokens-requires c).After-track_fn_state-state) c.if-out-self-2.false c.push_token-self.auto.stack c.next_place-place.ensures
+    let a = goal.at.may_start_fast_tokens-requires c in
+    further (known a.After-token_at-token) (leading a.Joined-token) (calls a.After-track_fn_state-state) c.if-out-self-2.false c.push_token-self.auto.stack c.next_place-place.ensures
 
 -- ---- the answers
 
@@ -92,9 +94,11 @@ pub token_at-token-requires : goal.token_at-token-requires
 token_at-token-requires c = next_token c.requires.checked_rows c.loop-place.invariant.going.head c.loop-place-test.true c.requires.no_trivia_if
 
 pub push_leading-self-requires : goal.push_leading-self-requires
-push_leading-self-requires c = let p = lead_rows (known (goal.at.push_leading-self-requires c).After-token_at-token) in
+push_leading-self-requires c =
+    let θ = known (goal.at.push_leading-self-requires c).After-token_at-token in
+    let p = lead_rows θ in
     record {
-      indent_bounds = (c.requires.fresh.1, small-indent (known (goal.at.push_leading-self-requires c).After-token_at-token));
+      indent_bounds = (c.requires.fresh.1, small-indent θ);
       whole_rows = p;
       lead_lt_own = let a = p.ordered in omega (arith, c.if-token.false);
     }
@@ -106,12 +110,14 @@ pub shape_of-stack-then-out-self : goal.shape_of-stack-then-out-self
 shape_of-stack-then-out-self c = c.loop-place.invariant.going.lent
 
 pub returns-then-out-self : goal.returns-then-out-self
-returns-then-out-self c = let θ = known (goal.at.returns-then-out-self c).After-token_at-token in
+returns-then-out-self c =
+    let θ = known (goal.at.returns-then-out-self c).After-token_at-token in
     let p = c.push_leading-self.ensures in
     rw c.full_at.ensures (laid_stopped full (full-lead θ p c.if-out-self.true) (lead-size θ p))
 
 pub overflows-requires : goal.overflows-requires
-overflows-requires c = let θ = known (goal.at.overflows-requires c).After-token_at-token in
+overflows-requires c =
+    let θ = known (goal.at.overflows-requires c).After-token_at-token in
     let ρ = its_rows θ in
     let a = ρ.lead in
     let b = ρ.own in
@@ -122,27 +128,35 @@ overflows-requires c = let θ = known (goal.at.overflows-requires c).After-token
     }
 
 pub shape_of-out-then-overflows : goal.shape_of-out-then-overflows
-shape_of-out-then-overflows c = led_size (known (goal.at.shape_of-out-then-overflows c).After-token_at-token) (leading (goal.at.shape_of-out-then-overflows c).Joined-token)
+shape_of-out-then-overflows c =
+    let a = goal.at.shape_of-out-then-overflows c in
+    led_size (known a.After-token_at-token) (leading a.Joined-token)
 
 pub shape_of-stack-then-overflows : goal.shape_of-stack-then-overflows
 shape_of-stack-then-overflows c = c.loop-place.invariant.going.lent
 
 pub returns-then-overflows : goal.returns-then-overflows
-returns-then-overflows c = let θ = known (goal.at.returns-then-overflows c).After-token_at-token in
-    let ν = leading (goal.at.returns-then-overflows c).Joined-token in
+returns-then-overflows c =
+    let a = goal.at.returns-then-overflows c in
+    let θ = known a.After-token_at-token in
+    let ν = leading a.Joined-token in
     rw c.deep_at.ensures (laid_stopped deep (deep-at θ ν (c.overflows.ensures _ _) c.if-overflows.true) (led_size θ ν))
 
 pub writes_trailing-trails-requires : goal.writes_trailing-trails-requires
-writes_trailing-trails-requires c = let θ = known (goal.at.writes_trailing-trails-requires c).After-token_at-token in
+writes_trailing-trails-requires c =
+    let a = goal.at.writes_trailing-trails-requires c in
+    let θ = known a.After-token_at-token in
     record {
-      stack_room = stack-room θ (leading (goal.at.writes_trailing-trails-requires c).Joined-token);
+      stack_room = stack-room θ (leading a.Joined-token);
       row_size_bound = ((its_rows θ).own, (its_rows θ).next);
     }
 
 pub push_token-self-requires : goal.push_token-self-requires
-push_token-self-requires c = let θ = known (goal.at.push_token-self-requires c).After-token_at-token in
+push_token-self-requires c =
+    let a = goal.at.push_token-self-requires c in
+    let θ = known a.After-token_at-token in
     record {
-      ready = (ready θ (leading (goal.at.push_token-self-requires c).Joined-token) c.requires.fresh.1, stack-room θ (leading (goal.at.push_token-self-requires c).Joined-token));
+      ready = (ready θ (leading a.Joined-token) c.requires.fresh.1, stack-room θ (leading a.Joined-token));
       in_rows = (its_rows θ, ends-ahead θ c.ends_of-ends.ensures);
     }
 
@@ -150,29 +164,38 @@ pub push_trailing-self-requires : goal.push_trailing-self-requires
 push_trailing-self-requires c = trail_rows (known (goal.at.push_trailing-self-requires c).After-token_at-token)
 
 pub shape_of-out-then-out-self-2 : goal.shape_of-out-then-out-self-2
-shape_of-out-then-out-self-2 c = turn-size (known (goal.at.shape_of-out-then-out-self-2 c).After-token_at-token) (leading (goal.at.shape_of-out-then-out-self-2 c).Joined-token) (calls (goal.at.shape_of-out-then-out-self-2 c).After-track_fn_state-state)
+shape_of-out-then-out-self-2 c =
+    let a = goal.at.shape_of-out-then-out-self-2 c in
+    turn-size (known a.After-token_at-token) (leading a.Joined-token) (calls a.After-track_fn_state-state)
 
 pub shape_of-stack-then-out-self-2 : goal.shape_of-stack-then-out-self-2
 shape_of-stack-then-out-self-2 c = c.push_token-self.auto.stack ∙ c.loop-place.invariant.going.lent
 
 pub returns-then-out-self-2 : goal.returns-then-out-self-2
-returns-then-out-self-2 c = let θ = known (goal.at.returns-then-out-self-2 c).After-token_at-token in
-    let ν = leading (goal.at.returns-then-out-self-2 c).Joined-token in
-    rw c.full_at-then-out-self-2.ensures (laid_stopped full (full-turn θ ν (calls (goal.at.returns-then-out-self-2 c).After-track_fn_state-state) c.if-out-self-2.true) (turn-size θ ν (calls (goal.at.returns-then-out-self-2 c).After-track_fn_state-state)))
+returns-then-out-self-2 c =
+    let a = goal.at.returns-then-out-self-2 c in
+    let θ = known a.After-token_at-token in
+    let ν = leading a.Joined-token in
+    let κ = calls a.After-track_fn_state-state in
+    rw c.full_at-then-out-self-2.ensures (laid_stopped full (full-turn θ ν κ c.if-out-self-2.true) (turn-size θ ν κ))
 
 pub next_place-place-requires : goal.next_place-place-requires
-next_place-place-requires c = let θ = known (goal.at.next_place-place-requires c).After-token_at-token in
-    let ν = leading (goal.at.next_place-place-requires c).Joined-token in
+next_place-place-requires c =
+    let a = goal.at.next_place-place-requires c in
+    let θ = known a.After-token_at-token in
+    let ν = leading a.Joined-token in
+    let κ = calls a.After-track_fn_state-state in
     record {
-      next_in_bounds = next-bounds θ ν (calls (goal.at.next_place-place-requires c).After-track_fn_state-state) c.if-out-self-2.false c.push_token-self.auto.stack;
-      next_token = next_there_too θ ν (calls (goal.at.next_place-place-requires c).After-track_fn_state-state) c.if-out-self-2.false c.push_token-self.auto.stack c.requires.no_trivia_if;
+      next_in_bounds = next-bounds θ ν κ c.if-out-self-2.false c.push_token-self.auto.stack;
+      next_token = next_there_too θ ν κ c.if-out-self-2.false c.push_token-self.auto.stack c.requires.no_trivia_if;
     }
 
 pub may_start_fast_tokens-requires : goal.may_start_fast_tokens-requires
 may_start_fast_tokens-requires c = rows_left (at_place (goal.at.may_start_fast_tokens-requires c).After-next_place-place)
 
 pub push_fast_tokens-ahead-requires : goal.push_fast_tokens-ahead-requires
-push_fast_tokens-ahead-requires c = let π = at_place (goal.at.push_fast_tokens-ahead-requires c).After-next_place-place in
+push_fast_tokens-ahead-requires c =
+    let π = at_place (goal.at.push_fast_tokens-ahead-requires c).After-next_place-place in
     record {
       stack_room = fast_tokens_room π (c.may_start_fast_tokens.ensures c.if-may_start_fast_tokens.true);
       len_in_bounds = (π.loop.going.room, π.checked);
@@ -184,21 +207,24 @@ pub place_at-place-requires : goal.place_at-place-requires
 place_at-place-requires c = past (at_place (goal.at.place_at-place-requires c).After-next_place-place) c.push_fast_tokens-ahead.ensures.whole c.push_fast_tokens-ahead.ensures.head.within
 
 pub loop-place-smaller-then-may_start_fast_tokens : goal.loop-place-smaller-then-may_start_fast_tokens
-loop-place-smaller-then-may_start_fast_tokens c = let f = is_further (goal.at.loop-place-smaller-then-may_start_fast_tokens c).After-next_place-place in
+loop-place-smaller-then-may_start_fast_tokens c =
+    let f = is_further (goal.at.loop-place-smaller-then-may_start_fast_tokens c).After-next_place-place in
     let a = c.push_fast_tokens-ahead.ensures.whole in
     let b = c.push_fast_tokens-ahead.ensures.head.within in
     let p = c.place_at-place.ensures.0 in
     omega arith
 
 pub loop-place-preserved-then-may_start_fast_tokens : goal.loop-place-preserved-then-may_start_fast_tokens
-loop-place-preserved-then-may_start_fast_tokens c = rw (c.place_at-place.ensures.0, c.place_at-place.ensures.1)
+loop-place-preserved-then-may_start_fast_tokens c =
+    rw (c.place_at-place.ensures.0, c.place_at-place.ensures.1)
     (past_fast_tokens (at_place (goal.at.loop-place-preserved-then-may_start_fast_tokens c).After-next_place-place) (c.may_start_fast_tokens.ensures c.if-may_start_fast_tokens.true) c.push_fast_tokens-ahead.ensures c.after_fast_tokens-self.ensures)
 
 pub may_start_fast_braces-requires : goal.may_start_fast_braces-requires
 may_start_fast_braces-requires c = rows_left (at_place (goal.at.may_start_fast_braces-requires c).After-next_place-place)
 
 pub push_fast_braces-braces-requires : goal.push_fast_braces-braces-requires
-push_fast_braces-braces-requires c = let π = at_place (goal.at.push_fast_braces-braces-requires c).After-next_place-place in
+push_fast_braces-braces-requires c =
+    let π = at_place (goal.at.push_fast_braces-braces-requires c).After-next_place-place in
     let ρ = c.may_start_fast_braces.ensures c.if-may_start_fast_braces.true in
     let rows = fast_braces_rows π ρ in
     record { at_in_bounds = fast_braces_place π ρ; rows_value = rows.0; rows_bound = rows.1 }
@@ -207,19 +233,23 @@ pub place_at-place-requires-then-may_start_fast_braces : goal.place_at-place-req
 place_at-place-requires-then-may_start_fast_braces c = past (at_place (goal.at.place_at-place-requires-then-may_start_fast_braces c).After-next_place-place) c.push_fast_braces-braces.ensures.whole c.push_fast_braces-braces.ensures.within
 
 pub loop-place-smaller-then-may_start_fast_braces : goal.loop-place-smaller-then-may_start_fast_braces
-loop-place-smaller-then-may_start_fast_braces c = let f = is_further (goal.at.loop-place-smaller-then-may_start_fast_braces c).After-next_place-place in
+loop-place-smaller-then-may_start_fast_braces c =
+    let f = is_further (goal.at.loop-place-smaller-then-may_start_fast_braces c).After-next_place-place in
     let a = c.push_fast_braces-braces.ensures.whole in
     let b = c.push_fast_braces-braces.ensures.within in
     let p = c.place_at-place-then-may_start_fast_braces.ensures.0 in
     omega arith
 
 pub loop-place-preserved-then-may_start_fast_braces : goal.loop-place-preserved-then-may_start_fast_braces
-loop-place-preserved-then-may_start_fast_braces c = rw (c.place_at-place-then-may_start_fast_braces.ensures.0, c.place_at-place-then-may_start_fast_braces.ensures.1)
+loop-place-preserved-then-may_start_fast_braces c =
+    rw (c.place_at-place-then-may_start_fast_braces.ensures.0, c.place_at-place-then-may_start_fast_braces.ensures.1)
     (past_fast_braces (at_place (goal.at.loop-place-preserved-then-may_start_fast_braces c).After-next_place-place) (c.may_start_fast_braces.ensures c.if-may_start_fast_braces.true) c.push_fast_braces-braces.ensures c.after_fast_braces-self.ensures)
 
 pub loop-place-smaller : goal.loop-place-smaller
-loop-place-smaller c = let f = is_further (goal.at.loop-place-smaller c).After-next_place-place in
-    let b = (at_place (goal.at.loop-place-smaller c).After-next_place-place).loop.going.head.within in
+loop-place-smaller c =
+    let a = goal.at.loop-place-smaller c in
+    let f = is_further a.After-next_place-place in
+    let b = (at_place a.After-next_place-place).loop.going.head.within in
     omega arith
 
 pub loop-place-preserved : goal.loop-place-preserved
@@ -232,4 +262,5 @@ pub shape_of-stack : goal.shape_of-stack
 shape_of-stack c = c.loop-place.invariant.going.lent
 
 pub returns : goal.returns
-returns c = rw c.finished.ensures (laid_done c.loop-place.invariant.going c.loop-place-test.false)
+returns c =
+    rw c.finished.ensures (laid_done c.loop-place.invariant.going c.loop-place-test.false)
