@@ -1,5 +1,7 @@
 // The C doors (specification, 'The doors'): each returns the refusal or 0, and fills a report of 24 bytes.
 // Where `report` has another length, the refusal is 11, and nothing is changed.
+#![tactic(auto)]
+
 ghost use Rattle.std.specs.Prelude.{◌≡◌, length};
 ghost use Rattle.definition.specs.Layout.{layout};
 ghost use Rattle.format_source.specs.Source.{layout_source};
