@@ -1,5 +1,6 @@
 /* Calls each C door on a few inputs and compares what it returns and every byte that it was lent.
-   The expected values are worked out by hand from docs/SPECIFICATION.md. tests/run_doors.sh builds and runs it. */
+   The expected values are worked out by hand from docs/SPECIFICATION.md. tests/run_doors.sh builds and runs
+   it. */
 #include "doors.h"
 #include <stdio.h>
 #include <string.h>
