@@ -1,6 +1,5 @@
 //! Rows, which are their own bytes.
 use crate::{Kind, Trivia, What};
-use std::fmt;
 
 /// A token, or trivia that belongs to one: the four numbers of specification, 'Rows'. Any numbers can stand
 /// in it; for those that make no row [`layout`](crate::layout) answers [`BadRow`](crate::Refusal::BadRow).
@@ -15,9 +14,22 @@ use std::fmt;
 /// assert_eq!(NAME, Row::new(1, 22, 0, 3));
 /// assert_eq!(format!("{NAME:?}"), "Row { what: 1, kind: 22, start: 0, end: 3 }");
 /// ```
-#[derive(Clone, Copy, PartialEq, Eq, Hash)]
-#[repr(transparent)]
-pub struct Row([[u8; 4]; 4]);
+#[derive(Clone, Copy, Debug, PartialEq, Eq, Hash)]
+#[repr(C, packed)]
+pub struct Row {
+    /// The number of a [`What`].
+    pub what: u32,
+    /// The number of a [`Kind`] in a token's row, else of a [`Trivia`].
+    pub kind: u32,
+    /// The index of its first byte in the text.
+    pub start: u32,
+    /// The index after its last byte.
+    pub end: u32,
+}
+
+// A row's bytes are little-endian, as the numbers of the processor that the doors are built for.
+#[cfg(target_endian = "big")]
+compile_error!("rows are little-endian");
 
 impl Row {
     /// How many bytes a row takes: 16, which is four numbers of 32 bits, little-endian.
@@ -25,7 +37,7 @@ impl Row {
 
     /// The row of any four numbers.
     pub const fn new(what: u32, kind: u32, start: u32, end: u32) -> Row {
-        Row([what.to_le_bytes(), kind.to_le_bytes(), start.to_le_bytes(), end.to_le_bytes()])
+        Row { what, kind, start, end }
     }
 
     /// A token's row.
@@ -46,52 +58,46 @@ impl Row {
 
     /// The four numbers, little-endian.
     pub const fn to_bytes(self) -> [u8; Row::BYTES] {
-        let [[a, b, c, d], [e, f, g, h], [i, j, k, l], [m, n, o, p]] = self.0;
+        let [a, b, c, d] = self.what.to_le_bytes();
+        let [e, f, g, h] = self.kind.to_le_bytes();
+        let [i, j, k, l] = self.start.to_le_bytes();
+        let [m, n, o, p] = self.end.to_le_bytes();
         [a, b, c, d, e, f, g, h, i, j, k, l, m, n, o, p]
     }
 
     /// The row that these bytes are.
     pub const fn from_bytes(bytes: [u8; Row::BYTES]) -> Row {
         let [a, b, c, d, e, f, g, h, i, j, k, l, m, n, o, p] = bytes;
-        Row([[a, b, c, d], [e, f, g, h], [i, j, k, l], [m, n, o, p]])
+        let (what, kind) = (u32::from_le_bytes([a, b, c, d]), u32::from_le_bytes([e, f, g, h]));
+        let (start, end) = (u32::from_le_bytes([i, j, k, l]), u32::from_le_bytes([m, n, o, p]));
+        Row { what, kind, start, end }
     }
 
-    /// The number of a [`What`].
+    /// The number of a [`What`], as the field.
     pub const fn what(self) -> u32 {
-        u32::from_le_bytes(self.0[0])
+        self.what
     }
 
-    /// The number of a [`Kind`] in a token's row, else of a [`Trivia`].
+    /// The number of a [`Kind`] in a token's row, else of a [`Trivia`], as the field.
     pub const fn kind(self) -> u32 {
-        u32::from_le_bytes(self.0[1])
+        self.kind
     }
 
-    /// The index of its first byte in the text.
+    /// The index of its first byte in the text, as the field.
     pub const fn start(self) -> u32 {
-        u32::from_le_bytes(self.0[2])
+        self.start
     }
 
-    /// The index after its last byte.
+    /// The index after its last byte, as the field.
     pub const fn end(self) -> u32 {
-        u32::from_le_bytes(self.0[3])
-    }
-}
-
-impl fmt::Debug for Row {
-    fn fmt(&self, f: &mut fmt::Formatter<'_>) -> fmt::Result {
-        f.debug_struct("Row")
-            .field("what", &self.what())
-            .field("kind", &self.kind())
-            .field("start", &self.start())
-            .field("end", &self.end())
-            .finish()
+        self.end
     }
 }
 
 /// The bytes of rows, as [`layout`](crate::layout) takes them.
 pub const fn rows_as_bytes(rows: &[Row]) -> &[u8] {
-    // SAFETY: a Row is transparent over bytes: it is aligned as they are and has no padding, so its memory is
-    // as many initialised bytes as it has, for as long as the rows are borrowed.
+    // SAFETY: a Row is packed: it is aligned as bytes are and has no padding, so its memory is as many
+    // initialised bytes as it has, for as long as the rows are borrowed.
     unsafe { std::slice::from_raw_parts(rows.as_ptr().cast(), rows.len() * Row::BYTES) }
 }
 
@@ -108,8 +114,8 @@ pub const fn rows_as_bytes(rows: &[Row]) -> &[u8] {
 pub const fn bytes_as_rows(bytes: &[u8]) -> (&[Row], &[u8]) {
     let number = bytes.len() / Row::BYTES;
     let (whole, rest) = bytes.split_at(number * Row::BYTES);
-    // SAFETY: a Row is transparent over bytes: it is aligned as they are, and any bytes make one. `whole` has
-    // the bytes of `number` rows, for as long as it is borrowed.
+    // SAFETY: a Row is packed: it is aligned as bytes are, and any bytes make one. `whole` has the bytes of
+    // `number` rows, for as long as it is borrowed.
     (unsafe { std::slice::from_raw_parts(whole.as_ptr().cast(), number) }, rest)
 }
 
@@ -130,6 +136,14 @@ mod tests {
 
     #[test]
     fn bytes_are_little_endian_and_come_back() {
+        let row = Row { what: 1, kind: 34, start: 0x0403_0201, end: u32::MAX };
+        let bytes = row.to_bytes();
+        assert_eq!(bytes, [1, 0, 0, 0, 34, 0, 0, 0, 1, 2, 3, 4, 255, 255, 255, 255]);
+        assert_eq!(Row::from_bytes(bytes), row);
+    }
+
+    #[test]
+    fn a_row_is_its_bytes() {
         let rows = [Row::new(1, 34, 0x0403_0201, u32::MAX)];
         let bytes = rows_as_bytes(&rows);
         assert_eq!(bytes, [1, 0, 0, 0, 34, 0, 0, 0, 1, 2, 3, 4, 255, 255, 255, 255]);

@@ -134,12 +134,12 @@ fn refusal_3_names_the_first_bad_row() {
     let lead = Row::leading(Trivia::BlankLine, 0, 0);
     let trail = Row::trailing(Trivia::BlankLine, 0, 0);
     let cases = [
-        (vec![good, Row::new(3, 22, 0, 1), Row::new(4, 22, 0, 1)], 1),
-        (vec![good, good, Row::new(1, 35, 0, 1)], 2),
-        (vec![good, Row::new(2, 4, 0, 0)], 1),
-        (vec![Row::new(0, u32::MAX, 0, 0), good], 0),
-        (vec![Row::token(Kind::Identifier, 2, 1)], 0),
-        (vec![good, Row::token(Kind::Identifier, 0, 4)], 1),
+        (vec![good, Row { what: 3, ..good }, Row { what: 4, ..good }], 1),
+        (vec![good, good, Row { kind: 35, ..good }], 2),
+        (vec![good, Row { kind: 4, ..trail }], 1),
+        (vec![Row { kind: u32::MAX, ..lead }, good], 0),
+        (vec![Row { start: 2, end: 1, ..good }], 0),
+        (vec![good, Row { end: 4, ..good }], 1),
         (vec![trail, good], 0),
         (vec![good, lead, trail, good], 2),
         (vec![good, lead, lead], 2),
