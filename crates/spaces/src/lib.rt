@@ -21,6 +21,7 @@ pub enum Space {
 }
 
 // Takes the kinds of two adjacent tokens, and answers whether a space is needed between them.
+#[tactic(auto, unfolding(crate::specs::Answer::space_report))]
 pub fn needs_space(first: u32, second: u32) -> Space
     ensures { reported result ≡ space_report first second }
 {
