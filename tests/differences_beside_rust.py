@@ -35,13 +35,33 @@ def options(cell):
     return (style, 4, *widths)
 
 
+# Two lists of the table with the default options, whose lines would be too long there.
+BY_DEFAULT = [
+    (
+        "record { record { a } ,",
+        "record⏎{⏎____record⏎____{⏎________a,⏎____},",
+        "record⏎{⏎____record⏎____{⏎________a,⏎____},⏎",
+    ),
+    (
+        "record { record { a } }",
+        "record⏎{⏎____record⏎____{⏎________a,⏎____}⏎}",
+        "record⏎{⏎____record⏎____{⏎________a,⏎____},⏎}",
+    ),
+]
+
+
+def shown(cell):
+    return cell.strip("`").replace("⏎", "\n").replace("_", " ").encode()
+
+
 def rows():
+    for words, said, comment in BY_DEFAULT:
+        yield words, options(""), shown(comment), shown(said)
     text = open(os.path.join(beside.ROOT, "docs", "DIFFERENCES.md"), encoding="utf-8").read()
     for line in text.split("\n"):
         cells = [c.strip() for c in line.split("|")]
         if len(cells) == 8 and cells[3].startswith("`") and cells[6].startswith("`"):
-            plain = [c.strip("`").replace("⏎", "\n").replace("_", " ").encode() for c in cells[5:7]]
-            yield cells[3].strip("`"), options(cells[4]), *plain
+            yield cells[3].strip("`"), options(cells[4]), *[shown(c) for c in cells[5:7]]
 
 
 def main():

@@ -1,8 +1,9 @@
 #!/usr/bin/env bash
 # Holds include/furzewrench.h and the static library of the C doors to each other:
+#   - tests/doors.c over tests/doors.h, whose declarations are those of the header: the answers of each door,
+#     and again under valgrind where that is there;
 #   - the header, in two translation units of one program, as C99 and as C++11;
-#   - tests/doors_header.c, the answers of each door, and again under valgrind where that is there;
-#   - tests/doors.c, the same over tests/doors.h, whose declarations are those of the header;
+#   - tests/doors_header.c, the same over the header, and more;
 #   - tests/costs.c, stack and threads, by the bounds that the header tells;
 #   - the archive's symbols: it needs memset alone, and has no data that can be written.
 # Builds the library first, unless LIBDOORS names one. Needs rt, gcc, g++ and nm, on x86-64; it is not part of
@@ -13,6 +14,20 @@ library=${LIBDOORS:-target/staticlib/libdoors.a}
 mkdir -p target
 if [ -z "${LIBDOORS:-}" ]; then tools/build.sh doors > /dev/null; fi
 strict=(-Wall -Wextra -Werror -pedantic -O1 -Iinclude)
+
+memory='valgrind is not there'
+answers() { # NAME ARGUMENT..
+    local test=target/$1_test
+    gcc -std=c11 "${strict[@]}" "${@:2}" "tests/$1.c" "$library" -o "$test"
+    said=$("$test") || { echo "$said"; exit 1; }
+    if command -v valgrind > /dev/null; then
+        valgrind --quiet --error-exitcode=9 --leak-check=full "$test" > "$test.log" 2>&1 \
+            || { cat "$test.log"; exit 1; }
+        memory='the same under memcheck'
+    fi
+}
+answers doors -include furzewrench.h
+echo "by tests/doors.h: $said"
 
 for language in 'gcc -std=c99' 'g++ -std=c++11 -x c++'; do
     $language "${strict[@]}" -c tests/header.c -o target/header_first.o
@@ -33,18 +48,5 @@ echo "the archive needs memset alone, and has no data that can be written"
 gcc -std=c11 "${strict[@]}" -pthread tests/costs.c "$library" -o target/costs
 target/costs
 
-memory='valgrind is not there'
-answers() { # NAME ARGUMENT..
-    local test=target/$1_test
-    gcc -std=c11 "${strict[@]}" "${@:2}" "tests/$1.c" "$library" -o "$test"
-    said=$("$test") || { echo "$said"; exit 1; }
-    if command -v valgrind > /dev/null; then
-        valgrind --quiet --error-exitcode=9 --leak-check=full "$test" > "$test.log" 2>&1 \
-            || { cat "$test.log"; exit 1; }
-        memory='the same under memcheck'
-    fi
-}
-answers doors -include furzewrench.h
-echo "by tests/doors.h: $said"
 answers doors_header
 echo "$said; $memory; the header as C99 and C++11; stack and threads as it says"

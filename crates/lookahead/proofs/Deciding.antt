@@ -50,8 +50,8 @@ comma-stays span m r rs h =
 module _ (span : Span) (own other : Measure → ℕ) (o c o' c' : ℕ) (lo : o ≤ Comma) (lc : c < Comma) (lo' : o' ≤ Comma) (lc' : c' ≤ Comma)
     (stops : (m : Measure) (k : ℕ) → stops_at span m.paren_depth m.bracket_depth k ≡ ends_group c k (own m) (other m))
     (top : (m : Measure) → top_in span m.paren_depth m.bracket_depth ≡ is_top (own m) (other m))
-    (own-after : (m : Measure) (k n : ℕ) → own (counts span m k n) ≡ depth_after o c k (own m))
-    (other_After : (m : Measure) (k n : ℕ) → other (counts span m k n) ≡ depth_after o' c' k (other m)) where
+    (own_after : (m : Measure) (k n : ℕ) → own (counts span m k n) ≡ depth_after o c k (own m))
+    (other_after : (m : Measure) (k n : ℕ) → other (counts span m k n) ≡ depth_after o' c' k (other m)) where
   comma_rows : (m : Measure) (rs : List Row) → m.commas ≡ 0 → comma_ahead o c o' c' (own m) (other m) rs ≡ ltb 0 (measure_rows span m rs).commas
   unfolding comma_ahead measure_rows
   comma_rows m [] z = rw z
@@ -60,7 +60,7 @@ module _ (span : Span) (own other : Measure → ℕ) (o c o' c' : ℕ) (lo : o �
       (λ e. rw (e, stops m r.kind) (split (ends_group c r.kind (own m) (other m)) (λ g. rw (g, z))
       (λ g. rw (g, ← top m) (split (eqb r.kind Comma && top_in span m.paren_depth m.bracket_depth)
       (λ h. rw (comma-stays span m r rs h, h))
-      (λ h. rw (← own-after m r.kind (r.end - r.start), ← other_After m r.kind (r.end - r.start), h)
+      (λ h. rw (← own_after m r.kind (r.end - r.start), ← other_after m r.kind (r.end - r.start), h)
       (rw h at (comma_rows (behind span m r) rs (ap (λ b. more b m.commas) h ∙ z))))))))
       (λ e. rw (e, ends_above c Other (own m) (other m) lc (omega arith), depth_after-none o c Other (own m) (λ q. omega arith) (λ q. omega arith), depth_after-none o' c' Other (other m) (λ q. omega arith) (λ q. omega arith))
       (comma_rows m rs z))

@@ -23,7 +23,7 @@ const MOST_ROW_BYTES: usize = MOST_ROWS * ROW_BYTES;
 
 // The lookaheads take the part of the rows that starts at the opener, its own leading rows included, and goes
 // to the end. The first four go by the rows' own numbers. Where the rows lie in a text, the tokens that they
-// name there have these sizes (proofs/Sizes.antt: sizes-in-bounds).
+// name there have these sizes (proofs/Sizes.antt: sizes_in_bounds).
 
 // Whether a signature breaks: more than 3 params, or wider than `fn_sig_width`.
 pub fn should_break_sig(rows: &[u8], fn_sig_width: u32) -> bool
