@@ -4,7 +4,8 @@ use Rattle.doors.proofs.Doors.{refused, unchanged, answered, changed}
 use Rattle.doors.proofs.rl_read_pieces.Goals as goal
 
 pub returns-then-report-ne-REPORT_BYTES : goal.returns-then-report-ne-REPORT_BYTES
-returns-then-report-ne-REPORT_BYTES c = let a = c.args in
+returns-then-report-ne-REPORT_BYTES c =
+    let a = c.args in
     record {
       refusal = (refused a.report.now c.if-report-ne-REPORT_BYTES.true _).refusal;
       report = (refused a.report.now c.if-report-ne-REPORT_BYTES.true _).bytes;
@@ -12,7 +13,8 @@ returns-then-report-ne-REPORT_BYTES c = let a = c.args in
     }
 
 pub returns : goal.returns
-returns c = let a = c.args in
+returns c =
+    let a = c.args in
     let α = answered a.report.now c.if-report-ne-REPORT_BYTES.false (c.of_pieces-answer.ensures ∙ c.read_pieces.ensures.answer) c.put_report.ensures.refusal c.put_report.ensures.bytes in
     record {
       refusal = α.refusal;

@@ -17,7 +17,8 @@ pub returns-then-source-ne33 : goal.returns-then-source-ne33
 returns-then-source-ne33 c = sym (shebang-bytes _ ∙ rw (eq-eqb _ (byte "#") c.if-source-ne35.false, ne_eqb _ (byte "!") c.if-source-ne33.true))
 
 pub returns-then-source-eq2 : goal.returns-then-source-eq2
-returns-then-source-eq2 c = let z = get_or-eq_default c.args.source.now 0 {n = 2} (search rules) in
+returns-then-source-eq2 c =
+    let z = get_or-eq_default c.args.source.now 0 {n = 2} (search rules) in
     sym (shebang-bytes _ ∙ rw (eq-eqb _ (byte "#") c.if-source-ne35.false, eq-eqb _ (byte "!") c.if-source-ne33.false, z))
 
 pub returns : goal.returns

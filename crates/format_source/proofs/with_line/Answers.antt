@@ -6,7 +6,8 @@ use Rattle.format_source.proofs.AfterLine.{no_text, no_room, refused, text-after
 use Rattle.format_source.proofs.with_line.Goals as goal
 
 pub returns-then-out-start : goal.returns-then-out-start
-returns-then-out-start c = let a = c.args in
+returns-then-out-start c =
+    let a = c.args in
     let μ = no_room a.line.now (record { report = reported a.answer; out = _ }) a.out.now (search rules) c.clear_bytes.ensures in
     record {
       answer = μ.answer;
@@ -14,7 +15,8 @@ returns-then-out-start c = let a = c.args in
     }
 
 pub returns-in_default : goal.returns-in_default
-returns-in_default c = let a = c.args in
+returns-in_default c =
+    let a = c.args in
     let μ =
     refused a.line.now (record { report = reported a.answer; out = _ }) a.out.now (search rules)
     (no_text a.answer c.in_default.not-Text) c.clear_bytes-in_default.ensures in
@@ -24,13 +26,15 @@ returns-in_default c = let a = c.args in
     }
 
 pub overflow_add-end : goal.overflow_add-end
-overflow_add-end c = let e = ap reported c.in-Text.is in
+overflow_add-end c =
+    let e = ap reported c.in-Text.is in
     let w = c.requires (ap (λ r. r.refusal) e) in
     let q = ap (λ r. r.first) e in
     search rules
 
 pub returns : goal.returns
-returns c = let a = c.args in
+returns c =
+    let a = c.args in
     let μ =
     text-after a.line.now (record { report = reported a.answer; out = _ }) a.out.now (search rules)
     (ap reported c.in-Text.is) c.put_line.ensures in

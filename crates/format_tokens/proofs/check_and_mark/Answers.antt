@@ -21,7 +21,8 @@ same-mark : {p b : Bool} → Good p ≡ Good b → b ≡ p
 same-mark e = cc
 
 pub returns-in-Good : goal.returns-in-Good
-returns-in-Good c = let e = told (goal.at.returns-in-Good c).After-check_unless_known c.in-Good.is in
+returns-in-Good c =
+    let e = told (goal.at.returns-in-Good c).After-check_unless_known c.in-Good.is in
     let π = passed _ _ _ _ _ _ (sym e) in
     record {
       refusal = e;

@@ -26,7 +26,8 @@ good : (c : After-check_and_mark) {mark : Bool} → c.check_and_mark.result ≡ 
 good c e = passed _ _ _ _ _ _ (sym c.check_and_mark.ensures.refusal ∙ ap refusal_of e)
 
 pub lay_out-walked-requires : goal.lay_out-walked-requires
-lay_out-walked-requires c = let e = c.in-Good.is in
+lay_out-walked-requires c =
+    let e = c.in-Good.is in
     let text = c.args.text.now in
     let π = good (goal.at.lay_out-walked-requires c).After-check_and_mark e in
     record {
@@ -36,28 +37,32 @@ lay_out-walked-requires c = let e = c.in-Good.is in
     }
 
 pub returns-in-BadOption : goal.returns-in-BadOption
-returns-in-BadOption c = let α = refused (goal.at.returns-in-BadOption c).After-check_and_mark c.in-BadOption.is (λ z. omega arith) in
+returns-in-BadOption c =
+    let α = refused (goal.at.returns-in-BadOption c).After-check_and_mark c.in-BadOption.is (λ z. omega arith) in
     record {
       answer = α.answer;
       output = α.output;
     }
 
 pub returns-in-RaggedRows : goal.returns-in-RaggedRows
-returns-in-RaggedRows c = let α = refused (goal.at.returns-in-RaggedRows c).After-check_and_mark c.in-RaggedRows.is (λ z. omega arith) in
+returns-in-RaggedRows c =
+    let α = refused (goal.at.returns-in-RaggedRows c).After-check_and_mark c.in-RaggedRows.is (λ z. omega arith) in
     record {
       answer = α.answer;
       output = α.output;
     }
 
 pub returns-in-BadRow : goal.returns-in-BadRow
-returns-in-BadRow c = let α = refused (goal.at.returns-in-BadRow c).After-check_and_mark c.in-BadRow.is (λ z. omega arith) in
+returns-in-BadRow c =
+    let α = refused (goal.at.returns-in-BadRow c).After-check_and_mark c.in-BadRow.is (λ z. omega arith) in
     record {
       answer = α.answer;
       output = α.output;
     }
 
 pub returns-in-Good : goal.returns-in-Good
-returns-in-Good c = let e = c.in-Good.is in
+returns-in-Good c =
+    let e = c.in-Good.is in
     let laid = rw c.options_of-options.ensures.options at c.lay_out-walked.ensures in
     let α = walked_answers c.args.text.now (good (goal.at.returns-in-Good c).After-check_and_mark e) laid (c.check_and_mark.ensures.mark _ e) in
     record {

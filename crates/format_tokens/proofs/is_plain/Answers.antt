@@ -4,7 +4,8 @@ use Rattle.shared.proofs.Logic.{impossible'}
 use Rattle.format_tokens.proofs.is_plain.Goals as goal
 
 pub returns-then-rows-gt-MOST_ROWS : goal.returns-then-rows-gt-MOST_ROWS
-returns-then-rows-gt-MOST_ROWS c = let m = c.if-rows-gt-MOST_ROWS.true in
+returns-then-rows-gt-MOST_ROWS c =
+    let m = c.if-rows-gt-MOST_ROWS.true in
     record {
       good = λ e. impossible' e;
       mark = λ h g. absurd (omega arith);

@@ -18,12 +18,14 @@ loop-left-preserved-then-kind-opener c = let l = c.loop-left in (
 )
 
 pub returns-then-is_last : goal.returns-then-is_last
-returns-then-is_last c = let l = c.loop-left in
+returns-then-is_last c =
+    let l = c.loop-left in
     top_closed c.requires.kinds l.own l.other l.invariant.0 (search rules) c.row_at.ensures c.token_kind-kind.ensures
     c.if-kind-closer.true c.is_last.ensures c.if-is_last.true
 
 pub loop-left-preserved-then-kind-closer : goal.loop-left-preserved-then-kind-closer
-loop-left-preserved-then-kind-closer c = let l = c.loop-left in
+loop-left-preserved-then-kind-closer c =
+    let l = c.loop-left in
     let a = c.args in (
       top_less c.requires.kinds l.own l.other l.invariant.0 (search rules) c.row_at.ensures c.token_kind-kind.ensures
           c.if-kind-closer.true c.is_last.ensures c.if-is_last.false c.depth_after-own.ensures,
@@ -33,17 +35,20 @@ loop-left-preserved-then-kind-closer c = let l = c.loop-left in
     )
 
 pub returns-then-kind-eq-EOF : goal.returns-then-kind-eq-EOF
-returns-then-kind-eq-EOF c = let l = c.loop-left in
+returns-then-kind-eq-EOF c =
+    let l = c.loop-left in
     top_eof c.requires.kinds l.own l.other l.invariant.0 (search rules) c.row_at.ensures c.token_kind-kind.ensures
     c.if-kind-opener.false c.if-kind-closer.false c.if-kind-eq-EOF.true
 
 pub returns-then-is_top_comma : goal.returns-then-is_top_comma
-returns-then-is_top_comma c = let l = c.loop-left in
+returns-then-is_top_comma c =
+    let l = c.loop-left in
     top_found c.requires.kinds l.own l.other l.invariant.0 (search rules) c.row_at.ensures c.token_kind-kind.ensures
     c.if-kind-opener.false c.if-kind-closer.false c.if-kind-eq-EOF.false c.is_top_comma.ensures c.if-is_top_comma.true
 
 pub loop-left-preserved-then-kind-le-COMMA : goal.loop-left-preserved-then-kind-le-COMMA
-loop-left-preserved-then-kind-le-COMMA c = let l = c.loop-left in
+loop-left-preserved-then-kind-le-COMMA c =
+    let l = c.loop-left in
     let a = c.args in (
       top_more c.requires.kinds l.own l.other l.invariant.0 (search rules) c.row_at.ensures c.token_kind-kind.ensures
           c.if-kind-opener.false c.if-kind-closer.false c.if-kind-eq-EOF.false c.is_top_comma.ensures c.if-is_top_comma.false c.depth_after-other.ensures,
@@ -62,5 +67,6 @@ loop-left-preserved c = let l = c.loop-left in (
 )
 
 pub returns : goal.returns
-returns c = let l = c.loop-left in
+returns c =
+    let l = c.loop-left in
     top_over c.requires.kinds l.own l.other l.invariant.0 l.invariant.3 (omega (arith, c.loop-left-test.false, c.least_rows.ensures))

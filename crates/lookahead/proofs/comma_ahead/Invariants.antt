@@ -14,5 +14,3 @@ invariant-loop-left l = Ahead l.rows (comma_ahead l.opener l.closer l.other_open
 
 abbrev pub decreases-loop-left : goal.decreases-loop-left
 decreases-loop-left l = length l.rows - l.at
-
--- ---- the way back, l.from each place that the answers start l.at to the one before it

@@ -8,26 +8,30 @@ pub loop-index-init : goal.loop-index-init
 loop-index-init c = start _ _
 
 pub returns-in-End : goal.returns-in-End
-returns-in-End c = let α = finished c.loop-index.invariant (sym c.in-End.is ∙ c.next_piece.ensures) in
+returns-in-End c =
+    let α = finished c.loop-index.invariant (sym c.in-End.is ∙ c.next_piece.ensures) in
     record {
       answer = α.report;
       slice = α.slice;
     }
 
 pub returns-in-Unreadable : goal.returns-in-Unreadable
-returns-in-Unreadable c = let α = unread c.loop-index.invariant (sym c.in-Unreadable.is ∙ c.next_piece.ensures) c.clear_numbers.ensures in
+returns-in-Unreadable c =
+    let α = unread c.loop-index.invariant (sym c.in-Unreadable.is ∙ c.next_piece.ensures) c.clear_numbers.ensures in
     record {
       answer = α.report;
       slice = α.slice;
     }
 
 pub store-requires : goal.store-requires
-store-requires c = let σ = c.loop-index.invariant in
+store-requires c =
+    let σ = c.loop-index.invariant in
     let φ = first σ (sym c.in-Piece.is ∙ c.next_piece.ensures) in
     (omega (arith, φ.some), omega (arith, σ.room, sized σ))
 
 pub returns-then-not-store : goal.returns-then-not-store
-returns-then-not-store c = let α =
+returns-then-not-store c =
+    let α =
     full c.loop-index.invariant (sym c.in-Piece.is ∙ c.next_piece.ensures) c.store.ensures.fits
     c.if-not-store.true c.store.ensures.put c.clear_numbers-then-not-store.ensures in
     record {
@@ -36,7 +40,8 @@ returns-then-not-store c = let α =
     }
 
 pub loop-index-smaller : goal.loop-index-smaller
-loop-index-smaller c = let φ = first c.loop-index.invariant (sym c.in-Piece.is ∙ c.next_piece.ensures) in
+loop-index-smaller c =
+    let φ = first c.loop-index.invariant (sym c.in-Piece.is ∙ c.next_piece.ensures) in
     omega (arith, φ.after, φ.some, φ.within)
 
 pub loop-index-preserved : goal.loop-index-preserved

@@ -42,7 +42,8 @@ returns-then-not-fits_fixed c = stop-fixed c.loop-at.invariant (search rules) c.
     c.fits_fixed.ensures c.if-not-fits_fixed.true
 
 pub loop-at-preserved : goal.loop-at-preserved
-loop-at-preserved c = let more = passed_more c.loop-at.invariant (search rules) c.row_at-row.ensures (omega arith) c.misnames.ensures c.if-misnames.false in
+loop-at-preserved c =
+    let more = passed_more c.loop-at.invariant (search rules) c.row_at-row.ensures (omega arith) c.misnames.ensures c.if-misnames.false in
     elim c.if-kind-gt-ELSE.branch [ then-kind-gt-ELSE+else-not-fits_free w ↦ more (w.fits_free.ensures w.if-not-fits_free.false) | else-kind-gt-ELSE+else-not-fits_fixed w ↦ more (sym w.fits_fixed.ensures ∙ w.if-not-fits_fixed.false) ]
 
 pub returns : goal.returns

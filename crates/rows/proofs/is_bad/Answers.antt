@@ -30,20 +30,24 @@ module _ (size : ℕ) (may : Bool) (r : Row) where
         rw (w, sym e ∙ f, p)
 
 pub returns-then-row-eq-TOKEN : goal.returns-then-row-eq-TOKEN
-returns-then-row-eq-TOKEN c = let a = c.args in
+returns-then-row-eq-TOKEN c =
+    let a = c.args in
     c.misnames.ensures ∙ sym (token_bad a.size (after a.before) (row_of a.row) c.if-row-eq-TOKEN.true)
 
 pub returns-then-row-gt-TRAILING : goal.returns-then-row-gt-TRAILING
 returns-then-row-gt-TRAILING c = rw (lt-ltb _ _ c.if-row-gt-TRAILING.true)
 
 pub returns-then-misnames : goal.returns-then-misnames
-returns-then-misnames c = let a = c.args in
+returns-then-misnames c =
+    let a = c.args in
     trivia_bad a.size (may_trail (after a.before)) (row_of a.row) c.if-row-eq-TOKEN.false c.if-row-gt-TRAILING.false c.misnames-2.ensures c.if-misnames.true
 
 pub returns-then-row-eq-LEADING : goal.returns-then-row-eq-LEADING
-returns-then-row-eq-LEADING c = let a = c.args in
+returns-then-row-eq-LEADING c =
+    let a = c.args in
     leading-good a.size (may_trail (after a.before)) (row_of a.row) c.if-row-eq-TOKEN.false c.if-row-gt-TRAILING.false c.misnames-2.ensures c.if-misnames.false c.if-row-eq-LEADING.true
 
 pub returns : goal.returns
-returns c = let a = c.args in
+returns c =
+    let a = c.args in
     trailing-bad a.size (may_trail (after a.before)) (row_of a.row) c.if-row-eq-TOKEN.false c.if-row-gt-TRAILING.false c.misnames-2.ensures c.if-misnames.false c.if-row-eq-LEADING.false c.may_trail.ensures

@@ -13,7 +13,8 @@ pub returns-in-Nothing : goal.returns-in-Nothing
 returns-in-Nothing c = (rw (c.if-self.false, c.in-Nothing.is), omega arith)
 
 pub returns-in-Kind : goal.returns-in-Kind
-returns-in-Kind c = let a = c.args in
+returns-in-Kind c =
+    let a = c.args in
     let kinds = c.requires.kind_bound in (
       rw (c.if-self.false, c.in-Kind.is, c.spaces_between.ensures, c.loose_after.ensures)
           (spaces_are c.in-Kind.k a.kind a.self.prev_minus_is_unary (rw c.in-Kind.is at kinds.0) kinds.1),

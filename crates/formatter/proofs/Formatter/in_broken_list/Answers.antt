@@ -6,7 +6,7 @@ use Rattle.formatter.proofs.Stack.{top_is, top_isnt}
 use Rattle.formatter.proofs.Formatter.in_broken_list.Goals as goal
 
 pub overflow_cast-result : goal.overflow_cast-result
-overflow_cast-result c = omega (arith, c.shared_slice_known-1.given (c.args.self.break_count - 1))
+overflow_cast-result c = omega (arith, c.type_inv.stack (c.args.self.break_count - 1))
 
 pub returns-then-count-gt0 : goal.returns-then-count-gt0
 returns-then-count-gt0 c = sym (top_is _ _ _ c.if-count-gt0.true)

@@ -8,7 +8,8 @@ use Rattle.formatter.proofs.Lexemes.{pushed}
 use Rattle.formatter.proofs.Formatter.push_lexeme.Goals as goal
 
 pub returns : goal.returns
-returns c = let a = c.args in
+returns c =
+    let a = c.args in
     let t = bare_token a.kind (lexeme_of a.token a.rows.now a.text.now) in
     let emitted = c.emit_token_text-self.ensures in
     record {

@@ -26,7 +26,8 @@ pub returns-then-is_words : goal.returns-then-is_words
 returns-then-is_words c = λ yes. words_fit (facts_at c.args.rows.now c.args.text.now c.args.at) c.args.kind c.args.lexeme.now c.requires.1 (sym c.is_words.ensures ∙ c.if-is_words.true)
 
 pub returns-then-is_operators : goal.returns-then-is_operators
-returns-then-is_operators c = let all = sym c.is_operators.ensures ∙ c.if-is_operators.true in
+returns-then-is_operators c =
+    let all = sym c.is_operators.ensures ∙ c.if-is_operators.true in
     λ yes.
     sym (fits-operator (facts_at c.args.rows.now c.args.text.now c.args.at) c.args.kind c.args.lexeme.now (far (goal.at.returns-then-is_operators c).Start) (told (goal.at.returns-then-is_operators c).Start (operators_whole c.args.lexeme.now all))
     (operators_begin c.args.lexeme.now all) c.meets.ensures) ∙ yes

@@ -13,7 +13,8 @@ pub loop-i-init : goal.loop-i-init
 loop-i-init c = run-start (ordinary c.args.quote) c.args.s.now (λ z. let h = c.requires in omega arith)
 
 pub block_ordinary-requires : goal.block_ordinary-requires
-block_ordinary-requires c = let h = c.requires in
+block_ordinary-requires c =
+    let h = c.requires in
     omega (arith, min-le_right c.loop-i.i (length c.args.s.now - 64))
 
 pub returns-then-not-block_ordinary : goal.returns-then-not-block_ordinary

@@ -13,7 +13,8 @@ pub loop-i-init : goal.loop-i-init
 loop-i-init c = run-start is_word_byte c.args.lexeme.now (λ z. let h = c.requires in omega arith)
 
 pub block_words-requires : goal.block_words-requires
-block_words-requires c = let h = c.requires in
+block_words-requires c =
+    let h = c.requires in
     omega (arith, min-le_right c.loop-i.i (length c.args.lexeme.now - 32))
 
 pub returns-then-not-block_words : goal.returns-then-not-block_words

@@ -22,7 +22,8 @@ pub loop-i-init : goal.loop-i-init
 loop-i-init c = run-start is_word_byte c.args.lexeme.now (λ z. let h = c.requires in omega arith)
 
 pub eight_words-requires : goal.eight_words-requires
-eight_words-requires c = let h = c.requires in
+eight_words-requires c =
+    let h = c.requires in
     omega (arith, min-le_right c.loop-i.i (length c.args.lexeme.now - 8))
 
 pub returns-then-not-eight_words : goal.returns-then-not-eight_words

@@ -39,7 +39,8 @@ pub returns-then-not-is_word-2 : goal.returns-then-not-is_word-2
 returns-then-not-is_word-2 c = run-stop is_word_byte c.args.lexeme.now 1 (left_two c.args.lexeme.now c.if-lexeme-lt2.false (sym c.is_word.ensures ∙ c.if-not-is_word.false)) c.if-lexeme-lt2.false (sym c.is_word-2.ensures ∙ c.if-not-is_word-2.true)
 
 pub returns : goal.returns
-returns c = let three : length c.args.lexeme.now ≡ 3 =
+returns c =
+    let three : length c.args.lexeme.now ≡ 3 =
     let a = c.if-lexeme-lt2.false in
     let b = c.if-lexeme-eq2.false in
     let p = c.requires.0 in

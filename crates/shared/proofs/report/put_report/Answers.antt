@@ -1,5 +1,4 @@
 -- `shared::report::put_report` meets its contract. Assumes nothing.
--- ---- places: after each number is written, from the end back to the start
 use mathlib.Core.Path.{refl}
 use Rattle.shared.specs.Report.{report_of}
 use Rattle.shared.proofs.LittleEndian.{report_stored}

@@ -23,7 +23,8 @@ returns-then-rows-at-lt-ROW_BYTES c = record {
 }
 
 pub returns : goal.returns
-returns c = let a = c.args in
+returns c =
+    let a = c.args in
     record {
       fits = row_fits_lem (length a.rows.now) a.n a.end (omega arith) (omega arith);
       put = row_stored a.rows.now (row_size * a.n) a.what a.kind a.start a.end c.put_u32.ensures c.put_u32-2.ensures c.put_u32-3.ensures c.put_u32-4.ensures;

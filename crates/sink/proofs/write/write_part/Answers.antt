@@ -7,7 +7,8 @@ use Rattle.sink.proofs.Sink.{past, past_part}
 use Rattle.sink.proofs.write.write_part.Goals as goal
 
 pub returns-then-n-size : goal.returns-then-n-size
-returns-then-n-size c = let start = c.args.start in
+returns-then-n-size c =
+    let start = c.args.start in
     let end = c.args.end in
     let whole : start + (end - start) ≡ end = omega arith in
     rw whole at c.copy_bytes.ensures
