@@ -144,7 +144,8 @@ at_signature f = f.inline_depth == 0 && (f.fn_state == 2 || f.fn_state == 1)
 abbrev pub break_signature : Options → ℕ → Act
 break_signature o i =
     lexeme left_paren ⨾ update indented ⨾ gap (λ f. line_feed ++ indent_str o f)
-    ⨾ update (λ f. group_opened (ended_by LeftParen (set_suppress_newline_at (some (i + 1)) (set_sig_break_depth (some 1) f))))
+    ⨾ update
+    (λ f. group_opened (ended_by LeftParen (set_suppress_newline_at (some (i + 1)) (set_sig_break_depth (some 1) f))))
 
 abbrev pub open_signature : Options → ℕ → Token → List Token → Act
 open_signature o i t ts =

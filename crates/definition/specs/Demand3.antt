@@ -40,7 +40,8 @@ pub record ReadsBack (xs : List (List ℕ)) (l : Layout) (read : Report) (slots 
 -- the plain mark, the text has at most 4,294,967,295 bytes and there is space for the pieces, then the text reads back.
 abbrev pub FirstHalfOf : List (List ℕ) → Layout → Report → List ℕ → List ℕ → Type 0
 FirstHalfOf xs l read space slots =
-    IsPlain l → length (text_of l) ≤ 4294967295 → 2 * (length xs + commas_of l) ≤ length space → ReadsBack xs l read slots
+    IsPlain l → length (text_of l) ≤ 4294967295 → 2 * (length xs + commas_of l) ≤ length space
+    → ReadsBack xs l read slots
 
 -- The first half, for every layout call.
 abbrev pub FirstHalf : Type 0

@@ -125,7 +125,8 @@ pub record BareRow (rows : List ℕ) (at : ℕ) : Type 0 where
 -- A whole row of a known kind stands at the index, unless the rows end there.
 abbrev pub RowAhead : List ℕ → ℕ → Type 0
 RowAhead rows at =
-    at < length rows → (at + row_size ≤ length rows) × ((at ≡ row_size * (at / row_size)) × ((row_at rows at).kind ≤ Other))
+    at < length rows
+    → (at + row_size ≤ length rows) × ((at ≡ row_size * (at / row_size)) × ((row_at rows at).kind ≤ Other))
 
 -- The row at the index `at` is a fast token's, of the kinds `fast`, which fits with its spaces after `len` of `size` bytes.
 pub record IsFastToken (rows : List ℕ) (fast at size len spaced : ℕ) : Type 0 where

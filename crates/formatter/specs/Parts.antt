@@ -35,7 +35,8 @@ inline_close_size o f = cond f.at_line_start (o.indent_width * f.indent) (cond (
 -- Whether a `{`, the first of the tokens ts, opens a block over several lines.
 abbrev pub opens_block : List Token → Formatter → Bool
 opens_block ts f =
-    cond f.record_pending true (cond f.in_record true (cond (in_one_line_block f) false (not (block_is_single_line ts))))
+    cond f.record_pending true
+    (cond f.in_record true (cond (in_one_line_block f) false (not (block_is_single_line ts))))
 
 -- What such a `{` does to the record fields.
 abbrev pub record_entered : Formatter → Formatter

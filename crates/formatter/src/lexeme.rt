@@ -161,7 +161,8 @@ impl Formatter {
     // How many spaces `push_trivia_gap` of format.rs writes: the indent at a line's start, else one.
     pub fn indent_or_space(self, options: Options) -> usize
         requires { IndentBounds options self }
-        ensures { (result ≡ indent_or_space_size (options_of options) (fields_of self)) × (result < past_gap) }
+        ensures { (result ≡ indent_or_space_size (options_of options) (fields_of self))
+            × (result < past_gap) }
     {
         if self.at_line_start {
             return self.indent_size(options);

@@ -15,4 +15,5 @@ abbrev pub sig_answer : List ℕ → SigMeasure
 sig_answer rows = record { params = params (sig_measure (measured rows)); width = (sig_measure (measured rows)).width }
 
 abbrev pub group_answer : List ℕ → GroupMeasure
-group_answer rows = record { commas = (group_measure (measured rows)).commas; width = (group_measure (measured rows)).width }
+group_answer rows =
+    record { commas = (group_measure (measured rows)).commas; width = (group_measure (measured rows)).width }

@@ -248,8 +248,10 @@ fn until_wide(rows: &[u8], span: Span, limit: usize) -> Reached
     requires { limit < 2 ^ 32 }
     ensures left { measure_rows span start (rows_of rows.now)
         ≡ measure_rows span (measure_of result.m) (rows_of (drop result.at rows.now)) }
-    ensures whole { result.m.width ≤ limit → measure_rows span start (rows_of rows.now) ≡ measure_of result.m }
-    ensures few { (result.m.parens ≤ result.at) × (result.m.brackets ≤ result.at) × (result.at ≤ length rows.now) }
+    ensures whole { result.m.width ≤ limit
+        → measure_rows span start (rows_of rows.now) ≡ measure_of result.m }
+    ensures few { (result.m.parens ≤ result.at) × (result.m.brackets ≤ result.at)
+        × (result.at ≤ length rows.now) }
 {
     let mut m = Measure::new();
     let mut at = 0;

@@ -48,11 +48,13 @@ pub record Ahead (rows text : List ℕ) (at : ℕ) : Type 0 where
   pub before : Before
   pub count : ℕ
   pub no_lead : orphan before ≡ false
-  pub left : bad_from (length text) at_start 0 (rows_of rows) ≡ bad_from (length text) before count (rows_of (drop at rows))
+  pub left : bad_from (length text) at_start 0 (rows_of rows)
+      ≡ bad_from (length text) before count (rows_of (drop at rows))
 
 -- A row there of a kind with a fixed lexeme, of Newline or of Eof does not fit, if it names bytes of the text.
 pub record Unfit (rows text : List ℕ) (at : ℕ) : Type 0 where
-  pub unfit : (row_at rows at).kind ≤ Else → Inside text (row_at rows at) → fits_row rows text at (row_at rows at) ≡ false
+  pub unfit : (row_at rows at).kind ≤ Else → Inside text (row_at rows at)
+      → fits_row rows text at (row_at rows at) ≡ false
 
 -- The rows from an index to another fit.
 pub record FitsTo (rows text : List ℕ) (from at : ℕ) : Type 0 where
