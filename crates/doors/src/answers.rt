@@ -6,56 +6,45 @@ ghost use Rattle.sheet.specs.Answer.{reported as sheet_reported};
 ghost use Rattle.pieces.specs.Answer.{reported as pieces_reported};
 ghost use Rattle.spaces.specs.Answer.{reported as space_reported};
 
-use shared::refusals;
-use shared::report::{Report, refuse, success};
+use format_tokens::{LayoutError, Text};
+use pieces::ReadError;
+use shared::refusal::Refused;
+use shared::report::{Report, report_answer};
+use sheet::{SheetError, SheetSize};
+use spaces::UnknownKind;
 
-// Returns the report of a layout: its length, its inserted commas and plain, or a refusal.
-pub fn of_layout(answer: format_tokens::Answer) -> Report
+// The report of a layout: its length, its inserted commas and plain, or a refusal.
+pub fn of_layout(answer: Result<Text, LayoutError>) -> Report
     ensures { report_of result ≡ layout_reported answer }
 {
-    match answer {
-        format_tokens::Answer::Text {
-            length,
-            commas,
-            plain,
-        } => success(length as u64, commas as u64, plain as u64),
-        format_tokens::Answer::BadOption { position } => refuse(refusals::OPTION, position),
-        format_tokens::Answer::RaggedRows => refuse(refusals::RAGGED_ROWS, 0),
-        format_tokens::Answer::BadRow { row } => refuse(refusals::BAD_ROW, row),
-        format_tokens::Answer::Deep { index } => refuse(refusals::DEEP, index),
-        format_tokens::Answer::Full { index } => refuse(refusals::FULL, index),
-    }
+    let numbers = answer.map(|text| {
+        [
+            text.length as u64,
+            text.commas as u64,
+            u64::from(text.plain),
+        ]
+    });
+    report_answer(numbers.map_err(Refused::from))
 }
 
-// Returns the report of a sheet: its rows, its texts' bytes and 0, or a refusal.
-pub fn of_sheet(answer: sheet::Answer) -> Report
+// The report of a sheet: its rows, its texts' bytes and 0, or a refusal.
+pub fn of_sheet(answer: Result<SheetSize, SheetError>) -> Report
     ensures { report_of result ≡ sheet_reported answer }
 {
-    match answer {
-        sheet::Answer::Read { rows, text_bytes } => success(rows as u64, text_bytes as u64, 0),
-        sheet::Answer::NoNames => refuse(refusals::NO_NAMES, 0),
-        sheet::Answer::BadLine { line } => refuse(refusals::BAD_LINE, line),
-        sheet::Answer::SheetFull { line } => refuse(refusals::SHEET_FULL, line),
-    }
+    let numbers = answer.map(|size| [size.rows as u64, size.text_bytes as u64, 0]);
+    report_answer(numbers.map_err(Refused::from))
 }
 
-// Returns the report of a text that was read back: its pieces, 0 and 0, or a refusal.
-pub fn of_pieces(answer: pieces::Answer) -> Report
+// The report of a text that was read back: its pieces, 0 and 0, or a refusal.
+pub fn of_pieces(answer: Result<usize, ReadError>) -> Report
     ensures { report_of result ≡ pieces_reported answer }
 {
-    match answer {
-        pieces::Answer::Pieces { count } => success(count as u64, 0, 0),
-        pieces::Answer::Unreadable { index } => refuse(refusals::UNREADABLE, index),
-        pieces::Answer::PiecesFull { start } => refuse(refusals::PIECES_FULL, start),
-    }
+    report_answer(answer.map(|count| [count as u64, 0, 0]).map_err(Refused::from))
 }
 
-// Returns the report of a space: 1 or 0, 0 and 0, or a refusal.
-pub fn of_space(answer: spaces::Space) -> Report
+// The report of a space: 1 or 0, 0 and 0, or a refusal.
+pub fn of_space(answer: Result<bool, UnknownKind>) -> Report
     ensures { report_of result ≡ space_reported answer }
 {
-    match answer {
-        spaces::Space::Needed { needed } => success(needed as u64, 0, 0),
-        spaces::Space::BadRow { position } => refuse(refusals::BAD_ROW, position),
-    }
+    report_answer(answer.map(|needed| [u64::from(needed), 0, 0]).map_err(Refused::from))
 }

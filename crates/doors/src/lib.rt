@@ -13,7 +13,7 @@ ghost use Rattle.doors.specs.Door.{door_refusal, door_report, door_slice};
 use format_source::format_source_with_shebang;
 use format_tokens::format_tokens_with;
 use pieces::read_pieces;
-use shared::refusals;
+use shared::refusal::Refusal;
 use shared::report::{REPORT_BYTES, put_report};
 use sheet::read_sheet;
 use spaces::needs_space;
@@ -44,7 +44,7 @@ pub extern "C" fn rl_layout(
         list_width rows.now text.now out.old).out }
 {
     if report.len() != REPORT_BYTES {
-        return refusals::REPORT;
+        return Refusal::BadReport.number();
     }
     let laid = format_tokens_with(
         style,
@@ -79,7 +79,7 @@ pub extern "C" fn rl_layout_source(
         rows.now text.now out.old).out }
 {
     if report.len() != REPORT_BYTES {
-        return refusals::REPORT;
+        return Refusal::BadReport.number();
     }
     let laid = format_source_with_shebang(source, rows, text, out);
     put_report(report, answers::of_layout(laid))
@@ -108,7 +108,7 @@ pub extern "C" fn rl_read_sheet(
         (sheet_text sheet.now rows.old text.old) }
 {
     if report.len() != REPORT_BYTES {
-        return refusals::REPORT;
+        return Refusal::BadReport.number();
     }
     let answer = answers::of_sheet(read_sheet(sheet, rows, text));
     put_report(report, answer)
@@ -128,7 +128,7 @@ pub extern "C" fn rl_read_pieces(text: &[u8], pieces: &mut [u32], report: &mut [
         (read_slots text.now pieces.old) }
 {
     if report.len() != REPORT_BYTES {
-        return refusals::REPORT;
+        return Refusal::BadReport.number();
     }
     let answer = answers::of_pieces(read_pieces(text, pieces));
     put_report(report, answer)
@@ -142,7 +142,7 @@ pub extern "C" fn rl_needs_space(first: u32, second: u32, report: &mut [u8]) -> 
         ≡ door_report report.old (space_report first second) }
 {
     if report.len() != REPORT_BYTES {
-        return refusals::REPORT;
+        return Refusal::BadReport.number();
     }
     let answer = answers::of_space(needs_space(first, second));
     put_report(report, answer)

@@ -1,13 +1,12 @@
 // The program (specification, 'The program'): what `layout` does with a sheet on standard input.
 #![tactic(auto)]
 
-ghost use Rattle.std.specs.Prelude.{◌≤◌, length, IfOk};
-
-use format_tokens::{Answer, format_tokens_with};
+use console::read_full;
+use format_tokens::{LayoutError, Text, format_tokens_with};
 use rows::{ROW_BYTES, options};
-use shared::refusals;
+use shared::refusal::Refused;
+use sheet::{SheetSize, read_sheet};
 use std::io;
-use std::io::Read;
 
 // Reads a sheet, lays it out with the default options and writes the answer and the text.
 pub fn lay_out_sheet(rt: &(impl Input + Print)) -> io::Result<()> {
@@ -15,104 +14,58 @@ pub fn lay_out_sheet(rt: &(impl Input + Print)) -> io::Result<()> {
     let mut rows = [0u8; 65536];
     let mut text = [0u8; 65536];
     let mut out = [0u8; 65536];
-    run(rt, &mut sheet, &mut rows, &mut text, &mut out)
-}
-
-// Reads standard input into `sheet`, and the sheet into `rows` and `text`; their layout goes into `out`.
-fn run(
-    rt: &(impl Input + Print),
-    sheet: &mut [u8],
-    rows: &mut [u8],
-    text: &mut [u8],
-    out: &mut [u8],
-) -> io::Result<()> {
-    let size = read_full(&mut rt.reader(), sheet)?;
-    match sheet::read_sheet(&sheet[..size], rows, text) {
-        sheet::Answer::Read {
-            rows: count,
-            text_bytes,
-        } => lay_out(rt, rows, count, text, text_bytes, out),
-        sheet::Answer::NoNames => print_refusal(rt, refusals::NO_NAMES, 0),
-        sheet::Answer::BadLine { line } => print_refusal(rt, refusals::BAD_LINE, line as u64),
-        sheet::Answer::SheetFull { line } => print_refusal(rt, refusals::SHEET_FULL, line as u64),
+    let size = read_full(&mut rt.reader(), &mut sheet)?;
+    match read_sheet(&sheet[..size], &mut rows, &mut text) {
+        Ok(read) => lay_out(rt, read, &rows, &text, &mut out),
+        Err(error) => print_refusal(rt, error.into()),
     }
 }
 
-// Reads until `buf` is full or the input ends, and returns how many bytes were read.
-fn read_full(reader: &mut impl Read, buf: &mut [u8]) -> io::Result<usize>
-    ensures { IfOk result (λ n. n ≤ length buf.new) }
-{
-    let mut size = 0;
-    while size < buf.len() {
-        let read = reader.read(&mut buf[size..])?;
-        if read == 0 {
-            break;
-        }
-        size += read;
-    }
-    Ok(size)
-}
-
-// Lays out the first `count` rows with the first `text_bytes` of `text`, by the default options, and writes
-// the answer and the text. The sheet reader's counts lie in its slices.
+// Lays out the rows and texts that a sheet was read into, by the default options, and writes the answer and the
+// text. The sheet reader's sizes lie in its slices.
 fn lay_out(
     rt: &impl Print,
+    read: SheetSize,
     rows: &[u8],
-    count: usize,
     text: &[u8],
-    text_bytes: usize,
     out: &mut [u8],
 ) -> io::Result<()> {
-    if rows.len() / ROW_BYTES < count {
+    let Some(rows) = rows.get(..ROW_BYTES.saturating_mul(read.rows)) else {
         return Ok(());
-    }
-    if text.len() < text_bytes {
+    };
+    let Some(text) = text.get(..read.text_bytes) else {
         return Ok(());
-    }
+    };
     let answer = format_tokens_with(
         options::DEFAULT_STYLE,
         options::DEFAULT_INDENT_WIDTH,
         options::DEFAULT_WIDTH,
         options::DEFAULT_WIDTH,
-        &rows[..ROW_BYTES * count],
-        &text[..text_bytes],
+        rows,
+        text,
         out,
     );
     print_answer(rt, answer, out)
 }
 
 // Writes the text that stands first in `out`, with what the answer tells of it, or the refusal and its place.
-fn print_answer(rt: &impl Print, answer: Answer, out: &[u8]) -> io::Result<()> {
+fn print_answer(rt: &impl Print, answer: Result<Text, LayoutError>, out: &[u8]) -> io::Result<()> {
     match answer {
-        Answer::Text {
-            length,
-            commas,
-            plain,
-        } => print_text(rt, length, commas, plain, out),
-        Answer::BadOption { position } => print_refusal(rt, refusals::OPTION, position as u64),
-        Answer::RaggedRows => print_refusal(rt, refusals::RAGGED_ROWS, 0),
-        Answer::BadRow { row } => print_refusal(rt, refusals::BAD_ROW, row as u64),
-        Answer::Deep { index } => print_refusal(rt, refusals::DEEP, index as u64),
-        Answer::Full { index } => print_refusal(rt, refusals::FULL, index as u64),
+        Ok(text) => print_text(rt, text, out),
+        Err(error) => print_refusal(rt, error.into()),
     }
 }
 
-fn print_text(
-    rt: &impl Print,
-    length: usize,
-    commas: usize,
-    plain: bool,
-    out: &[u8],
-) -> io::Result<()> {
-    if out.len() < length {
+fn print_text(rt: &impl Print, text: Text, out: &[u8]) -> io::Result<()> {
+    let Some(bytes) = out.get(..text.length) else {
         return Ok(());
-    }
-    let mark = plain as u8;
-    println!(rt; "length commas plain\n{length} {commas} {mark}")?;
-    rt.write_all(&out[..length])
+    };
+    let mark = u8::from(text.plain);
+    println!(rt; "length commas plain\n{} {} {mark}", text.length, text.commas)?;
+    rt.write_all(bytes)
 }
 
 // Writes a refusal and its place.
-fn print_refusal(rt: &impl Print, refusal: u32, place: u64) -> io::Result<()> {
-    println!(rt; "refusal place\n{refusal} {place}")
+fn print_refusal(rt: &impl Print, refused: Refused) -> io::Result<()> {
+    println!(rt; "refusal place\n{refused}")
 }

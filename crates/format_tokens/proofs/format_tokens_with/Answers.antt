@@ -1,71 +1,45 @@
 -- `format_tokens::format_tokens_with` meets its contract. Assumes nothing.
-use mathlib.Core.Bool.{Bool}
 use mathlib.Core.Path.{◌≡◌, sym, ap, ◌∙◌}
-use native.Mathlib.Omega.{arith}
-use lib.ListN.{length}
-use Rattle.rows.proofs.Passed.{Passed, passed}
-use Rattle.format_tokens.specs.declared.Marked.{Marked}
-use Rattle.format_tokens.specs.declared.Marked.TheVariants.{Good}
-use Rattle.format_tokens.specs.Steps.{refusal_of}
-use Rattle.format_tokens.proofs.Laid.{Answers, refused_answers, passed_walks, small_width, walked_answers}
+use Rattle.rows.proofs.Passed.{passed, few_rows}
+use Rattle.std.specs.Prelude.{Result}
+use Rattle.format_tokens.specs.declared.later.Finished.{Finished}
+use Rattle.format_tokens.specs.declared.later.WalkError.{WalkError}
+use Rattle.format_tokens.specs.Answer.{reported}
+use Rattle.format_tokens.proofs.Laid.{Answers, refused_by, passed_walks, small_width, answer_to, output_to, walked_by}
 use Rattle.format_tokens.proofs.format_tokens_with.Goals as goal
-use Rattle.format_tokens.proofs.format_tokens_with.Goals.{After-check_and_mark}
+use Rattle.format_tokens.proofs.format_tokens_with.Goals.{After-lay_out}
 
--- where the checks refuse, their refusal is the layout's, and the output is as it was
-refused : (c : After-check_and_mark) {k : Marked} → c.check_and_mark.result ≡ k → ((refusal_of k).refusal ≡ 0 → ⊥)
-    → let a = c.args in
-    Answers a.style a.indent_width a.signature_width a.list_width a.rows.now a.text.now a.out.now (refusal_of k) a.out.now
-refused c e n =
-    let a = c.args in
-    refused_answers _ _ _ _ _ a.text.now a.out.now (sym (ap refusal_of e) ∙ c.check_and_mark.ensures.refusal) n
+pub returns-in_err-check_unless_known-clause-answer : goal.returns-in_err-check_unless_known-clause-answer
+returns-in_err-check_unless_known-clause-answer c = (refused_by _ _ c.from_residual.ensures.1 c.in_err-check_unless_known.ensures).answer
 
--- where they answer a mark, they refuse nothing
-good : (c : After-check_and_mark) {mark : Bool} → c.check_and_mark.result ≡ Good mark
-    → let a = c.args in
-    Passed a.style a.indent_width a.signature_width a.list_width a.rows.now (length a.text.now)
-good c e = passed _ _ _ _ _ _ (sym c.check_and_mark.ensures.refusal ∙ ap refusal_of e)
+pub returns-in_err-check_unless_known-clause-output : goal.returns-in_err-check_unless_known-clause-output
+returns-in_err-check_unless_known-clause-output c = (refused_by _ _ c.from_residual.ensures.1 c.in_err-check_unless_known.ensures).output
 
-pub lay_out-walked-requires : goal.lay_out-walked-requires
-lay_out-walked-requires c =
-    let e = c.in-Good.is in
+pub lay_out-requires : goal.lay_out-requires
+lay_out-requires c =
     let text = c.args.text.now in
-    let π = good (goal.at.lay_out-walked-requires c).After-check_and_mark e in
+    let π = passed _ _ _ _ _ _ (sym c.in_ok-check_unless_known.ensures) in
     record {
       checked_rows = passed_walks text π;
       indent_width_bound = rw c.options_of-options.ensures.indent (small_width text π);
-      plain_value = c.check_and_mark.ensures.mark _ e;
+      plain_value = c.is_plain-plain.ensures.mark (few_rows π) π.each;
     }
 
-pub returns-in-BadOption : goal.returns-in-BadOption
-returns-in-BadOption c =
-    let α = refused (goal.at.returns-in-BadOption c).After-check_and_mark c.in-BadOption.is (λ z. omega arith) in
-    record {
-      answer = α.answer;
-      output = α.output;
-    }
+-- the walk's end s, under the checks that passed
+walked : (c : After-lay_out) {s : Result Finished WalkError} → c.lay_out.result ≡ s
+    → let a = c.args in
+    Answers a.style a.indent_width a.signature_width a.list_width a.rows.now a.text.now a.out.now (reported (answer_to s c.is_plain-plain.result)) (output_to s c.lay_out.new.out)
+walked c e =
+    let π = passed _ _ _ _ _ _ (sym c.in_ok-check_unless_known.ensures) in
+    let laid = rw c.options_of-options.ensures.options at c.lay_out.ensures in
+    walked_by c.args.text.now π laid e (c.is_plain-plain.ensures.mark (few_rows π) π.each)
 
-pub returns-in-RaggedRows : goal.returns-in-RaggedRows
-returns-in-RaggedRows c =
-    let α = refused (goal.at.returns-in-RaggedRows c).After-check_and_mark c.in-RaggedRows.is (λ z. omega arith) in
-    record {
-      answer = α.answer;
-      output = α.output;
-    }
+pub returns-in-Ok : goal.returns-in-Ok
+returns-in-Ok c =
+    let α = walked (goal.at.returns-in-Ok c).After-lay_out c.in-Ok.is in
+    record { answer = α.answer; output = α.output }
 
-pub returns-in-BadRow : goal.returns-in-BadRow
-returns-in-BadRow c =
-    let α = refused (goal.at.returns-in-BadRow c).After-check_and_mark c.in-BadRow.is (λ z. omega arith) in
-    record {
-      answer = α.answer;
-      output = α.output;
-    }
-
-pub returns-in-Good : goal.returns-in-Good
-returns-in-Good c =
-    let e = c.in-Good.is in
-    let laid = rw c.options_of-options.ensures.options at c.lay_out-walked.ensures in
-    let α = walked_answers c.args.text.now (good (goal.at.returns-in-Good c).After-check_and_mark e) laid (c.check_and_mark.ensures.mark _ e) in
-    record {
-      answer = c.answer_of.ensures.answer ∙ α.answer;
-      output = c.answer_of.ensures.output ∙ α.output;
-    }
+pub returns-in-Err : goal.returns-in-Err
+returns-in-Err c =
+    let α = walked (goal.at.returns-in-Err c).After-lay_out c.in-Err.is in
+    record { answer = rw c.into.ensures α.answer; output = c.fill.ensures.after (λ y q. q) ∙ α.output }

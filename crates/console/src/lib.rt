@@ -1,0 +1,65 @@
+// What the programs share: they read standard input into fixed memory, and the replays take cases off it.
+#![tactic(auto)]
+
+ghost use Rattle.std.specs.Prelude.{◌≤◌, length, IfOk};
+
+use std::io;
+use std::io::Read;
+
+// Reads until `buf` is full or the input ends, and returns how many bytes were read.
+pub fn read_full(reader: &mut impl Read, buf: &mut [u8]) -> io::Result<usize>
+    ensures { IfOk result (λ n. n ≤ length buf.new) }
+{
+    let mut size = 0;
+    while size < buf.len() {
+        let read = reader.read(&mut buf[size..])?;
+        if read == 0 {
+            break;
+        }
+        size += read;
+    }
+    Ok(size)
+}
+
+// What is left of an input.
+#[derive(Clone, Copy)]
+pub struct Left<'a> {
+    pub bytes: &'a [u8],
+}
+
+impl<'a> Left<'a> {
+    // Takes the next `size` bytes, if so many are left.
+    pub fn take(&mut self, size: usize) -> Option<&'a [u8]> {
+        let (taken, left) = self.bytes.split_at_checked(size)?;
+        self.bytes = left;
+        Some(taken)
+    }
+
+    // Takes the next decimal number, and the byte after it.
+    pub fn number(&mut self) -> Option<usize> {
+        let size = self.bytes.iter().take_while(|b| b.is_ascii_digit()).count();
+        let digits = str::from_utf8(self.take(size)?).ok()?;
+        self.take(1)?;
+        digits.parse().ok()
+    }
+
+    // Takes the next 32-bit number, its lowest byte first.
+    pub fn number_32(&mut self) -> Option<u32> {
+        let (bytes, left) = self.bytes.split_first_chunk()?;
+        self.bytes = left;
+        Some(u32::from_le_bytes(*bytes))
+    }
+}
+
+// Runs case after case, until one is not whole. No case is empty, so that there are fewer of them than bytes.
+pub fn replay<F: FnMut(&mut Left<'_>) -> io::Result<bool>>(input: &[u8], mut case: F) -> io::Result<()>
+    requires { F.IsAlwaysCallable case }
+{
+    let mut left = Left { bytes: input };
+    for _ in 0..input.len() {
+        if !case(&mut left)? {
+            break;
+        }
+    }
+    Ok(())
+}
