@@ -13,7 +13,7 @@ pub mod kind;
 pub mod kinds;
 pub mod options;
 
-pub use kind::{Kind, Trivia, What};
+pub use kind::{Kind, KindSet, Trivia, What};
 
 // What the checks of the options and the rows answer.
 #[derive(Clone, Copy)]
