@@ -23,8 +23,8 @@ use Rattle.definition.specs.Layout.{finished, lay_from}
 use Rattle.definition.proofs.Last.{Told}
 use Rattle.sink.proofs.Sink.{nothing, later}
 use Rattle.formatter.specs.declared.Formatter.{Formatter}
-use Rattle.formatter.specs.declared.Prev.{Prev}
-use Rattle.formatter.specs.declared.Prev.TheVariants.{Nothing, Kind}
+use Rattle.std.specs.declared.option.Option.{Option}
+use Rattle.std.specs.declared.option.Option.TheVariants.{None, Some}
 use Rattle.formatter.specs.declared.fast_tokens.FastTokens as code
 use Rattle.formatter.specs.CodeState.{Locals, CodeState, code_state, state_of, locals_of, prev_of, formatter_of}
 use Rattle.formatter.specs.Does.{Does}
@@ -74,9 +74,9 @@ module _ {rows text : List ℕ} {o : Options.Options} {k₀ l₀ : List ℕ} {x 
 
 -- ---- after fast tokens and fast braces
 
-known_prev : (p : Prev) → is_some (prev_of p) ≡ true → prev_of p ≡ some (kind_of p)
-known_prev Nothing e = impossible' e
-known_prev (Kind k) e = refl
+known_prev : (p : Option ℕ) → is_some (prev_of p) ≡ true → prev_of p ≡ some (kind_of p)
+known_prev None e = impossible' e
+known_prev (Some k) e = refl
 
 only_drop : (n : ℕ) (rs : List Row) → only_tokens rs ≡ true → only_tokens (drop n rs) ≡ true
 unfolding only_tokens
@@ -102,8 +102,8 @@ module _ (rows : List ℕ) (at : ℕ) (whole : at ≡ 16 * (at / 16)) where
 
 module _ {rows text : List ℕ} {o : Options.Options} {k₀ l₀ : List ℕ} {x : Locals} {f : Formatter} {k l : List ℕ} {i at : ℕ} (ω : CheckedRows rows text) (γ : Going rows text o k₀ l₀ i at x (code_state f k l)) where
   -- In a line there is a token before.
-  pub last_known : f.at_line_start ≡ false → prev_of f.prev.kind ≡ some (kind_of f.prev.kind)
-  last_known e = known_prev f.prev.kind (γ.told.mid_line e)
+  pub last_known : f.at_line_start ≡ false → prev_of f.prev ≡ some (kind_of f.prev)
+  last_known e = known_prev f.prev (γ.told.mid_line e)
 
   -- What was laid out ahead, up to the row at `to`, with the locals z.
   record Past (to : ℕ) (z : Locals) (g : Formatter) (m : List ℕ) : Type 0 where
@@ -156,7 +156,7 @@ module _ {rows text : List ℕ} {o : Options.Options} {k₀ l₀ : List ℕ} {x 
 
   -- ---- fast tokens
 
-  module _ {m : List ℕ} {r : code.FastTokens} (ρ : BeforeFastTokens (formatter_of f k x) (kind_of f.prev.kind) (fast_state_of f) (fast_kinds_of f k)) (σ : FastTokensLaidOut rows text at f.len (kind_of f.prev.kind) (fast_state_of f) (fast_kinds_of f k) l m r) where
+  module _ {m : List ℕ} {r : code.FastTokens} (ρ : BeforeFastTokens (formatter_of f k x) (kind_of f.prev) (fast_state_of f) (fast_kinds_of f k)) (σ : FastTokensLaidOut rows text at f.len (kind_of f.prev) (fast_state_of f) (fast_kinds_of f k) l m r) where
     abbrev gone : Locals
     gone = locals_of (after_fast_tokens (ltb at r.at) r.prev r.state (formatter_of f k x))
 
@@ -186,7 +186,7 @@ module _ {rows text : List ℕ} {o : Options.Options} {k₀ l₀ : List ℕ} {x 
 
   -- ---- fast braces
 
-  module _ (only : only_tokens (rows_of rows) ≡ true) {m : List ℕ} {r : FastBraces} (ρ : BeforeFastBraces (formatter_of f k x) (fast_braces_at f at)) (σ : FastBracesLaidOut rows (fast_braces_at f at) l m r) (last : kind_of f.prev.kind ≤ Other) where
+  module _ (only : only_tokens (rows_of rows) ≡ true) {m : List ℕ} {r : FastBraces} (ρ : BeforeFastBraces (formatter_of f k x) (fast_braces_at f at)) (σ : FastBracesLaidOut rows (fast_braces_at f at) l m r) (last : kind_of f.prev ≤ Other) where
     abbrev past_braces : Locals
     past_braces = locals_of (after_fast_braces (ltb at r.at) σ.close r (formatter_of f k x))
 

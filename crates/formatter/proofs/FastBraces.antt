@@ -122,7 +122,7 @@ module _ {rows l m : List ℕ} {from b : FastBraces} (α : FastBracesSoFar rows 
 -- ---- where they begin
 
 pub before_fast_braces :
-    {f : code.Formatter} {bare : Bool} → MayStartFastBraces f bare → (at : ℕ) (stack : List ℕ) (x : Locals) → prev_of f.prev.kind ≡ some (kind_of f.prev.kind) → x.skip_next ≡ false → x.too_deep ≡ none
+    {f : code.Formatter} {bare : Bool} → MayStartFastBraces f bare → (at : ℕ) (stack : List ℕ) (x : Locals) → prev_of f.prev ≡ some (kind_of f.prev) → x.skip_next ≡ false → x.too_deep ≡ none
     → BeforeFastBraces (formatter_of f stack x) (fast_braces_at f at)
 before_fast_braces ν at stack x p s d =
     record {

@@ -29,8 +29,9 @@ use Rattle.sink.specs.Sink.{Writes}
 use Rattle.spaces.specs.Between.{bit, spaces}
 use Rattle.sink.proofs.Sink.{later}
 use Rattle.formatter.specs.declared.Formatter as code
-use Rattle.formatter.specs.declared.Broken.{Broken}
-use Rattle.formatter.specs.declared.Broken.TheVariants.{Nowhere, At}
+use Rattle.std.specs.declared.option.Option.{Option}
+use Rattle.std.specs.declared.option.Option.TheVariants.{None, Some}
+use Rattle.formatter.specs.declared.SignatureDepth.{SignatureDepth}
 use Rattle.formatter.specs.declared.fast_tokens.FastState.{FastState}
 use Rattle.formatter.specs.declared.fast_tokens.FastTokens as code-fast
 use Rattle.formatter.specs.CodeState.{Locals, prev_of, signature_of, top_first, formatter_of, fields_of, fields_on}
@@ -222,17 +223,17 @@ ends t e d s α = rw (e, d) at (α.done t s)
 
 -- ---- what the walk has before fast tokens
 
-unbroken : (b : Broken) → not (is_some (signature_of b)) ≡ true → signature_of b ≡ none
-unbroken Nowhere e = refl
-unbroken (At d) e = impossible' e
+unbroken : (b : Option SignatureDepth) → not (is_some (signature_of b)) ≡ true → signature_of b ≡ none
+unbroken None e = refl
+unbroken (Some d) e = impossible' e
 
 none_top : (n : ℕ) (stack : List ℕ) → n ≡ 0 → top_first n stack ≡ []
 unfolding top_first
 none_top n stack e = rw e
 
 pub before_fast_tokens :
-    {f : code.Formatter} → MayStartFastTokens f → (stack : List ℕ) (x : Locals) → prev_of f.prev.kind ≡ some (kind_of f.prev.kind) → x.skip_next ≡ false → x.too_deep ≡ none
-    → BeforeFastTokens (formatter_of f stack x) (kind_of f.prev.kind) (fast_state_of f) (fast_kinds_of f stack)
+    {f : code.Formatter} → MayStartFastTokens f → (stack : List ℕ) (x : Locals) → prev_of f.prev ≡ some (kind_of f.prev) → x.skip_next ≡ false → x.too_deep ≡ none
+    → BeforeFastTokens (formatter_of f stack x) (kind_of f.prev) (fast_state_of f) (fast_kinds_of f stack)
 before_fast_tokens {f} β stack x p s d =
     record {
       mid_line = β.mid_line;
@@ -242,9 +243,9 @@ before_fast_tokens {f} β stack x p s d =
       with_state = rw (← p);
       no_fn = λ e. (rw e, β.no_fn e);
       unbroken = not-true (at_record_fields (fields_of f) || in_broken_list (fields_on f stack));
-      no_brace = λ e. rw p at (not-true (is_at (prev_of f.prev.kind) RightBrace) e);
+      no_brace = λ e. rw p at (not-true (is_at (prev_of f.prev) RightBrace) e);
       whole = λ e.
-          let a = and_left (not (is_some (signature_of f.sig_break_depth.0))) (eqb f.break_count 0) e in
-          let b = eqb-true f.break_count 0 (and_right (not (is_some (signature_of f.sig_break_depth.0))) (eqb f.break_count 0) e) in
-          (unbroken f.sig_break_depth.0 a, none_top f.break_count stack b);
+          let a = and_left (not (is_some (signature_of f.sig_break_depth))) (eqb f.break_count 0) e in
+          let b = eqb-true f.break_count 0 (and_right (not (is_some (signature_of f.sig_break_depth))) (eqb f.break_count 0) e) in
+          (unbroken f.sig_break_depth a, none_top f.break_count stack b);
     }

@@ -22,9 +22,10 @@ use Rattle.definition.proofs.Growth.{depth, Grown, turn_grown}
 use Rattle.definition.proofs.Last.{Told, turn_told}
 use Rattle.sink.proofs.Sink.{later}
 use Rattle.formatter.specs.declared.Formatter.{Formatter}
-use Rattle.formatter.specs.declared.Formatted.TheVariants.{Finished}
-use Rattle.formatter.specs.declared.Broken.{Broken}
-use Rattle.formatter.specs.declared.Broken.TheVariants.{Nowhere, At}
+use Rattle.std.specs.declared.option.Option.{Option}
+use Rattle.std.specs.declared.option.Option.TheVariants.{None, Some}
+use Rattle.std.specs.declared.result.Result.TheVariants.{Ok}
+use Rattle.formatter.specs.declared.SignatureDepth.{SignatureDepth}
 use Rattle.formatter.specs.CodeState.{Locals, CodeState, code_state, state_of, locals_of, signature_of, top_first}
 use Rattle.formatter.specs.Does.{Does, Arrives}
 use Rattle.formatter.specs.Token.{depth_of}
@@ -44,9 +45,9 @@ lay-stopped o size n j i (t ∷ ts) = lay-stopped o size n j (i + 1) ts
 
 -- ---- the counts
 
-pub depth-signature : (b : Broken) → depth (signature_of b) ≡ depth_of b
-depth-signature Nowhere = refl
-depth-signature (At d) = refl
+pub depth-signature : (b : Option SignatureDepth) → depth (signature_of b) ≡ depth_of b
+depth-signature None = refl
+depth-signature (Some d) = refl
 
 -- Each count is at most n.
 pub record AtMost (n : ℕ) (f : Formatter) : Type 0 where
@@ -54,7 +55,7 @@ pub record AtMost (n : ℕ) (f : Formatter) : Type 0 where
   pub group : f.group_depth.0 ≤ n
   pub inline : f.inline_depth.0 ≤ n
   pub records : f.record_depth.0 ≤ n
-  pub signature : depth_of f.sig_break_depth.0 ≤ n
+  pub signature : depth_of f.sig_break_depth ≤ n
   pub commas : f.commas ≤ n
 
 -- ---- what holds between two tokens: i of them are laid out, and the next one's rows begin at `at`
@@ -97,7 +98,7 @@ starts {rows} {text} {f} {k} {l} o ω φ =
             group = le_zero (ap (λ g. g.group_depth) φ.new);
             inline = le_zero (ap (λ g. g.inline_depth) φ.new);
             records = le_zero (ap (λ g. g.record_depth) φ.new);
-            signature = le_zero (sym (depth-signature f.sig_break_depth.0) ∙ ap (λ g. depth g.sig_break_depth) φ.new);
+            signature = le_zero (sym (depth-signature f.sig_break_depth) ∙ ap (λ g. depth g.sig_break_depth) φ.new);
             commas = le_zero φ.none;
           };
       entries = let z = φ.count in omega arith;
@@ -207,7 +208,7 @@ module _ {rows text : List ℕ} {o : Options.Options} {k₀ l₀ : List ℕ} {x 
                 group = let a = w.group in let b = c.group in omega arith;
                 inline = let a = w.inline in let b = c.inline in omega arith;
                 records = let a = w.records in let b = c.records in omega arith;
-                signature = let a = w.signature in let b = c.signature in omega (arith, depth-signature p.form.sig_break_depth.0, depth-signature q.form.sig_break_depth.0);
+                signature = let a = w.signature in let b = c.signature in omega (arith, depth-signature p.form.sig_break_depth, depth-signature q.form.sig_break_depth);
                 commas = let a = w.commas in let b = c.commas in omega arith;
               };
           entries =
@@ -232,7 +233,7 @@ module _ {rows text : List ℕ} {o : Options.Options} {l₀ : List ℕ} where
 
   pub laid_done :
       {k₀ : List ℕ} {x : Locals} {p : CodeState} {i at : ℕ} → Going rows text o k₀ l₀ i at x p → length rows ≤ at
-      → LaidOut rows text o l₀ (Finished p.form.len p.form.commas) p.buf
+      → LaidOut rows text o l₀ (Ok (record { length = p.form.len; commas = p.form.commas })) p.buf
   laid_done {k₀} {x} {p} γ h =
       let e = ends γ h in
       let l = length-take-le p.form.len p.buf γ.room in

@@ -28,8 +28,8 @@ use Rattle.formatter.specs.declared.Options.{Options}
 use Rattle.formatter.specs.declared.TokenAt.{TokenAt}
 use Rattle.formatter.specs.declared.Ends.{Ends}
 use Rattle.formatter.specs.declared.token.Place.{Place}
-use Rattle.formatter.specs.declared.Prev.{Prev}
-use Rattle.formatter.specs.declared.Prev.TheVariants.{Nothing, Kind}
+use Rattle.std.specs.declared.option.Option.{Option}
+use Rattle.std.specs.declared.option.Option.TheVariants.{None, Some}
 use Rattle.formatter.specs.CodeState.{Locals, CodeState, code_state, state_of, locals_of, formatter_of, fields_of, fields_on, options_of, prev_of, top_first}
 use Rattle.formatter.specs.Does.{Does, Arrives, Puts}
 use Rattle.formatter.specs.Token.{Ready, StackRoom, InRows, Ahead, AtToken, kind_of, depth_of}
@@ -144,9 +144,9 @@ empty_is rows text from to π = go ((to - from) / 16) π.whole
     go zero e = eq-eqb from to (omega arith)
     go (suc n) e = ne_eqb from to (λ x. omega arith)
 
-kinds_same : (p : Prev) → Last.kind_of (prev_of p) ≡ kind_of p
-kinds_same Nothing = refl
-kinds_same (Kind k) = refl
+kinds_same : (p : Option ℕ) → Last.kind_of (prev_of p) ≡ kind_of p
+kinds_same None = refl
+kinds_same (Some k) = refl
 
 module _ {options : Options} {rows text k₀ l₀ k l : List ℕ} {f : Formatter} {i at : ℕ} {token : TokenAt} (θ : Known options rows text k₀ l₀ i at f k l token) where
   abbrev ω : CheckedRows rows text
@@ -245,8 +245,8 @@ module _ {options : Options} {rows text k₀ l₀ k l : List ℕ} {f : Formatter
         let group : g.group_depth.0 ≡ f.group_depth.0 = field (λ v. v.group_depth) same.group_depth in
         let inline : g.inline_depth.0 ≡ f.inline_depth.0 = field (λ v. v.inline_depth) same.inline_depth in
         let records : g.record_depth.0 ≡ f.record_depth.0 = field (λ v. v.record_depth) same.record_depth in
-        let signature : depth_of g.sig_break_depth.0 ≡ depth_of f.sig_break_depth.0 = sym (depth-signature g.sig_break_depth.0) ∙ field (λ v. depth v.sig_break_depth) (ap depth same.sig_break_depth) ∙ depth-signature f.sig_break_depth.0 in
-        let last : kind_of g.prev.kind ≡ kind_of f.prev.kind = sym (kinds_same g.prev.kind) ∙ field (λ v. Last.kind_of v.prev) (ap Last.kind_of same.prev) ∙ kinds_same f.prev.kind in
+        let signature : depth_of g.sig_break_depth ≡ depth_of f.sig_break_depth = sym (depth-signature g.sig_break_depth) ∙ field (λ v. depth v.sig_break_depth) (ap depth same.sig_break_depth) ∙ depth-signature f.sig_break_depth in
+        let last : kind_of g.prev ≡ kind_of f.prev = sym (kinds_same g.prev) ∙ field (λ v. Last.kind_of v.prev) (ap Last.kind_of same.prev) ∙ kinds_same f.prev in
         record {
           fits = record { within = z; width = w; indent = let a = c.indent in omega arith };
           group = let a = c.group in omega arith;
@@ -254,7 +254,7 @@ module _ {options : Options} {rows text k₀ l₀ k l : List ℕ} {f : Formatter
           records = let a = c.records in omega arith;
           signature = let a = c.signature in omega arith;
           commas = let a = c.commas in let e = commas-same in omega arith;
-          last = rw last (rw (kinds_same f.prev.kind) at ι.going.told.last);
+          last = rw last (rw (kinds_same f.prev) at ι.going.told.last);
         }
 
     pub stack-room : StackRoom g k
@@ -336,7 +336,7 @@ module _ {options : Options} {rows text k₀ l₀ k l : List ℕ} {f : Formatter
         went : Going rows text o k₀ l₀ (i + 1) (next_row rows (own_row rows at)) (locals_of after.formatter) (code_state q k₂ m₃)
         went = goes_on ω ι.going h turned fits (turn-shallow o i t ts (state_of x p) ι.going.shallow ι.no_skip calm) (kind_known ω ι.going.head h) lent
 
-        took : after.formatter.skip_next ≡ took_next token.kind q.prev.kind
+        took : after.formatter.skip_next ≡ took_next token.kind q.prev
         took =
             turn_skip o i t ts (state_of x p) ι.going.shallow ι.no_skip calm
             ∙ ap (λ n. eqb n LeftBrace && is_at after.formatter.prev RightBrace) σ.kind
@@ -348,14 +348,14 @@ module _ {options : Options} {rows text k₀ l₀ k l : List ℕ} {f : Formatter
         went_next : Going rows text o k₀ l₀ (i + 1) token.next (locals_of after.formatter) (code_state q k₂ m₃)
         went_next = subst (λ n. Going rows text o k₀ l₀ (i + 1) n (locals_of after.formatter) (code_state q k₂ m₃)) (sym next_is_lem) went
 
-        next_in : took_next token.kind q.prev.kind ≡ true → token.next < length rows
+        next_in : took_next token.kind q.prev ≡ true → token.next < length rows
         next_in e = rw next_is_lem (next_there ω ι.going.head h RightBrace (turn-taken o i t ts (state_of x p) ι.going.shallow ι.no_skip calm (took ∙ e)))
 
         its_head : TokenBoundary rows text token.next
         its_head = rw next_is_lem (head-next ω ι.going.head h)
 
         -- The token that was taken along is there.
-        pub next_there_too : {bare : Bool} → NoTriviaIf bare rows → took_next token.kind q.prev.kind ≡ true → NextToken rows token.next bare
+        pub next_there_too : {bare : Bool} → NoTriviaIf bare rows → took_next token.kind q.prev ≡ true → NextToken rows token.next bare
         next_there_too only e = next_token ω its_head (next_in e) only
 
         pub next-bounds : (token.next ≤ length rows) × (token.index + 1 < most32)
@@ -363,35 +363,35 @@ module _ {options : Options} {rows text k₀ l₀ k l : List ℕ} {f : Formatter
 
         place_taken :
             {n : ℕ} {j : ℕ} → n ≡ next_row rows (own_row rows token.next) → j ≡ token.index + 2
-            → took_next token.kind q.prev.kind ≡ true → Loop rows text o k₀ l₀ j n (code_state q k₂ m₃)
+            → took_next token.kind q.prev ≡ true → Loop rows text o k₀ l₀ j n (code_state q k₂ m₃)
         place_taken {n} {j} e d c =
             let z : i + 1 + 1 ≡ j = let a = τ.index in omega arith in
             record { locals = locals_of (definition.set_skip_next false (state_of (locals_of after.formatter) (code_state q k₂ m₃)).formatter); going = rw (e, ← z) (skips ω went_next (next_in c) (took ∙ c)); no_skip = refl }
 
-        place_next : {n : ℕ} {j : ℕ} → n ≡ token.next → j ≡ token.index + 1 → took_next token.kind q.prev.kind ≡ false → Loop rows text o k₀ l₀ j n (code_state q k₂ m₃)
+        place_next : {n : ℕ} {j : ℕ} → n ≡ token.next → j ≡ token.index + 1 → took_next token.kind q.prev ≡ false → Loop rows text o k₀ l₀ j n (code_state q k₂ m₃)
         place_next {n} {j} e d c =
             let z : i + 1 ≡ j = let a = τ.index in omega arith in
             record { locals = locals_of after.formatter; going = rw (e, ← z) went_next; no_skip = took ∙ c }
 
         -- The loop's invariant holds at the next place.
-        pub placed : {place : Place} → NextPlace rows token (took_next token.kind q.prev.kind) place → Loop rows text o k₀ l₀ place.index place.at (code_state q k₂ m₃)
+        pub placed : {place : Place} → NextPlace rows token (took_next token.kind q.prev) place → Loop rows text o k₀ l₀ place.index place.at (code_state q k₂ m₃)
         placed π =
-            split (took_next token.kind q.prev.kind)
+            split (took_next token.kind q.prev)
             (λ c. place_taken (rw c at π.at) (rw c at π.index) c)
             (λ c. place_next (rw c at π.at) (rw c at π.index) c)
 
         -- The next place lies further on.
-        pub further : {place : Place} → NextPlace rows token (took_next token.kind q.prev.kind) place → at < place.at
+        pub further : {place : Place} → NextPlace rows token (took_next token.kind q.prev) place → at < place.at
         further π =
-            split (took_next token.kind q.prev.kind)
+            split (took_next token.kind q.prev)
             (λ c. let a = rw c at π.at in let b = next_is_lem in omega arith)
             (λ c. let a = rw c at π.at in let b = next_is_lem in omega arith)
 
 -- ---- fast tokens and fast braces
 
 module _ {rows text : List ℕ} {o : Options.Options} {k₀ l₀ k l : List ℕ} {f : Formatter} {i at : ℕ} {bare : Bool} (π : Placed rows text o k₀ l₀ i at f k l bare) where
-  last-kind : kind_of f.prev.kind ≤ Other
-  last-kind = rw (kinds_same f.prev.kind) at π.loop.going.told.last
+  last-kind : kind_of f.prev ≤ Other
+  last-kind = rw (kinds_same f.prev) at π.loop.going.told.last
 
   -- A whole number of rows is left.
   pub rows_left : RowsLeft rows at
@@ -404,12 +404,12 @@ module _ {rows text : List ℕ} {o : Options.Options} {k₀ l₀ k l : List ℕ}
   -- ---- fast tokens
 
   module _ (ρ : MayStartFastTokens f) where
-    pub fast_tokens_room : StackRoom f k × (kind_of f.prev.kind ≤ Other)
+    pub fast_tokens_room : StackRoom f k × (kind_of f.prev ≤ Other)
     fast_tokens_room = (record { most = π.loop.going.entries; size = π.loop.going.stack }, last-kind)
 
     pub past_fast_tokens :
         {m : List ℕ} {r : code.FastTokens} {g : Formatter}
-        → FastTokensLaidOut rows text at f.len (kind_of f.prev.kind) (fast_state_of f) (fast_kinds_of f k) l m r
+        → FastTokensLaidOut rows text at f.len (kind_of f.prev) (fast_state_of f) (fast_kinds_of f k) l m r
         → ChangedBy (with_fast_state r.prev r.state) r.len f g
         → Loop rows text o k₀ l₀ (i + (r.at - at) / 16) r.at (code_state g k m)
     past_fast_tokens {r = r} σ β =

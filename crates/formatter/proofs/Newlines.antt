@@ -38,6 +38,6 @@ run_newline i ts s h =
     (λ g. rw (h, e, f, g))))
 
 pub newline :
-    (i : ℕ) (ts : List Token) {x : Locals} {p q : CodeState} → is_at (newline_of p.form.suppress_newline_at.at) i ≡ false
+    (i : ℕ) (ts : List Token) {x : Locals} {p q : CodeState} → is_at (newline_of p.form.suppress_newline_at) i ≡ false
     → Does (choose (feeds_line ts) feed_line nothing) x p q → Does (newline_arm i ts) x p q
 newline i ts h d = same-run {a = choose (feeds_line ts) feed_line nothing} (sym (run_newline i ts _ h)) d

@@ -1,7 +1,8 @@
 -- The state that the code holds, with the broken-group stack and the output beside it, and the state of the definition that
 -- it stands for.
 -- Assumes nothing.
-use Rattle.std.specs.Prelude.{Bool, false, List, [], ◌∷◌, ℕ, zero, suc, take, get_or}
+use Rattle.std.specs.Prelude.{Bool, false, List, [], ◌∷◌, ℕ, zero, suc, take, get_or, None, Some}
+use Rattle.std.specs.Prelude
 use Rattle.std.proofs.Math.Option.{Option, none, some}
 use Rattle.rows.specs.Options
 use Rattle.definition.specs.Formatter
@@ -10,29 +11,26 @@ use Rattle.formatter.specs.declared.Formatter.{Formatter}
 use Rattle.formatter.specs.declared.Options.{Options}
 use Rattle.formatter.specs.declared.BraceStyle.{BraceStyle}
 use Rattle.formatter.specs.declared.BraceStyle.TheVariants.{SameLine, Allman}
-use Rattle.formatter.specs.declared.Prev.{Prev}
-use Rattle.formatter.specs.declared.Prev.TheVariants.{Nothing, Kind}
-use Rattle.formatter.specs.declared.NewlineAt.{NewlineAt}
-use Rattle.formatter.specs.declared.NewlineAt.TheVariants.{Never, Index}
-use Rattle.formatter.specs.declared.Broken.{Broken}
-use Rattle.formatter.specs.declared.Broken.TheVariants.{Nowhere, At}
+use Rattle.formatter.specs.declared.SignatureDepth.{SignatureDepth}
 
--- ---- the fields that are Options in format.rs
+-- ---- the fields that are Options
+
+-- An Option of the code, as the definition has it; f says what number its value stands for.
+abbrev pub option_of : {A : Type 0} → (A → ℕ) → Prelude.Option A → Option ℕ
+option_of f None = none
+option_of f (Some x) = some (f x)
 
 -- The last token's kind, if there was a token.
-abbrev pub prev_of : Prev → Option ℕ
-prev_of Nothing = none
-prev_of (Kind k) = some k
+abbrev pub prev_of : Prelude.Option ℕ → Option ℕ
+prev_of p = option_of (λ k. k) p
 
 -- The index of the Newline to swallow, if there is one.
-abbrev pub newline_of : NewlineAt → Option ℕ
-newline_of Never = none
-newline_of (Index i) = some i
+abbrev pub newline_of : Prelude.Option ℕ → Option ℕ
+newline_of n = option_of (λ i. i) n
 
 -- The paren depth inside a broken signature, if the walk is in one.
-abbrev pub signature_of : Broken → Option ℕ
-signature_of Nowhere = none
-signature_of (At d) = some d
+abbrev pub signature_of : Prelude.Option SignatureDepth → Option ℕ
+signature_of s = option_of (λ d. d.0) s
 
 -- The first n numbers of the stack, the last of them first.
 unfoldable pub top_first : ℕ → List ℕ → List ℕ
@@ -76,16 +74,16 @@ formatter_of f stack x =
     record {
       indent = f.indent;
       at_line_start = f.at_line_start;
-      prev = prev_of f.prev.kind;
+      prev = prev_of f.prev;
       prev_minus_is_unary = f.prev_minus_is_unary;
       inline_depth = f.inline_depth.0;
       fn_state = f.fn_state;
-      sig_break_depth = signature_of f.sig_break_depth.0;
+      sig_break_depth = signature_of f.sig_break_depth;
       record_pending = f.record_pending;
       in_record = f.in_record;
       record_depth = f.record_depth.0;
       just_closed_inline = f.just_closed_inline;
-      suppress_newline_at = newline_of f.suppress_newline_at.at;
+      suppress_newline_at = newline_of f.suppress_newline_at;
       group_depth = f.group_depth.0;
       break_stack = top_first f.break_count stack;
       inline_close = x.inline_close;

@@ -31,7 +31,7 @@ fast_braces_at f at =
     record {
       at = at;
       len = f.len;
-      prev = kind_of f.prev.kind;
+      prev = kind_of f.prev;
       depth = f.inline_depth.0;
       closed = f.just_closed_inline;
     }

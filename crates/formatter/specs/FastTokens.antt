@@ -37,9 +37,9 @@ abbrev pub fast_kinds_of : code.Formatter → List ℕ → FastKinds
 fast_kinds_of f stack =
     record {
       commas = not (at_record_fields (fields_of f) || in_broken_list (fields_on f stack));
-      elses = not (is_at (prev_of f.prev.kind) RightBrace);
-      fns = not (is_some (signature_of f.sig_break_depth.0));
-      closers = not (is_some (signature_of f.sig_break_depth.0)) && eqb f.break_count 0;
+      elses = not (is_at (prev_of f.prev) RightBrace);
+      fns = not (is_some (signature_of f.sig_break_depth));
+      closers = not (is_some (signature_of f.sig_break_depth)) && eqb f.break_count 0;
     }
 
 -- RightParen and RightBracket.
@@ -140,7 +140,7 @@ pub record IsFastToken (rows : List ℕ) (fast at size len spaced : ℕ) : Type 
 pub record MayStartFastTokens (f : code.Formatter) : Type 0 where
   pub mid_line : f.at_line_start ≡ false
   pub not_closed : f.just_closed_inline ≡ false
-  pub no_fn : is_some (signature_of f.sig_break_depth.0) ≡ true → f.fn_state ≡ 0
+  pub no_fn : is_some (signature_of f.sig_break_depth) ≡ true → f.fn_state ≡ 0
 
 -- The same of the definition's formatter f, whose last kind is p and whose fields are those of m, for the fast kinds t.
 pub record BeforeFastTokens (f : Formatter) (p : ℕ) (m : FastState) (t : FastKinds) : Type 0 where

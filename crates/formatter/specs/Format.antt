@@ -1,6 +1,6 @@
 -- The loop over checked rows: which rows are a token's, and what a layout comes to.
 -- Assumes nothing.
-use Rattle.std.specs.Prelude.{Bool, true, cond, ◌&&◌, List, [], ◌∷◌, ◌++◌, ◌≡◌, ℕ, zero, suc, ◌+◌, ◌*◌, ◌/◌, ◌%◌, ◌≤◌, eqb, length, drop}
+use Rattle.std.specs.Prelude.{Bool, true, cond, ◌&&◌, List, [], ◌∷◌, ◌++◌, ◌≡◌, ℕ, zero, suc, ◌+◌, ◌*◌, ◌/◌, ◌%◌, ◌≤◌, eqb, length, drop, Result, Ok, Err}
 use Rattle.std.proofs.Math.Option.{none}
 use Rattle.shared.specs.Report.{deep}
 use Rattle.rows.specs.Kinds.{Leading, TokenRow, Trailing}
@@ -15,8 +15,9 @@ use Rattle.formatter.specs.declared.Formatter.{Formatter}
 use Rattle.formatter.specs.declared.Ends.{Ends}
 use Rattle.formatter.specs.declared.TokenAt.{TokenAt}
 use Rattle.formatter.specs.declared.token.Place.{Place}
-use Rattle.formatter.specs.declared.Formatted.{Formatted}
-use Rattle.formatter.specs.declared.Formatted.TheVariants.{Finished, Deep, Full}
+use Rattle.formatter.specs.declared.Finished.{Finished}
+use Rattle.formatter.specs.declared.WalkError.{WalkError}
+use Rattle.formatter.specs.declared.WalkError.TheVariants.{Deep, Full}
 use Rattle.formatter.specs.CodeState.{formatter_of, locals_of}
 use Rattle.formatter.specs.Token.{Ahead, stack_size}
 
@@ -105,12 +106,12 @@ abbrev pub walk_of : List ℕ → List ℕ → Options.Options → List ℕ → 
 walk_of rows text o out = lay o (length out) (tokens_of rows text)
 
 -- The same as the code tells it.
-abbrev pub formatted_of : Ended → Formatted
-formatted_of (finished s) = Finished (length s.out) s.commas
-formatted_of (stopped n i) = cond (eqb n deep) (Deep i) (Full i)
+abbrev pub formatted_of : Ended → Result Finished WalkError
+formatted_of (finished s) = Ok (record { length = length s.out; commas = s.commas })
+formatted_of (stopped n i) = Err (cond (eqb n deep) (Deep i) (Full i))
 
 -- r is the answer of a layout into the output l, and m is the output after it: the walk's text, and l after the text.
-pub record LaidOut (rows text : List ℕ) (o : Options.Options) (l : List ℕ) (r : Formatted) (m : List ℕ) : Type 0 where
+pub record LaidOut (rows text : List ℕ) (o : Options.Options) (l : List ℕ) (r : Result Finished WalkError) (m : List ℕ) : Type 0 where
   pub answer : r ≡ formatted_of (walk_of rows text o l)
   pub size : length m ≡ length l
   pub output : (s : State) → walk_of rows text o l ≡ finished s → m ≡ s.out ++ drop (length s.out) l

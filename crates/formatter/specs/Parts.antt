@@ -1,6 +1,7 @@
 -- The parts of the definition's arms that have a method of their own in the code, in the order of format.rs.
 -- Assumes nothing.
 use Rattle.std.specs.Prelude.{Bool, true, false, cond, not, ◌&&◌, ◌||◌, List, [], ◌++◌, ℕ, ◌+◌, ◌-◌, ◌*◌, eqb}
+use Rattle.std.specs.Prelude
 use Rattle.std.proofs.Math.Option.{some, map}
 use Rattle.shared.specs.Bytes.{left_brace}
 use Rattle.rows.specs.Kinds.{LeftBrace, RightBrace, RightParen, RightBracket}
@@ -11,7 +12,6 @@ use Rattle.definition.specs.Formatter.{Formatter, set_in_record, set_record_dept
 use Rattle.definition.specs.Act.{State, Act, if, update, gap, lexeme, insert, ◌⨾◌}
 use Rattle.definition.specs.Emit.{is_at, prev_is, indent_or_space, on_new_line, ended_by, dedented, emit_token_text}
 use Rattle.spaces.specs.Space.{space_after}
-use Rattle.formatter.specs.declared.Prev.{Prev}
 use Rattle.formatter.specs.CodeState.{prev_of}
 use Rattle.definition.specs.Arms.{in_one_line_block, in_broken_list, ends_with_two_feeds, group_closed, popped}
 use Rattle.lookahead.specs.Measure.{next_is}
@@ -96,5 +96,5 @@ returns_early t ts f =
     (eqb t.kind RightBracket && in_broken_list f))
 
 -- Whether the token took the next one along: `record E {}` does, and no other `{` leaves `}` as the last kind.
-abbrev pub took_next : ℕ → Prev → Bool
+abbrev pub took_next : ℕ → Prelude.Option ℕ → Bool
 took_next kind prev = eqb kind LeftBrace && is_at (prev_of prev) RightBrace

@@ -1,6 +1,6 @@
 -- What the methods ask of the state and of a token, and the definition's token that the code's token stands for.
 -- Assumes nothing.
-use Rattle.std.specs.Prelude.{true, List, [], ◌∷◌, ◌≡◌, ℕ, ◌+◌, ◌≤◌, ◌<◌, length, drop}
+use Rattle.std.specs.Prelude.{true, List, [], ◌∷◌, ◌≡◌, ℕ, ◌+◌, ◌≤◌, ◌<◌, length, drop, Option, None, Some}
 use Rattle.shared.specs.Numbers.{most32}
 use Rattle.rows.specs.Kinds.{Comma, RightBrace, Other}
 use Rattle.rows.specs.Options.{most_indent_width}
@@ -12,22 +12,19 @@ use Rattle.formatter.specs.declared.Formatter.{Formatter}
 use Rattle.formatter.specs.declared.Options.{Options}
 use Rattle.formatter.specs.declared.Ends.{Ends}
 use Rattle.formatter.specs.declared.TokenAt.{TokenAt}
-use Rattle.formatter.specs.declared.Prev.{Prev}
-use Rattle.formatter.specs.declared.Prev.TheVariants.{Nothing, Kind}
-use Rattle.formatter.specs.declared.Broken.{Broken}
-use Rattle.formatter.specs.declared.Broken.TheVariants.{Nowhere, At}
+use Rattle.formatter.specs.declared.SignatureDepth.{SignatureDepth}
 
 -- ---- the state
 
 -- The last token's kind; 0 where there is none.
-abbrev pub kind_of : Prev → ℕ
-kind_of Nothing = 0
-kind_of (Kind k) = k
+abbrev pub kind_of : Option ℕ → ℕ
+kind_of None = 0
+kind_of (Some k) = k
 
 -- The paren depth inside a broken signature; outside one, 0.
-abbrev pub depth_of : Broken → ℕ
-depth_of Nowhere = 0
-depth_of (At d) = d
+abbrev pub depth_of : Option SignatureDepth → ℕ
+depth_of None = 0
+depth_of (Some d) = d.0
 
 -- The indent width is at most 16, and the indent is a 32-bit number.
 abbrev pub IndentBounds : Options → Formatter → Type 0
@@ -46,7 +43,7 @@ pub record CanWrite (options : Options) (f : Formatter) (out : List ℕ) : Type 
 -- What a lexeme asks besides: the last kind is a kind.
 pub record CanWriteLexeme (options : Options) (f : Formatter) (out : List ℕ) : Type 0 where
   pub fits : CanWrite options f out
-  pub last : kind_of f.prev.kind ≤ Other
+  pub last : kind_of f.prev ≤ Other
 
 -- What an arm asks: the text fits so far, each count may grow by one, and the last kind is a kind.
 pub record Ready (options : Options) (f : Formatter) (out : List ℕ) : Type 0 where
@@ -54,9 +51,9 @@ pub record Ready (options : Options) (f : Formatter) (out : List ℕ) : Type 0 w
   pub group : f.group_depth.0 < most32
   pub inline : f.inline_depth.0 < most32
   pub records : f.record_depth.0 < most32
-  pub signature : depth_of f.sig_break_depth.0 < most32
+  pub signature : depth_of f.sig_break_depth < most32
   pub commas : f.commas < most32
-  pub last : kind_of f.prev.kind ≤ Other
+  pub last : kind_of f.prev ≤ Other
 
 -- The stack holds 64 numbers, and no more of them are in use.
 pub record StackRoom (f : Formatter) (stack : List ℕ) : Type 0 where

@@ -17,33 +17,26 @@ ghost use Rattle.formatter.specs.Token.{bare_token, lexeme_of};
 ghost use Rattle.formatter.specs.Parts.{inline_close_size, opens_block, record_entered};
 ghost use Rattle.formatter.specs.Parts.{open_one_line, one_line_bytes, braced};
 
-use crate::{
-    BraceStyle, Ends, Formatter, InlineDepth, Options, RecordDepth, TokenAt, ended_by,
-    suppressed_after,
-};
+use crate::{BraceStyle, Ends, Formatter, Options, RecordDepth, TokenAt};
 use lookahead::{block_is_single_line, next_is};
 use row_writers::write_lexeme;
 use rows::{ROW_BYTES, kinds};
-use shared::numbers::less;
 use sink::write::{Tail, count_comma, write_brace, write_closer, write_opener_line, write_spaces};
 
 impl Formatter {
     // `}` closes a one-line block, a record or a block over several lines.
-    pub fn right_brace_arm(mut self, options: Options, out: &mut [u8]) -> Self
+    pub fn right_brace_arm(self, options: Options, out: &mut [u8]) -> Self
         requires { Ready options self out.old }
         ensures { Puts (right_brace_arm (options_of options))
             self out.old result out.new }
     {
         if self.in_one_line_block() {
-            self = self.close_inline(options, out);
+            self.close_inline(options, out)
+        } else if self.at_record_fields() {
+            self.close_record(options, out)
         } else {
-            if self.at_record_fields() {
-                self = self.close_record(options, out);
-            } else {
-                self = self.close_block(options, out);
-            }
+            self.close_block(options, out)
         }
-        self
     }
 
     // Writes the `}` of a one-line block.
@@ -54,14 +47,11 @@ impl Formatter {
     {
         let gap = self.inline_close_gap(options);
         let len = write_brace(out, self.len, gap, b'}');
-        let inline = self.inline_depth;
-        let depth = InlineDepth(less(inline.0));
-        let brace = ended_by(kinds::RIGHT_BRACE);
         self.len = len;
-        self.inline_depth = depth;
+        self.inline_depth.0 = self.inline_depth.0.saturating_sub(1);
         self.just_closed_inline = true;
         self.at_line_start = false;
-        self.prev = brace;
+        self.prev = Some(kinds::RIGHT_BRACE);
         self
     }
 
@@ -87,17 +77,15 @@ impl Formatter {
             self out.old result out.new }
     {
         let wanted = self.wants_record_comma();
-        self.indent = less(self.indent);
+        self.indent = self.indent.saturating_sub(1);
         let spaces = self.indent_size(options);
         let len = write_closer(out, self.len, wanted, self.at_line_start, spaces, b'}');
-        let depth = RecordDepth(0);
-        let brace = ended_by(kinds::RIGHT_BRACE);
         self.len = len;
-        self.commas = self.commas + count_comma(wanted);
+        self.commas += count_comma(wanted);
         self.in_record = false;
-        self.record_depth = depth;
+        self.record_depth = RecordDepth(0);
         self.at_line_start = false;
-        self.prev = brace;
+        self.prev = Some(kinds::RIGHT_BRACE);
         self
     }
 
@@ -105,10 +93,7 @@ impl Formatter {
     fn wants_record_comma(self) -> bool
         ensures { result ≡ not (prev_is Comma (fields_of self) || prev_is LeftBrace (fields_of self)) }
     {
-        if self.prev_is(kinds::COMMA) {
-            return false;
-        }
-        !self.prev_is(kinds::LEFT_BRACE)
+        !self.prev_is(kinds::COMMA) && !self.prev_is(kinds::LEFT_BRACE)
     }
 
     // Writes the `}` of a block over several lines.
@@ -116,33 +101,29 @@ impl Formatter {
         requires { CanWrite options self out.old }
         ensures { Puts (close_block (options_of options)) self out.old result out.new }
     {
-        self.indent = less(self.indent);
+        self.indent = self.indent.saturating_sub(1);
         let spaces = self.indent_size(options);
         let len = write_closer(out, self.len, false, self.at_line_start, spaces, b'}');
-        let depth = self.record_depth_outside();
-        let brace = ended_by(kinds::RIGHT_BRACE);
         self.len = len;
-        self.record_depth = depth;
+        self.record_depth = self.record_depth_outside();
         self.at_line_start = false;
-        self.prev = brace;
+        self.prev = Some(kinds::RIGHT_BRACE);
         self
     }
 
     // `record_depth` after a `}` that closes a block over several lines.
     fn record_depth_outside(self) -> RecordDepth
-        ensures { result.0 ≡ cond self.in_record
-            (self.record_depth.0 - 1) self.record_depth.0 }
+        ensures { result.0 ≡ cond self.in_record (self.record_depth.0 - 1) self.record_depth.0 }
     {
-        let record = self.record_depth;
         if self.in_record {
-            return RecordDepth(less(record.0));
+            return RecordDepth(self.record_depth.0.saturating_sub(1));
         }
-        record
+        self.record_depth
     }
 
     // `{` opens an empty record, a block over several lines or a one-line block.
     pub fn left_brace_arm(
-        mut self,
+        self,
         options: Options,
         ends: Ends,
         out: &mut [u8],
@@ -158,16 +139,13 @@ impl Formatter {
             result out.new) }
     {
         if self.empties_record(rows, token) {
-            self = self.empty_record(options, out, rows, text, token);
+            self.empty_record(options, out, rows, text, token)
+        } else if self.opens_block(ends, rows, token) {
+            self.enter_record()
+                .open_block_multiline(options, out, token.index)
         } else {
-            if self.opens_block(ends, rows, token) {
-                self = self.enter_record();
-                self = self.open_block_multiline(options, out, token.index);
-            } else {
-                self = self.open_one_line(options, out);
-            }
+            self.open_one_line(options, out)
         }
-        self
     }
 
     // Whether the token is the `{` of `record E {` with a `}` right after it.
@@ -176,11 +154,7 @@ impl Formatter {
         ensures { (text : List ℕ) → AtToken token rows.now text
             (λ t ts. result ≡ self.record_pending && next_is RightBrace ts) }
     {
-        if self.record_pending {
-            let after = token.own + ROW_BYTES;
-            return next_is(&rows[after..], kinds::RIGHT_BRACE);
-        }
-        false
+        self.record_pending && next_is(&rows[token.own + ROW_BYTES..], kinds::RIGHT_BRACE)
     }
 
     // Writes the braces of `record E {}`, which stay on one line: the `{` takes the `}` along.
@@ -200,10 +174,9 @@ impl Formatter {
     {
         let gap = self.gap_before(options, kinds::LEFT_BRACE);
         let len = write_lexeme(out, self.len, gap, rows, text, token.own, Tail::Braces);
-        let brace = ended_by(kinds::RIGHT_BRACE);
         self.len = len;
         self.at_line_start = false;
-        self.prev = brace;
+        self.prev = Some(kinds::RIGHT_BRACE);
         self.record_pending = false;
         self
     }
@@ -238,38 +211,27 @@ impl Formatter {
         ensures does { (l : List ℕ) → Puts (update record_entered) self l result l }
         ensures kept { (result.indent ≡ self.indent) × (result.len ≡ self.len) }
     {
-        let record = self.record_depth;
         if self.record_pending {
-            let depth = RecordDepth(1);
             self.record_pending = false;
             self.in_record = true;
-            self.record_depth = depth;
-        } else {
-            if self.in_record {
-                let depth = RecordDepth(record.0 + 1);
-                self.record_depth = depth;
-            }
+            self.record_depth = RecordDepth(1);
+        } else if self.in_record {
+            self.record_depth.0 += 1;
         }
         self
     }
 
     // Writes the `{` of a block over several lines, by the brace style. `index` is the token's.
-    fn open_block_multiline(mut self, options: Options, out: &mut [u8], index: u32) -> Self
+    fn open_block_multiline(self, options: Options, out: &mut [u8], index: u32) -> Self
         requires can_write { CanWrite options self out.old }
         requires index_lt_most32 { index < most32 }
         ensures { Puts (open_block (options_of options) index)
             self out.old result out.new }
     {
-        let style = options.brace_style;
-        match style {
-            BraceStyle::SameLine => {
-                self = self.open_same_line(out);
-            }
-            BraceStyle::Allman => {
-                self = self.open_allman(options, out, index);
-            }
+        match options.brace_style {
+            BraceStyle::SameLine => self.open_same_line(out),
+            BraceStyle::Allman => self.open_allman(options, out, index),
         }
-        self
     }
 
     // Writes a `{` at the end of its line.
@@ -278,11 +240,10 @@ impl Formatter {
         ensures { Puts (braced open_same_line) self out.old result out.new }
     {
         let len = write_brace(out, self.len, 1, b'{');
-        let brace = ended_by(kinds::LEFT_BRACE);
         self.len = len;
-        self.indent = self.indent + 1;
+        self.indent += 1;
         self.at_line_start = false;
-        self.prev = brace;
+        self.prev = Some(kinds::LEFT_BRACE);
         self
     }
 
@@ -295,13 +256,11 @@ impl Formatter {
     {
         let spaces = self.indent_size(options);
         let len = write_opener_line(out, self.len, self.at_line_start, spaces);
-        let suppressed = suppressed_after(index);
-        let brace = ended_by(kinds::LEFT_BRACE);
         self.len = len;
-        self.indent = self.indent + 1;
-        self.suppress_newline_at = suppressed;
+        self.indent += 1;
+        self.suppress_newline_at = Some(index + 1);
         self.at_line_start = true;
-        self.prev = brace;
+        self.prev = Some(kinds::LEFT_BRACE);
         self
     }
 
@@ -311,14 +270,10 @@ impl Formatter {
         ensures { Puts (open_one_line (options_of options))
             self out.old result out.new }
     {
-        let inline = self.inline_depth;
-        let len = self.write_inline_opener(options, out);
-        let depth = InlineDepth(inline.0 + 1);
-        let brace = ended_by(kinds::LEFT_BRACE);
-        self.len = len;
-        self.inline_depth = depth;
+        self.len = self.write_inline_opener(options, out);
+        self.inline_depth.0 += 1;
         self.at_line_start = false;
-        self.prev = brace;
+        self.prev = Some(kinds::LEFT_BRACE);
         self
     }
 
@@ -341,9 +296,6 @@ impl Formatter {
     fn omits_brace(self) -> bool
         ensures { result ≡ in_one_line_block (fields_of self) && self.at_line_start }
     {
-        if self.in_one_line_block() {
-            return self.at_line_start;
-        }
-        false
+        self.in_one_line_block() && self.at_line_start
     }
 }

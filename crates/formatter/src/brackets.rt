@@ -15,13 +15,9 @@ ghost use Rattle.formatter.specs.Token.{CanWrite, CanWriteLexeme, Ready, StackRo
 ghost use Rattle.formatter.specs.Token.{Ahead, AtToken, bare_token, lexeme_of, depth_of, stack_size};
 ghost use Rattle.formatter.specs.Parts.{closes_signature, close_list};
 
-use crate::{
-    Broken, Ends, Formatter, GroupDepth, Options, SignatureDepth, TokenAt, ended_by,
-    suppressed_after,
-};
+use crate::{Ends, Formatter, Options, SignatureDepth, TokenAt};
 use lookahead::{should_break_list, should_break_sig};
 use rows::kinds;
-use shared::numbers::{less, less32};
 use sink::write::{Tail, count_comma, write_closer, write_comma_line, write_signature_line};
 
 impl Formatter {
@@ -46,30 +42,20 @@ impl Formatter {
             (code_state result stack.new out.new)) }
     {
         if self.at_signature() {
-            self = self.open_signature(options, out, rows, text, token);
+            self.open_signature(options, out, rows, text, token)
+        } else if self.breaks_list(options, ends, rows, token) {
+            self.open_list(options, out, stack, rows, text, token, kinds::LEFT_PAREN)
         } else {
-            if self.breaks_list(options, ends, rows, token) {
-                self = self.open_list(options, out, stack, rows, text, token, kinds::LEFT_PAREN);
-            } else {
-                let depth = deeper(self.sig_break_depth);
-                self.sig_break_depth = depth;
-                self = self.open_group(options, out, rows, text, token, kinds::LEFT_PAREN);
-            }
+            self.sig_break_depth = deeper(self.sig_break_depth);
+            self.open_group(options, out, rows, text, token, kinds::LEFT_PAREN)
         }
-        self
     }
 
     // Whether a `(` opens a signature: `fn name (` or `fn (`, outside one-line blocks.
     pub fn at_signature(self) -> bool
         ensures { result ≡ at_signature (fields_of self) }
     {
-        if self.in_one_line_block() {
-            return false;
-        }
-        if self.fn_state == 2 {
-            return true;
-        }
-        self.fn_state == 1
+        !self.in_one_line_block() && (self.fn_state == 2 || self.fn_state == 1)
     }
 
     // Whether the list that the token opens breaks: it is wide, and outside one-line blocks and records.
@@ -79,13 +65,9 @@ impl Formatter {
         ensures { (text : List ℕ) → AtToken token rows.now text
             (λ t ts. result ≡ breaks_list (options_of options) t ts (fields_of self)) }
     {
-        if self.in_one_line_block() {
-            return false;
-        }
-        if self.in_record {
-            return false;
-        }
-        list_is_wide(options.list_width, ends, rows, token)
+        !self.in_one_line_block()
+            && !self.in_record
+            && list_is_wide(options.list_width, ends, rows, token)
     }
 
     // Opens a signature, broken or on its line.
@@ -104,14 +86,12 @@ impl Formatter {
             (λ t ts. Puts (open_signature (options_of options) token.index t ts) self out.old
             result out.new) }
     {
-        let lead = token.lead;
         self.fn_state = 0;
-        if should_break_sig(&rows[lead..], options.fn_sig_width) {
-            self = self.break_signature(options, out, token.index);
+        if should_break_sig(&rows[token.lead..], options.fn_sig_width) {
+            self.break_signature(options, out, token.index)
         } else {
-            self = self.open_group(options, out, rows, text, token, kinds::LEFT_PAREN);
+            self.open_group(options, out, rows, text, token, kinds::LEFT_PAREN)
         }
-        self
     }
 
     // Opens a broken signature. `index` is the token's.
@@ -121,20 +101,15 @@ impl Formatter {
         ensures { Puts (break_signature (options_of options) index)
             self out.old result out.new }
     {
-        self.indent = self.indent + 1;
+        self.indent += 1;
         let spaces = self.indent_size(options);
         let len = write_signature_line(out, self.len, spaces);
-        let signature = SignatureDepth(Broken::At(1));
-        let suppressed = suppressed_after(index);
-        let paren = ended_by(kinds::LEFT_PAREN);
-        let group = self.group_depth;
-        let depth = GroupDepth(group.0 + 1);
         self.len = len;
-        self.sig_break_depth = signature;
-        self.suppress_newline_at = suppressed;
+        self.sig_break_depth = Some(SignatureDepth(1));
+        self.suppress_newline_at = Some(index + 1);
         self.at_line_start = false;
-        self.prev = paren;
-        self.group_depth = depth;
+        self.prev = Some(kinds::LEFT_PAREN);
+        self.group_depth.0 += 1;
         self
     }
 
@@ -158,16 +133,11 @@ impl Formatter {
             (code_state result stack.new out.new) }
     {
         self = self.emit_token_text(options, out, rows, text, token, kind, Tail::Feed);
-        let count = self.break_count;
-        let group = self.group_depth;
-        let inner = group.0 + 1;
-        let depth = GroupDepth(inner);
-        let suppressed = suppressed_after(token.index);
-        push_entry(stack, count, inner as u32);
-        self.indent = self.indent + 1;
-        self.group_depth = depth;
-        self.break_count = count + 1;
-        self.suppress_newline_at = suppressed;
+        self.group_depth.0 += 1;
+        push_entry(stack, self.break_count, self.group_depth.0 as u32);
+        self.indent += 1;
+        self.break_count += 1;
+        self.suppress_newline_at = Some(token.index + 1);
         self.at_line_start = true;
         self
     }
@@ -189,15 +159,13 @@ impl Formatter {
             self out.old result out.new }
     {
         self = self.push_lexeme(options, out, rows, text, token, kind);
-        let group = self.group_depth;
-        let depth = GroupDepth(group.0 + 1);
-        self.group_depth = depth;
+        self.group_depth.0 += 1;
         self
     }
 
     // `[` opens a broken list or a group that stays on its line.
     pub fn left_bracket_arm(
-        mut self,
+        self,
         options: Options,
         ends: Ends,
         out: &mut [u8],
@@ -216,11 +184,10 @@ impl Formatter {
             (code_state result stack.new out.new)) }
     {
         if self.breaks_list(options, ends, rows, token) {
-            self = self.open_list(options, out, stack, rows, text, token, kinds::LEFT_BRACKET);
+            self.open_list(options, out, stack, rows, text, token, kinds::LEFT_BRACKET)
         } else {
-            self = self.open_group(options, out, rows, text, token, kinds::LEFT_BRACKET);
+            self.open_group(options, out, rows, text, token, kinds::LEFT_BRACKET)
         }
-        self
     }
 
     // `)` closes a broken signature, a broken list or a group that stays on its line.
@@ -241,29 +208,21 @@ impl Formatter {
             (code_state result stack.now out.new)) }
     {
         if self.closes_signature() {
-            self = self.close_signature(options, out);
-        } else {
-            let depth = shallower(self.sig_break_depth);
-            self.sig_break_depth = depth;
-            if self.in_broken_list(stack) {
-                self = self.close_list(options, out, false, b')', kinds::RIGHT_PAREN);
-            } else {
-                self = self.close_group(options, out, rows, text, token, kinds::RIGHT_PAREN);
-            }
+            return self.close_signature(options, out);
         }
-        self
+        self.sig_break_depth = shallower(self.sig_break_depth);
+        if self.in_broken_list(stack) {
+            self.close_list(options, out, false, b')', kinds::RIGHT_PAREN)
+        } else {
+            self.close_group(options, out, rows, text, token, kinds::RIGHT_PAREN)
+        }
     }
 
     // Whether a `)` closes a broken signature.
     pub fn closes_signature(self) -> bool
         ensures { result ≡ closes_signature (fields_of self) }
     {
-        let signature = self.sig_break_depth;
-        let broken = signature.0;
-        match broken {
-            Broken::Nowhere => false,
-            Broken::At(d) => d < 2,
-        }
+        self.sig_break_depth.is_some_and(|depth| depth.0 < 2)
     }
 
     // Whether a `)` closes a broken signature or a broken list.
@@ -272,10 +231,7 @@ impl Formatter {
         ensures { result ≡ closes_signature (fields_of self)
             || in_broken_list (fields_on self stack.now) }
     {
-        if self.closes_signature() {
-            return true;
-        }
-        self.in_broken_list(stack)
+        self.closes_signature() || self.in_broken_list(stack)
     }
 
     // Writes the `)` of a broken signature, at the indent of its parameters; the indent goes back after it.
@@ -286,16 +242,12 @@ impl Formatter {
     {
         let spaces = self.indent_size(options);
         let len = write_closer(out, self.len, false, self.at_line_start, spaces, b')');
-        let signature = SignatureDepth(Broken::Nowhere);
-        let paren = ended_by(kinds::RIGHT_PAREN);
-        let group = self.group_depth;
-        let depth = GroupDepth(less(group.0));
         self.len = len;
-        self.sig_break_depth = signature;
-        self.indent = less(self.indent);
-        self.group_depth = depth;
+        self.sig_break_depth = None;
+        self.indent = self.indent.saturating_sub(1);
+        self.group_depth.0 = self.group_depth.0.saturating_sub(1);
         self.at_line_start = false;
-        self.prev = paren;
+        self.prev = Some(kinds::RIGHT_PAREN);
         self
     }
 
@@ -312,18 +264,15 @@ impl Formatter {
         ensures { Puts (close_list (options_of options) wanted (closer ∷ []) kind)
             self out.old result out.new }
     {
-        self.break_count = less(self.break_count);
-        self.indent = less(self.indent);
+        self.break_count = self.break_count.saturating_sub(1);
+        self.indent = self.indent.saturating_sub(1);
         let spaces = self.indent_size(options);
         let len = write_closer(out, self.len, wanted, self.at_line_start, spaces, closer);
-        let bracket = ended_by(kind);
-        let group = self.group_depth;
-        let depth = GroupDepth(less(group.0));
         self.len = len;
-        self.commas = self.commas + count_comma(wanted);
-        self.group_depth = depth;
+        self.commas += count_comma(wanted);
+        self.group_depth.0 = self.group_depth.0.saturating_sub(1);
         self.at_line_start = false;
-        self.prev = bracket;
+        self.prev = Some(kind);
         self
     }
 
@@ -344,15 +293,13 @@ impl Formatter {
             self out.old result out.new }
     {
         self = self.push_lexeme(options, out, rows, text, token, kind);
-        let group = self.group_depth;
-        let depth = GroupDepth(less(group.0));
-        self.group_depth = depth;
+        self.group_depth.0 = self.group_depth.0.saturating_sub(1);
         self
     }
 
     // `]` closes a broken list or a group that stays on its line.
     pub fn right_bracket_arm(
-        mut self,
+        self,
         options: Options,
         out: &mut [u8],
         stack: &[u32],
@@ -369,11 +316,10 @@ impl Formatter {
     {
         if self.in_broken_list(stack) {
             let wanted = !self.prev_is(kinds::COMMA);
-            self = self.close_list(options, out, wanted, b']', kinds::RIGHT_BRACKET);
+            self.close_list(options, out, wanted, b']', kinds::RIGHT_BRACKET)
         } else {
-            self = self.close_group(options, out, rows, text, token, kinds::RIGHT_BRACKET);
+            self.close_group(options, out, rows, text, token, kinds::RIGHT_BRACKET)
         }
-        self
     }
 
     // `,` ends its line or is a lexeme like others.
@@ -394,13 +340,10 @@ impl Formatter {
             (code_state result stack.now out.new)) }
     {
         if self.breaks_comma(stack) {
-            let len = write_comma_line(out, self.len);
-            let suppressed = suppressed_after(token.index);
-            let comma = ended_by(kinds::COMMA);
-            self.len = len;
-            self.suppress_newline_at = suppressed;
+            self.len = write_comma_line(out, self.len);
+            self.suppress_newline_at = Some(token.index + 1);
             self.at_line_start = true;
-            self.prev = comma;
+            self.prev = Some(kinds::COMMA);
         } else {
             self = self.push_lexeme(options, out, rows, text, token, kinds::COMMA);
         }
@@ -413,34 +356,23 @@ impl Formatter {
         ensures { result ≡ at_record_fields (fields_of self)
             || in_broken_list (fields_on self stack.now) }
     {
-        if self.at_record_fields() {
-            return true;
-        }
-        self.in_broken_list(stack)
+        self.at_record_fields() || self.in_broken_list(stack)
     }
 }
 
 // `sig_break_depth` after a `(`: in a broken signature it is one more.
-fn deeper(signature: SignatureDepth) -> SignatureDepth
-    requires { depth_of signature.0 < most32 }
-    ensures { signature_of result.0 ≡ map (λ d. d + 1) (signature_of signature.0) }
+fn deeper(signature: Option<SignatureDepth>) -> Option<SignatureDepth>
+    requires { depth_of signature < most32 }
+    ensures { signature_of result ≡ map (λ d. d + 1) (signature_of signature) }
 {
-    let broken = signature.0;
-    match broken {
-        Broken::Nowhere => signature,
-        Broken::At(d) => SignatureDepth(Broken::At(d + 1)),
-    }
+    signature.map(|depth| SignatureDepth(depth.0 + 1))
 }
 
 // `sig_break_depth` after a `)` that does not end a broken signature.
-fn shallower(signature: SignatureDepth) -> SignatureDepth
-    ensures { signature_of result.0 ≡ map (λ d. d - 1) (signature_of signature.0) }
+fn shallower(signature: Option<SignatureDepth>) -> Option<SignatureDepth>
+    ensures { signature_of result ≡ map (λ d. d - 1) (signature_of signature) }
 {
-    let broken = signature.0;
-    match broken {
-        Broken::Nowhere => signature,
-        Broken::At(d) => SignatureDepth(Broken::At(less32(d))),
-    }
+    signature.map(|depth| SignatureDepth(depth.0.saturating_sub(1)))
 }
 
 // Whether the list that the token opens is wider than `list_width`: not where no comma is left, nor where all
@@ -451,16 +383,13 @@ pub fn list_is_wide(list_width: u32, ends: Ends, rows: &[u8], token: TokenAt) ->
     ensures { (text : List ℕ) → AtToken token rows.now text
         (λ t ts. result ≡ should_break_list list_width (t ∷ ts)) }
 {
-    let lead = token.lead;
-    if ends.commas <= lead {
+    if ends.commas <= token.lead {
         return false;
     }
-    if 0 < ends.width {
-        if ends.width <= list_width as usize {
-            return false;
-        }
+    if 0 < ends.width && ends.width <= list_width as usize {
+        return false;
     }
-    should_break_list(&rows[lead..], list_width)
+    should_break_list(&rows[token.lead..], list_width)
 }
 
 // Puts a depth on the broken-group stack at `count`. A stack that has no such place stays as it is.

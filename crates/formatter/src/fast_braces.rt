@@ -11,7 +11,7 @@ ghost use Rattle.formatter.specs.FastBraces.{fast_braces_at, with_fast_braces};
 ghost use Rattle.formatter.specs.FastBraces.{opener_bytes, closer_bytes, after_opener, after_closer};
 
 use crate::fast_tokens::kind_of;
-use crate::{Formatter, InlineDepth, ended_by};
+use crate::{Formatter, InlineDepth};
 use rows::{ROW_BYTES, kinds, row_at};
 
 // A place among fast braces: the index of the next row, the length of the text, the last token's kind, and
@@ -66,15 +66,11 @@ impl Formatter {
         ensures { FastBracesLaidOut rows.now (fast_braces_at self at)
             out.old out.new result }
     {
-        let before = self.prev;
-        let last = before.kind;
-        let inline = self.inline_depth;
-        let prev = kind_of(last);
         let mut b = FastBraces {
             at,
             len: self.len,
-            prev,
-            depth: inline.0,
+            prev: kind_of(self.prev),
+            depth: self.inline_depth.0,
             closed: self.just_closed_inline,
         };
         while ROW_BYTES <= rows.len() - b.at {
@@ -99,11 +95,9 @@ impl Formatter {
     pub fn after_fast_braces(mut self, b: FastBraces) -> Self
         ensures { ChangedBy (with_fast_braces b) b.len self result }
     {
-        let prev = ended_by(b.prev);
-        let depth = InlineDepth(b.depth);
         self.len = b.len;
-        self.prev = prev;
-        self.inline_depth = depth;
+        self.prev = Some(b.prev);
+        self.inline_depth = InlineDepth(b.depth);
         self.just_closed_inline = b.closed;
         self
     }

@@ -14,9 +14,8 @@ ghost use Rattle.formatter.specs.FastTokens.{fast_state_of, fast_state_after, wi
 ghost use Rattle.formatter.specs.FastTokens.{fn_after, pending_after, unary_after, group_after};
 
 use crate::lexeme::record_pending_after;
-use crate::{Formatter, GroupDepth, Prev, ended_by};
+use crate::{Formatter, GroupDepth};
 use rows::{ROW_BYTES, kinds, row_at};
-use shared::numbers::less;
 use sink::put::put_token;
 use spaces::between::{loose_after, space_after};
 use spaces::is_value_kind;
@@ -103,21 +102,19 @@ impl Formatter {
         from: usize,
         bare: bool,
     ) -> FastTokens
-        requires stack_room { StackRoom self stack.now × (kind_of self.prev.kind ≤ Other) }
+        requires stack_room { StackRoom self stack.now × (kind_of self.prev ≤ Other) }
         requires len_in_bounds { (self.len ≤ length out.old) × CheckedRows rows.now text.now }
         requires token_boundary { TokenBoundary rows.now text.now from }
         requires no_trivia_if { NoTriviaIf bare rows.now }
         ensures { FastTokensLaidOut rows.now text.now from self.len
-            (kind_of self.prev.kind) (fast_state_of self) (fast_kinds_of self stack.now)
+            (kind_of self.prev) (fast_state_of self) (fast_kinds_of self stack.now)
             out.old out.new result }
     {
-        let before = self.prev;
-        let last = before.kind;
         let fast = self.fast_kinds(stack);
         let mut state = self.fast_state();
         let mut at = from;
         let mut len = self.len;
-        let mut prev = kind_of(last);
+        let mut prev = kind_of(self.prev);
         let mut spaced = space_after(state.loose, prev);
         while is_fast_token(fast, rows, at, bare, out.len(), len, spaced) {
             let row = row_at(rows, at);
@@ -143,15 +140,13 @@ impl Formatter {
     pub fn after_fast_tokens(mut self, ahead: FastTokens) -> Self
         ensures { ChangedBy (with_fast_state ahead.prev ahead.state) ahead.len self result }
     {
-        let prev = ended_by(ahead.prev);
         let state = ahead.state;
-        let depth = GroupDepth(state.group_depth);
         self.len = ahead.len;
-        self.prev = prev;
+        self.prev = Some(ahead.prev);
         self.fn_state = state.fn_state;
         self.record_pending = state.record_pending;
         self.prev_minus_is_unary = state.prev_minus_is_unary;
-        self.group_depth = depth;
+        self.group_depth = GroupDepth(state.group_depth);
         self
     }
 
@@ -171,22 +166,18 @@ impl Formatter {
     // Whether the walk is in no broken signature and in no broken list.
     fn nothing_is_broken(self) -> bool
         ensures { result
-            ≡ not (is_some (signature_of self.sig_break_depth.0)) && eqb self.break_count 0 }
+            ≡ not (is_some (signature_of self.sig_break_depth)) && eqb self.break_count 0 }
     {
-        if self.in_broken_signature() {
-            return false;
-        }
-        self.break_count == 0
+        !self.in_broken_signature() && self.break_count == 0
     }
 
     // The fields that fast tokens change, as they are now.
     fn fast_state(self) -> FastState
         ensures { result ≡ fast_state_of self }
     {
-        let group = self.group_depth;
         FastState {
             fn_state: self.fn_state,
-            group_depth: group.0,
+            group_depth: self.group_depth.0,
             record_pending: self.record_pending,
             changing: changing_kinds(self.fn_state, self.record_pending),
             prev_minus_is_unary: self.prev_minus_is_unary,
@@ -320,10 +311,10 @@ fn group_depth_after(depth: usize, kind: u32) -> usize
     ensures { result ≡ group_after kind depth }
 {
     if kind == kinds::RIGHT_PAREN {
-        return less(depth);
+        return depth.saturating_sub(1);
     }
     if kind == kinds::RIGHT_BRACKET {
-        return less(depth);
+        return depth.saturating_sub(1);
     }
     depth
 }
@@ -373,11 +364,8 @@ fn has_room(size: usize, len: usize, space: usize, start: usize, end: usize) -> 
 }
 
 // The last token's kind; 0 where there is none.
-pub fn kind_of(prev: Prev) -> u32
+pub fn kind_of(prev: Option<u32>) -> u32
     ensures { result ≡ kind_of prev }
 {
-    match prev {
-        Prev::Nothing => 0,
-        Prev::Kind(k) => k,
-    }
+    prev.unwrap_or(0)
 }

@@ -4,7 +4,6 @@ ghost use Rattle.shared.specs.Numbers.{most32};
 ghost use Rattle.rows.specs.Options.{most_indent_width};
 ghost use Rattle.rows.specs.Row.{row_size};
 ghost use Rattle.definition.specs.PushToken.{arm, overflows};
-ghost use Rattle.formatter.specs.declared.Formatted.TheVariants.{Finished, Deep, Full};
 ghost use Rattle.formatter.specs.CodeState.{Locals, code_state, fields_on, options_of};
 ghost use Rattle.formatter.specs.Does.{Does};
 ghost use Rattle.formatter.specs.Token.{Ready, StackRoom, InRows, Ahead, AtToken};
@@ -12,7 +11,7 @@ ghost use Rattle.formatter.specs.Parts.{returns_early, took_next};
 ghost use Rattle.formatter.specs.Format.{Fresh, CheckedRows, LaidOut, NextToken, NextPlace, NoTriviaIf};
 
 use crate::token::{Place, ends_of, place_at, token_at};
-use crate::{Ends, Formatted, Formatter, Options, STACK_SIZE, TokenAt};
+use crate::{Ends, Finished, Formatter, Options, STACK_SIZE, TokenAt, WalkError};
 use rows::{ROW_BYTES, kinds};
 
 impl Formatter {
@@ -27,7 +26,7 @@ impl Formatter {
         rows: &[u8],
         text: &[u8],
         bare: bool,
-    ) -> Formatted
+    ) -> Result<Finished, WalkError>
         requires fresh { Fresh self stack.old × (options.indent_width ≤ most_indent_width) }
         requires checked_rows { CheckedRows rows.now text.now }
         requires no_trivia_if { NoTriviaIf bare rows.now }
@@ -37,6 +36,7 @@ impl Formatter {
         let ends = ends_of(rows, options.list_width);
         let mut place = Place { at: 0, index: 0 };
         while place.at < rows.len() {
+            let index = place.index as usize;
             let token = token_at(rows, place.at, place.index, bare);
             let inline_close = self.takes_inline_close(token);
             if token.lead == token.own {
@@ -44,21 +44,20 @@ impl Formatter {
             } else {
                 self = self.push_leading(options, out, rows, text, token);
                 if out.len() < self.len {
-                    return full_at(place);
+                    return Err(WalkError::Full { index });
                 }
             }
             if self.overflows(options, ends, rows, token) {
-                return deep_at(place);
+                return Err(WalkError::Deep { index });
             }
             let trails = self.writes_trailing(stack, rows, token);
             self = self.push_token(options, ends, out, stack, rows, text, token, inline_close);
             if trails {
                 self = self.push_trailing(out, rows, text, token);
             }
-            let state = self.track_fn_state(token.kind);
-            self.fn_state = state;
+            self.fn_state = self.track_fn_state(token.kind);
             if out.len() < self.len {
-                return full_at(place);
+                return Err(WalkError::Full { index });
             }
             place = self.next_place(rows, token, bare);
             if self.may_start_fast_tokens(rows, place.at) {
@@ -71,7 +70,7 @@ impl Formatter {
                 place = place_at(place, braces.at);
             }
         }
-        self.finished()
+        Ok(self.finished())
     }
 
     // Does the arm of the token's kind; they stand in the order of format.rs. `inline_close` is true where
@@ -118,10 +117,7 @@ impl Formatter {
     fn takes_inline_close(self, token: TokenAt) -> bool
         ensures { result ≡ eqb token.lead token.own && self.just_closed_inline }
     {
-        if token.lead == token.own {
-            return self.just_closed_inline;
-        }
-        false
+        token.lead == token.own && self.just_closed_inline
     }
 
     // Whether refusal 4 is due: the stack is full, and the token would open one more broken list.
@@ -170,9 +166,9 @@ impl Formatter {
     // Where the next token's rows start, and its index. The `{` of `record E {}` took the `}` along.
     fn next_place(self, rows: &[u8], token: TokenAt, bare: bool) -> Place
         requires next_in_bounds { (token.next ≤ length rows.now) × (token.index + 1 < most32) }
-        requires next_token { took_next token.kind self.prev.kind ≡ true
+        requires next_token { took_next token.kind self.prev ≡ true
             → NextToken rows.now token.next bare }
-        ensures { NextPlace rows.now token (took_next token.kind self.prev.kind) result }
+        ensures { NextPlace rows.now token (took_next token.kind self.prev) result }
     {
         let at = token.next;
         let index = token.index + 1;
@@ -189,31 +185,13 @@ impl Formatter {
         Place { at, index }
     }
 
-    // The end of a layout that is not refused.
-    fn finished(self) -> Formatted
-        ensures { result ≡ Finished self.len self.commas }
+    // What a layout that is not refused comes to.
+    fn finished(self) -> Finished
+        ensures { (result.length ≡ self.len) × (result.commas ≡ self.commas) }
     {
-        Formatted::Finished {
+        Finished {
             length: self.len,
             commas: self.commas,
         }
-    }
-}
-
-// Refusal 4 at the token of this place.
-fn deep_at(place: Place) -> Formatted
-    ensures { result ≡ Deep place.index }
-{
-    Formatted::Deep {
-        index: place.index as usize,
-    }
-}
-
-// Refusal 5 at the token of this place.
-fn full_at(place: Place) -> Formatted
-    ensures { result ≡ Full place.index }
-{
-    Formatted::Full {
-        index: place.index as usize,
     }
 }

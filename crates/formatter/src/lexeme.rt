@@ -12,7 +12,7 @@ ghost use Rattle.formatter.specs.Token.{CanWriteLexeme, Ready, InRows, Kept};
 ghost use Rattle.formatter.specs.Token.{IndentBounds, AtToken, bare_token, lexeme_of, kind_of};
 ghost use Rattle.formatter.specs.Parts.{gap_size, indent_or_space_size, emit_tail};
 
-use crate::{Broken, Formatter, Options, Prev, TokenAt, ended_by};
+use crate::{Formatter, Options, TokenAt};
 use row_writers::write_lexeme;
 use rows::kinds;
 use sink::write::{Tail, write_else};
@@ -40,11 +40,9 @@ impl Formatter {
     {
         if self.else_on_new_line(inline_close) {
             let spaces = self.indent_size(options);
-            let len = write_else(out, self.len, spaces);
-            let word = ended_by(kinds::ELSE);
-            self.len = len;
+            self.len = write_else(out, self.len, spaces);
             self.at_line_start = false;
-            self.prev = word;
+            self.prev = Some(kinds::ELSE);
         } else {
             self = self.push_lexeme(options, out, rows, text, token, kinds::ELSE);
         }
@@ -56,16 +54,10 @@ impl Formatter {
         ensures { (s : List ℕ) (x : Locals) → x.inline_close ≡ inline_close
             → result ≡ else_on_new_line (formatter_of self s x) }
     {
-        if self.in_one_line_block() {
-            return false;
-        }
-        if self.in_record {
-            return false;
-        }
-        if inline_close {
-            return false;
-        }
-        self.prev_is(kinds::RIGHT_BRACE)
+        !self.in_one_line_block()
+            && !self.in_record
+            && !inline_close
+            && self.prev_is(kinds::RIGHT_BRACE)
     }
 
     // Any other token writes its lexeme. `record` sets `record_pending`, a name leaves it, anything else
@@ -84,8 +76,7 @@ impl Formatter {
             (λ t ts. Puts (other_arm (options_of options) t) self out.old result out.new) }
     {
         let kind = token.kind;
-        let pending = record_pending_after(self.record_pending, kind);
-        self.record_pending = pending;
+        self.record_pending = record_pending_after(self.record_pending, kind);
         self.push_lexeme(options, out, rows, text, token, kind)
     }
 
@@ -133,28 +124,26 @@ impl Formatter {
         ensures kept { Kept self result }
     {
         let gap = self.gap_before(options, kind);
-        let len = write_lexeme(out, self.len, gap, rows, text, token.own, tail);
-        let prev = ended_by(kind);
-        self.len = len;
+        self.len = write_lexeme(out, self.len, gap, rows, text, token.own, tail);
         self.at_line_start = false;
-        self.prev = prev;
+        self.prev = Some(kind);
         self
     }
 
     // How many spaces stand before a token of this kind: the indent at a line's start, else one or none.
     pub fn gap_before(self, options: Options, kind: u32) -> usize
         requires indent_bounds { IndentBounds options self }
-        requires kind_bound { (kind_of self.prev.kind ≤ Other) × (kind ≤ Other) }
+        requires kind_bound { (kind_of self.prev ≤ Other) × (kind ≤ Other) }
         ensures { (result ≡ gap_size (options_of options) kind (fields_of self)) × (result < past_gap) }
     {
         if self.at_line_start {
             return self.indent_size(options);
         }
-        let before = self.prev;
-        let prev = before.kind;
-        match prev {
-            Prev::Nothing => 0,
-            Prev::Kind(k) => spaces_between(loose_after(kind, self.prev_minus_is_unary), k, kind),
+        match self.prev {
+            None => 0,
+            Some(prev) => {
+                spaces_between(loose_after(kind, self.prev_minus_is_unary), prev, kind)
+            }
         }
     }
 
@@ -175,12 +164,7 @@ impl Formatter {
         ensures { result ≡ (track_minus kind (fields_of self)).prev_minus_is_unary }
     {
         if kind == kinds::MINUS {
-            let before = self.prev;
-            let prev = before.kind;
-            match prev {
-                Prev::Nothing => true,
-                Prev::Kind(k) => !is_value_kind(k),
-            }
+            !self.prev.is_some_and(|prev| is_value_kind(prev))
         } else {
             self.prev_minus_is_unary
         }
@@ -210,14 +194,9 @@ impl Formatter {
 
     // Whether the walk is in a broken signature.
     pub fn in_broken_signature(self) -> bool
-        ensures { result ≡ is_some (signature_of self.sig_break_depth.0) }
+        ensures { result ≡ is_some (signature_of self.sig_break_depth) }
     {
-        let signature = self.sig_break_depth;
-        let broken = signature.0;
-        match broken {
-            Broken::At(_) => true,
-            Broken::Nowhere => false,
-        }
+        self.sig_break_depth.is_some()
     }
 }
 

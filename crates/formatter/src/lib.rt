@@ -22,49 +22,10 @@ pub mod lines;
 pub mod token;
 pub mod trivia;
 
-// The last token's kind: `prev`, an Option in format.rs.
+// Four counts have a type of their own each, so that none is taken for another. This one says how many parens
+// are open in a broken signature.
 #[derive(Clone, Copy)]
-pub enum Prev {
-    // No token has come yet.
-    Nothing,
-    // The last token has this kind.
-    Kind(u32),
-}
-
-// A field of an enum type cannot be assigned by itself, so each enum stands in a struct.
-#[derive(Clone, Copy)]
-pub struct Before {
-    pub kind: Prev,
-}
-
-// Which Newline is swallowed: `suppress_newline_at`, an Option in format.rs.
-#[derive(Clone, Copy)]
-pub enum NewlineAt {
-    // No Newline is swallowed.
-    Never,
-    // The token at this index is swallowed, if it is a Newline.
-    Index(u32),
-}
-
-// As `Before`, around `NewlineAt`.
-#[derive(Clone, Copy)]
-pub struct Suppressed {
-    pub at: NewlineAt,
-}
-
-// Where in a broken signature the walk is: `sig_break_depth`, an Option in format.rs.
-#[derive(Clone, Copy)]
-pub enum Broken {
-    // The walk is in no broken signature.
-    Nowhere,
-    // The walk is inside this many parens of a broken signature.
-    At(u32),
-}
-
-// Four counts have a type of their own each, so that none is taken for another. This one is as `Before`,
-// around `Broken`.
-#[derive(Clone, Copy)]
-pub struct SignatureDepth(pub Broken);
+pub struct SignatureDepth(pub u32);
 
 // How many round and square brackets are open.
 #[derive(Clone, Copy)]
@@ -129,27 +90,32 @@ pub struct Formatter {
     pub in_record: bool,
     pub just_closed_inline: bool,
     pub prev_minus_is_unary: bool,
-    pub sig_break_depth: SignatureDepth,
+    pub sig_break_depth: Option<SignatureDepth>,
     pub record_depth: RecordDepth,
     pub record_pending: bool,
     pub at_line_start: bool,
     pub indent: usize,
     pub len: usize,
     pub commas: usize,
-    pub suppress_newline_at: Suppressed,
+    pub suppress_newline_at: Option<u32>,
     pub group_depth: GroupDepth,
     pub break_count: usize,
-    pub prev: Before,
+    pub prev: Option<u32>,
 }
 
 // How many numbers the broken-group stack holds.
 pub const STACK_SIZE: usize = 64;
 
-// How a layout ends.
+// What a layout of all tokens comes to: the text has this many bytes, and this many commas in it were inserted.
 #[derive(Clone, Copy)]
-pub enum Formatted {
-    // All tokens are laid out: the text has this many bytes, and this many commas in it were inserted.
-    Finished { length: usize, commas: usize },
+pub struct Finished {
+    pub length: usize,
+    pub commas: usize,
+}
+
+// Why a layout stops.
+#[derive(Clone, Copy, Debug, PartialEq, Eq)]
+pub enum WalkError {
     // Refusal 4: the broken-group stack is full, and the token at this index would open one more broken list.
     Deep { index: usize },
     // Refusal 5: the text of the token at this index does not fit the output.
@@ -167,21 +133,17 @@ impl Formatter {
             in_record: false,
             just_closed_inline: false,
             prev_minus_is_unary: false,
-            sig_break_depth: SignatureDepth(Broken::Nowhere),
+            sig_break_depth: None,
             record_depth: RecordDepth(0),
             record_pending: false,
             at_line_start: true,
             indent: 0,
             len: 0,
             commas: 0,
-            suppress_newline_at: Suppressed {
-                at: NewlineAt::Never,
-            },
+            suppress_newline_at: None,
             group_depth: GroupDepth(0),
             break_count: 0,
-            prev: Before {
-                kind: Prev::Nothing,
-            },
+            prev: None,
         }
     }
 
@@ -189,30 +151,23 @@ impl Formatter {
 
     // Whether the last token has this kind.
     pub fn prev_is(self, kind: u32) -> bool
-        ensures { result ≡ is_at (prev_of self.prev.kind) kind }
+        ensures { result ≡ is_at (prev_of self.prev) kind }
     {
-        let before = self.prev;
-        let prev = before.kind;
-        match prev {
-            Prev::Nothing => false,
-            Prev::Kind(k) => k == kind,
-        }
+        self.prev == Some(kind)
     }
 
     // Whether the walk is inside a block that stays on its line.
     pub fn in_one_line_block(self) -> bool
         ensures { result ≡ in_one_line_block (fields_of self) }
     {
-        let depth = self.inline_depth;
-        0 < depth.0
+        0 < self.inline_depth.0
     }
 
     // Whether the walk is directly inside a record, and in no brace within it.
     pub fn at_record_fields(self) -> bool
         ensures { result ≡ at_record_fields (fields_of self) }
     {
-        let depth = self.record_depth;
-        self.in_record && depth.0 == 1
+        self.in_record && self.record_depth.0 == 1
     }
 
     // Whether the walk is directly inside the innermost broken list, and in no group within it.
@@ -221,12 +176,7 @@ impl Formatter {
         ensures { result ≡ in_broken_list (fields_on self stack.now) }
     {
         let count = self.break_count;
-        let group = self.group_depth;
-        if 0 < count {
-            let top = count - 1;
-            return stack[top] as usize == group.0;
-        }
-        false
+        0 < count && stack[count - 1] as usize == self.group_depth.0
     }
 
     // How many spaces an indent has: the length of `indent_str` in format.rs.
@@ -235,24 +185,5 @@ impl Formatter {
         ensures { (result ≡ options.indent_width * self.indent) × (result < past_gap) }
     {
         (options.indent_width as usize) * self.indent
-    }
-}
-
-// The field `prev` after a token of this kind.
-pub fn ended_by(kind: u32) -> Before
-    ensures { result.kind ≡ Prev.Kind kind }
-{
-    Before {
-        kind: Prev::Kind(kind),
-    }
-}
-
-// The field `suppress_newline_at` that swallows a Newline right after the token at `index`.
-pub fn suppressed_after(index: u32) -> Suppressed
-    requires { index < most32 }
-    ensures { result.at ≡ NewlineAt.Index (index + 1) }
-{
-    Suppressed {
-        at: NewlineAt::Index(index + 1),
     }
 }

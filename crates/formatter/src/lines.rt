@@ -10,7 +10,7 @@ ghost use Rattle.formatter.specs.Does.{Puts};
 ghost use Rattle.formatter.specs.Token.{AtToken};
 ghost use Rattle.formatter.specs.Parts.{feeds_line};
 
-use crate::{Formatter, NewlineAt, Suppressed, TokenAt, ended_by};
+use crate::{Formatter, TokenAt};
 use lookahead::next_has_comment;
 use rows::{ROW_BYTES, kinds};
 use sink::write::write_byte;
@@ -29,34 +29,21 @@ impl Formatter {
         ensures { (text : List ℕ) → AtToken token rows.now text
             (λ t ts. Puts (newline_arm token.index ts) self out.old result out.new) }
     {
-        let after = token.own + ROW_BYTES;
         if self.suppresses(token.index) {
-            let never = Suppressed {
-                at: NewlineAt::Never,
-            };
-            self.suppress_newline_at = never;
-        } else {
-            if self.feeds(out, &rows[after..]) {
-                let len = write_byte(out, self.len, b'\n');
-                let newline = ended_by(kinds::NEWLINE);
-                self.len = len;
-                self.at_line_start = true;
-                self.prev = newline;
-            }
+            self.suppress_newline_at = None;
+        } else if self.feeds(out, &rows[token.own + ROW_BYTES..]) {
+            self.len = write_byte(out, self.len, b'\n');
+            self.at_line_start = true;
+            self.prev = Some(kinds::NEWLINE);
         }
         self
     }
 
     // Whether a Newline at this index is swallowed.
     fn suppresses(self, index: u32) -> bool
-        ensures { result ≡ is_at (newline_of self.suppress_newline_at.at) index }
+        ensures { result ≡ is_at (newline_of self.suppress_newline_at) index }
     {
-        let suppressed = self.suppress_newline_at;
-        let at = suppressed.at;
-        match at {
-            NewlineAt::Never => false,
-            NewlineAt::Index(i) => i == index,
-        }
+        self.suppress_newline_at == Some(index)
     }
 
     // Whether a Newline that is not swallowed writes a line feed, before the tokens of `rows`: not at the
@@ -66,22 +53,13 @@ impl Formatter {
             → result ≡ feeds_line (tokens_of rows.now text) (state_of x
             (code_state self s out.now)) }
     {
-        let len = self.len;
-        if len == 0 {
-            if next_has_comment(rows) {
-                return false;
-            }
-        }
-        if self.in_record {
+        if self.len == 0 && next_has_comment(rows) {
             return false;
         }
-        if self.in_one_line_block() {
+        if self.in_record || self.in_one_line_block() {
             return false;
         }
-        if self.at_line_start {
-            return !ends_with_two_feeds(out, len);
-        }
-        true
+        !self.at_line_start || !ends_with_two_feeds(out, self.len)
     }
 }
 
@@ -90,16 +68,8 @@ fn ends_with_two_feeds(out: &[u8], len: usize) -> bool
     ensures { len ≤ length out.now
         → result ≡ ends_with_two_feeds (take len out.now) }
 {
-    if len < 2 {
+    if len < 2 || out.len() < len {
         return false;
     }
-    if out.len() < len {
-        return false;
-    }
-    let last = len - 1;
-    let before = len - 2;
-    if out[before] == b'\n' {
-        return out[last] == b'\n';
-    }
-    false
+    out[len - 2] == b'\n' && out[len - 1] == b'\n'
 }

@@ -9,5 +9,5 @@ pub returns : goal.returns
 unfolding run said
 returns c = λ s x.
     does
-    (sym (rw (c.ended_by-brace.ensures, c.record_depth_outside-depth.ensures, c.less.ensures))) refl
-    (rw (← c.less.ensures, ← c.indent_size-spaces.ensures.0) c.write_closer-len.ensures)
+    (sym (rw (c.record_depth_outside-self.ensures, c.saturating_sub.ensures))) refl
+    (rw (← c.saturating_sub.ensures, ← c.indent_size-spaces.ensures.0) c.write_closer-len.ensures)

@@ -5,4 +5,4 @@ use Rattle.formatter.proofs.Does.{seq, updated}
 use Rattle.formatter.proofs.Formatter.close_group.Goals as goal
 
 pub returns : goal.returns
-returns c = λ s x. seq (c.push_lexeme-self.ensures.does s x) (updated (sym (rw c.less.ensures)) refl nothing)
+returns c = λ s x. seq (c.push_lexeme-self.ensures.does s x) (updated (sym (rw c.saturating_sub-self.ensures)) refl nothing)

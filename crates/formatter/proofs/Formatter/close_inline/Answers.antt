@@ -12,7 +12,7 @@ pub returns : goal.returns
 unfolding run said
 returns c = λ s x.
     does
-    (sym (rw (c.ended_by-brace.ensures, c.less.ensures))) refl
+    (sym (rw c.saturating_sub-self.ensures)) refl
     (gapped
     (inline_close_size (options_of c.args.options) (fields_of c.args.self)) _ _
     (inline_close-gap (options_of c.args.options) (fields_of c.args.self)) c.inline_close_gap-gap.ensures.0

@@ -10,6 +10,6 @@ pub returns : goal.returns
 returns c = λ s x.
     closing (on_new_line (options_of c.args.options)) _
     c.args.wanted
-    (sym (rw (c.ended_by-bracket.ensures, c.less.ensures, c.less-2.ensures, c.less-3.ensures, top_popped)))
+    (sym (rw (c.saturating_sub.ensures, c.saturating_sub-2.ensures, c.saturating_sub-self.ensures, top_popped)))
     (rw c.count_comma.ensures.0)
-    (rw (← c.less-2.ensures, ← c.indent_size-spaces.ensures.0) c.write_closer-len.ensures)
+    (rw (← c.saturating_sub-2.ensures, ← c.indent_size-spaces.ensures.0) c.write_closer-len.ensures)

@@ -14,6 +14,6 @@ returns c = λ s x.
     (λ f. prev_is Comma f || prev_is LeftBrace f) c.wants_record_comma-wanted.result
     c.wants_record_comma-wanted.ensures
     (closing (on_new_line (options_of c.args.options))
-    right_brace c.wants_record_comma-wanted.result (sym (rw (c.ended_by-brace.ensures, c.less.ensures)))
+    right_brace c.wants_record_comma-wanted.result (sym (rw c.saturating_sub.ensures))
     (rw c.count_comma.ensures.0)
-    (rw (← c.less.ensures, ← c.indent_size-spaces.ensures.0) c.write_closer-len.ensures))
+    (rw (← c.saturating_sub.ensures, ← c.indent_size-spaces.ensures.0) c.write_closer-len.ensures))

@@ -9,5 +9,5 @@ pub returns : goal.returns
 unfolding run said
 returns c = λ s x.
     does
-    (sym (rw (c.ended_by-paren.ensures, c.less.ensures, c.less-2.ensures))) refl
+    (sym (rw (c.saturating_sub.ensures, c.saturating_sub-self.ensures))) refl
     (rw (← c.indent_size-spaces.ensures.0) c.write_closer-len.ensures)

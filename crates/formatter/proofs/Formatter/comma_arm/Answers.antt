@@ -1,5 +1,5 @@
 -- `formatter::Formatter::comma_arm` meets its contract. Assumes nothing.
-use mathlib.Core.Path.{refl, sym}
+use mathlib.Core.Path.{refl}
 use Rattle.definition.specs.Act.{run}
 use Rattle.definition.specs.Arms.{comma_arm}
 use Rattle.definition.proofs.Said.{said}
@@ -11,7 +11,7 @@ unfolding comma_arm run said
 returns-then-breaks_comma c = λ t ts σ x.
     yes
     (λ n. told c.breaks_comma.ensures c.if-breaks_comma.true)
-    (does (sym (rw (c.ended_by-comma.ensures, c.suppressed_after-suppressed.ensures))) refl c.write_comma_line-len.ensures)
+    (does refl refl c.write_comma_line.ensures)
 
 pub returns-else-breaks_comma : goal.returns-else-breaks_comma
 unfolding comma_arm

@@ -11,7 +11,7 @@ unfolding else_arm run said
 returns-then-else_on_new_line c = λ t ts σ s x e.
     yes
     (λ n. told (c.else_on_new_line.ensures s x e) c.if-else_on_new_line.true)
-    (does (rw c.ended_by-word.ensures) refl (rw c.indent_size-spaces.ensures.0 at c.write_else-len.ensures))
+    (does refl refl (rw c.indent_size-spaces.ensures.0 at c.write_else.ensures))
 
 pub returns-else-else_on_new_line : goal.returns-else-else_on_new_line
 unfolding else_arm

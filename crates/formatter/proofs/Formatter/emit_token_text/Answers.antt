@@ -11,6 +11,6 @@ returns c =
     let a = c.args in
     let t = bare_token a.kind (lexeme_of a.token a.rows.now a.text.now) in
     record {
-      does = λ s x. emitted (options_of a.options) t (tail_bytes a.tail) (rw c.ended_by-prev.ensures) refl c.gap_before-gap.ensures.0 c.write_lexeme-len.ensures;
+      does = λ s x. emitted (options_of a.options) t (tail_bytes a.tail) refl refl c.gap_before-gap.ensures.0 c.write_lexeme.ensures;
       kept = record { indent = refl; group = refl; count = refl };
     }

@@ -1,5 +1,5 @@
 -- `formatter::Formatter::empty_record` meets its contract. Assumes nothing.
-use mathlib.Core.Path.{refl, sym}
+use mathlib.Core.Path.{refl}
 use Rattle.shared.specs.Bytes.{bytes}
 use Rattle.rows.specs.Kinds.{LeftBrace}
 use Rattle.definition.specs.Act.{run}
@@ -21,7 +21,7 @@ returns c = λ s x.
     let o = options_of c.args.options in
     let f = fields_of c.args.self in
     let w = lexeme_of c.args.token c.args.rows.now c.args.text.now in
-    does (sym (rw c.ended_by-brace.ensures)) refl
+    does refl refl
     (same_bytes_lem
     (closed_up (token_gap o LeftBrace f) w (bytes "{}"))
     (gapped (gap_size o LeftBrace f) _ _ (token_gap_lem o f LeftBrace) c.gap_before-gap.ensures.0 c.write_lexeme-len.ensures))

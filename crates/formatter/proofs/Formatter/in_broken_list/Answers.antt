@@ -2,6 +2,7 @@
 use mathlib.Core.Path.{sym}
 use Prim.Native.Nat.{◌-◌}
 use native.Mathlib.Omega.{arith}
+use borrow.Author.Tests.{le-ltb}
 use Rattle.formatter.proofs.Stack.{top_is, top_isnt}
 use Rattle.formatter.proofs.Formatter.in_broken_list.Goals as goal
 
@@ -11,5 +12,5 @@ overflow_cast-result c = omega (arith, c.type_inv.stack (c.args.self.break_count
 pub returns-then-count-gt0 : goal.returns-then-count-gt0
 returns-then-count-gt0 c = sym (top_is _ _ _ c.if-count-gt0.true)
 
-pub returns : goal.returns
-returns c = sym (top_isnt _ _ _ c.if-count-gt0.false)
+pub returns-else-count-gt0 : goal.returns-else-count-gt0
+returns-else-count-gt0 c = rw (le-ltb 0 c.args.self.break_count c.if-count-gt0.false) (sym (top_isnt _ _ _ c.if-count-gt0.false))

@@ -1,5 +1,5 @@
 -- `formatter::Formatter::newline_arm` meets its contract. Assumes nothing.
-use mathlib.Core.Path.{refl, sym}
+use mathlib.Core.Path.{refl}
 use Prim.Native.Nat.{◌+◌}
 use Rattle.definition.specs.Act.{run}
 use Rattle.definition.specs.Arms.{newline_arm}
@@ -28,7 +28,7 @@ returns-then-feeds c = λ text t ts σ s x.
     (λ l. feeds_line l (state_of x (code_state c.args.self s c.args.out.now)))
     (part_is (c.args.token.own + 16) c.args.rows.now) (c.feeds.ensures s text x n))
     c.if-feeds.true)
-    (does (sym (rw c.ended_by-newline.ensures)) refl c.write_byte-len.ensures))
+    (does refl refl c.write_byte.ensures))
 
 pub returns-else-feeds : goal.returns-else-feeds
 returns-else-feeds c = λ text t ts σ s x.

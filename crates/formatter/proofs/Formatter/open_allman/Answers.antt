@@ -1,6 +1,6 @@
 -- `formatter::Formatter::open_allman` meets its contract. Assumes nothing.
 use mathlib.Core.List.{append-nil}
-use mathlib.Core.Path.{refl, sym}
+use mathlib.Core.Path.{refl}
 use Rattle.definition.specs.Act.{run}
 use Rattle.definition.proofs.Said.{said}
 use Rattle.formatter.proofs.Does.{does}
@@ -10,5 +10,5 @@ pub returns : goal.returns
 unfolding run said
 returns c = λ s x.
     does
-    (sym (rw (c.ended_by-brace.ensures, c.suppressed_after-suppressed.ensures))) refl
+    refl refl
     (rw (append-nil, ← c.indent_size-spaces.ensures.0) c.write_opener_line-len.ensures)

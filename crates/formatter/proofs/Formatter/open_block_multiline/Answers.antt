@@ -7,9 +7,9 @@ use Rattle.formatter.proofs.Formatter.open_block_multiline.Goals as goal
 pub returns-in-SameLine : goal.returns-in-SameLine
 returns-in-SameLine c = λ s x.
     block_same_line (options_of c.args.options)
-    c.args.index (ap style_of c.in-SameLine.is) (c.open_same_line-self.ensures s x)
+    c.args.index (ap style_of c.in-SameLine.is) (c.open_same_line.ensures s x)
 
 pub returns-in-Allman : goal.returns-in-Allman
 returns-in-Allman c = λ s x.
     block_allman (options_of c.args.options)
-    c.args.index (ap style_of c.in-Allman.is) (c.open_allman-self.ensures s x)
+    c.args.index (ap style_of c.in-Allman.is) (c.open_allman.ensures s x)

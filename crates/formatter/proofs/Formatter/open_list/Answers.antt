@@ -29,5 +29,5 @@ returns c = λ few x.
     (updated
     (sym
     (rw
-    (c.push_entry.ensures, top_pushed e.result.break_count a.stack.now _ room, c.suppressed_after-suppressed.ensures)))
+    (c.push_entry.ensures, top_pushed e.result.break_count a.stack.now _ room)))
     refl nothing)

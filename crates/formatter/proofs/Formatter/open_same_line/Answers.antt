@@ -1,5 +1,5 @@
 -- `formatter::Formatter::open_same_line` meets its contract. Assumes nothing.
-use mathlib.Core.Path.{refl, sym}
+use mathlib.Core.Path.{refl}
 use Rattle.definition.specs.Act.{run}
 use Rattle.definition.proofs.Said.{said}
 use Rattle.formatter.proofs.Does.{does}
@@ -7,4 +7,4 @@ use Rattle.formatter.proofs.Formatter.open_same_line.Goals as goal
 
 pub returns : goal.returns
 unfolding run said
-returns c = λ s x. does (sym (rw c.ended_by-brace.ensures)) refl c.write_brace-len.ensures
+returns c = λ s x. does refl refl c.write_brace-len.ensures

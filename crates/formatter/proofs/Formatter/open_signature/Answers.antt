@@ -20,7 +20,7 @@ returns-then-should_break_sig c = λ t ts σ s x.
     (should_break_sig c.args.options.fn_sig_width) (part_is c.args.token.lead c.args.rows.now)
     (sig_tokens _ _ _ c.should_break_sig.ensures))
     c.if-should_break_sig.true)
-    (c.break_signature-self.ensures s _))
+    (c.break_signature.ensures s _))
 
 pub returns-else-should_break_sig : goal.returns-else-should_break_sig
 returns-else-should_break_sig c = λ t ts σ s x.
@@ -32,4 +32,4 @@ returns-else-should_break_sig c = λ t ts σ s x.
     (should_break_sig c.args.options.fn_sig_width) (part_is c.args.token.lead c.args.rows.now)
     (sig_tokens _ _ _ c.should_break_sig.ensures))
     c.if-should_break_sig.false)
-    (its σ c.requires.kind_value (open_group (options_of c.args.options)) (c.open_group-self.ensures s _)))
+    (its σ c.requires.kind_value (open_group (options_of c.args.options)) (c.open_group.ensures s _)))

@@ -5,4 +5,4 @@ use Rattle.formatter.proofs.Does.{seq, updated}
 use Rattle.formatter.proofs.Formatter.other_arm.Goals as goal
 
 pub returns : goal.returns
-returns c = λ t ts σ s x. rw (σ.kind, σ.lexeme) (seq (updated (rw c.record_pending_after-pending.ensures) refl nothing) (c.push_lexeme.ensures.does s _))
+returns c = λ t ts σ s x. rw (σ.kind, σ.lexeme) (seq (updated (rw c.record_pending_after.ensures) refl nothing) (c.push_lexeme.ensures.does s _))

@@ -11,24 +11,24 @@ use Rattle.formatter.proofs.Formatter.right_paren_arm.Goals as goal
 pub returns-then-closes_signature : goal.returns-then-closes_signature
 returns-then-closes_signature c = λ t ts σ x.
     signature-closes (options_of c.args.options) t
-    (told c.closes_signature.ensures c.if-closes_signature.true) (c.close_signature-self.ensures _ x)
+    (told c.closes_signature.ensures c.if-closes_signature.true) (c.close_signature.ensures _ x)
 
 pub returns-then-in_broken_list : goal.returns-then-in_broken_list
 unfolding right_paren_arm run
 returns-then-in_broken_list c = λ t ts σ x.
     seq
-    (updated (sym (rw c.shallower-depth.ensures)) refl nothing)
+    (updated (sym (rw c.shallower-self.ensures)) refl nothing)
     (no
-    (λ n. rw c.shallower-depth.ensures (told c.closes_signature.ensures c.if-closes_signature.false))
-    (yes (λ n. told c.in_broken_list.ensures c.if-in_broken_list.true) (same-run refl (c.close_list-self.ensures _ _))))
+    (λ n. rw c.shallower-self.ensures (told c.closes_signature.ensures c.if-closes_signature.false))
+    (yes (λ n. told c.in_broken_list.ensures c.if-in_broken_list.true) (same-run refl (c.close_list.ensures _ _))))
 
 pub returns-else-in_broken_list : goal.returns-else-in_broken_list
 unfolding right_paren_arm
 returns-else-in_broken_list c = λ t ts σ x.
     seq
-    (updated (sym (rw c.shallower-depth.ensures)) refl nothing)
+    (updated (sym (rw c.shallower-self.ensures)) refl nothing)
     (no
-    (λ n. rw c.shallower-depth.ensures (told c.closes_signature.ensures c.if-closes_signature.false))
+    (λ n. rw c.shallower-self.ensures (told c.closes_signature.ensures c.if-closes_signature.false))
     (no
     (λ n. told c.in_broken_list.ensures c.if-in_broken_list.false)
-    (its σ c.requires.in_rows.1 (close_group (options_of c.args.options)) (c.close_group-self.ensures _ _))))
+    (its σ c.requires.in_rows.1 (close_group (options_of c.args.options)) (c.close_group.ensures _ _))))

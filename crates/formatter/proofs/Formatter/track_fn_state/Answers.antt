@@ -10,7 +10,7 @@ use Rattle.formatter.proofs.Formatter.track_fn_state.Goals as goal
 
 pub returns-then-state-eq0 : goal.returns-then-state-eq0
 returns-then-state-eq0 c = rw (c.if-state-eq0.true, ne_eqb _ _ c.if-kind-ne-FN.true)
-    (idle (is_some (signature_of c.args.self.sig_break_depth.0)) (eqb c.args.kind Identifier) (eqb c.args.kind Newline))
+    (idle (is_some (signature_of c.args.self.sig_break_depth)) (eqb c.args.kind Identifier) (eqb c.args.kind Newline))
 
 pub returns-then-in_broken_signature : goal.returns-then-in_broken_signature
 returns-then-in_broken_signature c = rw (told c.in_broken_signature.ensures c.if-in_broken_signature.true)

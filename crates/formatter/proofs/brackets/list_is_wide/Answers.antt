@@ -8,8 +8,8 @@ use Rattle.lookahead.specs.Measure.{should_break_list}
 use Rattle.formatter.proofs.Looked.{looked, part_is}
 use Rattle.formatter.proofs.brackets.list_is_wide.Goals as goal
 
-pub returns-then-ends-lead : goal.returns-then-ends-lead
-returns-then-ends-lead c = λ text t ts σ. looked σ (should_break_list c.args.list_width) refl (λ b. sym (no_comma _ _ text (c.requires.ahead.commas c.if-ends-lead.true)))
+pub returns-then-ends-token : goal.returns-then-ends-token
+returns-then-ends-token c = λ text t ts σ. looked σ (should_break_list c.args.list_width) refl (λ b. sym (no_comma _ _ text (c.requires.ahead.commas c.if-ends-token.true)))
 
 pub returns-then-ends-list_width : goal.returns-then-ends-list_width
 returns-then-ends-list_width c = λ text t ts σ.
