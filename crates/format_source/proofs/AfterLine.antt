@@ -15,8 +15,10 @@ use Rattle.shared.proofs.Logic.{split, or_cases}
 use Rattle.rows.specs.Options.{default_style, default_indent_width, default_width}
 use Rattle.definition.specs.Layout.{Layout}
 use Rattle.definition.proofs.Laid.{layout-size, layout-fits, layout_unchanged}
-use Rattle.format_tokens.specs.declared.Answer.{Answer}
-use Rattle.format_tokens.specs.declared.Answer.TheVariants.{Text, BadOption, RaggedRows, BadRow, Deep, Full}
+use Rattle.std.specs.Prelude.{Result, Ok, Err}
+use Rattle.format_tokens.specs.declared.Text.{Text}
+use Rattle.format_tokens.specs.declared.error.LayoutError.{LayoutError}
+use Rattle.format_tokens.specs.declared.error.LayoutError.TheVariants.{BadOption, RaggedRows, BadRow, Deep, Full}
 use Rattle.format_tokens.specs.Answer.{reported}
 use Rattle.format_source.specs.Source.{is_shebang, shebang, before_walk, with_line, after_line, default_layout, layout_source}
 use Rattle.format_source.proofs.Lines.{line_first_lem}
@@ -28,14 +30,13 @@ pub record Meets (l : Layout) (r : Report) (m : List ℕ) : Type 0 where
 
 -- ---- the line put first
 
--- an answer that is no text
-pub no_text : (a : Answer) → ((n c : ℕ) (b : Bool) → a ≡ Text n c b → ⊥) → accepted (reported a) ≡ false
-no_text (Text length commas plain) h = absurd (h length commas plain refl)
-no_text (BadOption position) h = refl
-no_text RaggedRows h = refl
-no_text (BadRow row) h = refl
-no_text (Deep index) h = refl
-no_text (Full index) h = refl
+-- an error is a refusal
+pub no_text : (e : LayoutError) → accepted (reported (Err e)) ≡ false
+no_text (BadOption position) = refl
+no_text RaggedRows = refl
+no_text (BadRow row) = refl
+no_text (Deep index) = refl
+no_text (Full index) = refl
 
 module _ (line : List ℕ) (l : Layout) (out : List ℕ) where
   with_feed : length (line ++ line_feed) ≡ length line + 1

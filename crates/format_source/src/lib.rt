@@ -8,16 +8,19 @@ ghost use Rattle.format_tokens.specs.Answer.{reported};
 ghost use Rattle.format_source.specs.Source.{is_shebang, shebang, before_walk, layout_source};
 ghost use Rattle.format_source.specs.Steps.{FitsAfter, line_first};
 
-use format_tokens::{Answer, format_tokens_with};
+use format_tokens::{LayoutError, Text, format_tokens_with};
 use rows::options;
-use shared::clear_bytes;
-use shared::numbers::smaller;
 
 // Lays out the tokens that `rows` name in `text` with the default options: Allman, 4, 40, 40. Where the
 // first line of `source` begins `#!` and not `#![`, that line and a line feed come first: they count in the
 // length, and plain is false. Where they do not fit `out`, the answer is Full at token 0. A Deep or Full of
 // the layout has the token's index, as without them.
-pub fn format_source_with_shebang(source: &[u8], rows: &[u8], text: &[u8], out: &mut [u8]) -> Answer
+pub fn format_source_with_shebang(
+    source: &[u8],
+    rows: &[u8],
+    text: &[u8],
+    out: &mut [u8],
+) -> Result<Text, LayoutError>
     ensures answer { reported result
         ≡ (layout_source source.now rows.now text.now
         out.old).report }
@@ -26,7 +29,7 @@ pub fn format_source_with_shebang(source: &[u8], rows: &[u8], text: &[u8], out: 
         out.old).out }
 {
     let line = shebang_len(source);
-    let room = smaller(line, out.len());
+    let room = line.min(out.len());
     let answer = format_tokens_with(
         options::DEFAULT_STYLE,
         options::DEFAULT_INDENT_WIDTH,
@@ -60,50 +63,38 @@ fn shebang_len(source: &[u8]) -> usize
 fn is_shebang(source: &[u8]) -> bool
     ensures { result ≡ is_shebang (first_line [] source.now) }
 {
-    if source.len() < 2 {
-        return false;
+    match source {
+        [b'#', b'!', b'[', ..] => false,
+        [b'#', b'!', ..] => true,
+        _ => false,
     }
-    if source[0] != b'#' {
-        return false;
-    }
-    if source[1] != b'!' {
-        return false;
-    }
-    if source.len() == 2 {
-        return true;
-    }
-    source[2] != b'['
 }
 
 // Returns the length of the first line without its line feed.
 fn line_len(source: &[u8]) -> usize
     ensures { result ≡ length (first_line [] source.now) }
 {
-    for i in 0..source.len() {
-        if source[i] == b'\n' {
-            return i;
-        }
-    }
-    source.len()
+    let feed = source.iter().position(|b| *b == b'\n');
+    feed.unwrap_or(source.len())
 }
 
 // Tells whether an answer is refusal 1, 2 or 3.
-fn before_walk(answer: Answer) -> bool
+fn before_walk(answer: Result<Text, LayoutError>) -> bool
     ensures { result ≡ before_walk (reported answer) }
 {
-    match answer {
-        Answer::Text { .. } => false,
-        Answer::BadOption { .. } => true,
-        Answer::RaggedRows => true,
-        Answer::BadRow { .. } => true,
-        Answer::Deep { .. } => false,
-        Answer::Full { .. } => false,
-    }
+    matches!(
+        answer,
+        Err(LayoutError::BadOption { .. } | LayoutError::RaggedRows | LayoutError::BadRow { .. })
+    )
 }
 
 // Puts the line and a line feed first into `out`, which has the layout after them, and answers for both.
 // `answer` is the layout's. After a refusal every place of `out` is set to 0.
-fn with_line(line: &[u8], answer: Answer, out: &mut [u8]) -> Answer
+fn with_line(
+    line: &[u8],
+    answer: Result<Text, LayoutError>,
+    out: &mut [u8],
+) -> Result<Text, LayoutError>
     requires { FitsAfter line.now answer out.old }
     ensures answer { reported result
         ≡ (line_first line.now answer out.old).report }
@@ -112,20 +103,19 @@ fn with_line(line: &[u8], answer: Answer, out: &mut [u8]) -> Answer
 {
     let start = line.len() + 1;
     if out.len() < start {
-        clear_bytes(out);
-        return Answer::Full { index: 0 };
+        out.fill(0);
+        return Err(LayoutError::Full { index: 0 });
     }
-    let Answer::Text { length, commas, .. } = answer else {
-        clear_bytes(out);
+    let Ok(text) = answer else {
+        out.fill(0);
         return answer;
     };
     put_line(line, out);
-    let end = start + length;
-    Answer::Text {
-        length: end,
-        commas,
+    Ok(Text {
+        length: start + text.length,
+        commas: text.commas,
         plain: false,
-    }
+    })
 }
 
 // Writes the line and a line feed into the first places of `out`.

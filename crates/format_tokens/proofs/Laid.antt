@@ -10,24 +10,22 @@ use borrow.Author.Tests.{eqb-true, ne_eqb, ltb-false}
 use Rattle.shared.specs.Report.{Report, zeroed, deep, full}
 use Rattle.shared.proofs.Logic.{split}
 use Rattle.rows.specs.Options.{options_of, most_style, most_indent_width, bad_option}
-use Rattle.rows.specs.Answer.{each_row_report, rows_report, check_report}
+use Rattle.rows.specs.Answer.{reported as check_reported, each_row_report, rows_report, check_report}
 use Rattle.rows.specs.Token.{tokens_of}
 use Rattle.rows.proofs.Passed.{Passed, whole_rows, few_rows}
 use Rattle.definition.specs.Act.{State}
 use Rattle.definition.specs.Plain.{plain}
 use Rattle.definition.specs.Layout.{Ended, finished, stopped, lay, laid_out, layout}
 use Rattle.definition.proofs.Laid.{sane, lay_sane}
-use Rattle.formatter.specs.declared.Formatted.{Formatted}
 use Rattle.formatter.specs.Format.{CheckedRows, formatted_of, LaidOut}
 use Rattle.std.specs.Prelude.{Result, Ok, Err}
 use Rattle.std.specs.Result.{IsErrAnd}
 use Rattle.format_tokens.specs.declared.Text.{Text}
 use Rattle.format_tokens.specs.declared.error.LayoutError.{LayoutError}
-use Rattle.format_tokens.specs.declared.later.CheckError.{CheckError}
-use Rattle.format_tokens.specs.declared.later.CheckError.TheVariants.{BadOption, RaggedRows, BadRow}
-use Rattle.format_tokens.specs.declared.later.Finished.{Finished}
-use Rattle.format_tokens.specs.declared.later.WalkError.{WalkError}
-use Rattle.format_tokens.specs.Later.{checked, walked_of, LaidOutLater}
+use Rattle.rows.specs.declared.CheckError.{CheckError}
+use Rattle.rows.specs.declared.CheckError.TheVariants.{BadOption, RaggedRows, BadRow}
+use Rattle.formatter.specs.declared.Finished.{Finished}
+use Rattle.formatter.specs.declared.WalkError.{WalkError}
 use Rattle.format_tokens.specs.Answer.{reported, after_check, after_walk}
 
 -- an answer and an output, as the definition has them
@@ -45,7 +43,7 @@ refused_answers style indent signature list rows text out e n =
     record { answer = rw q e; output = rw q }
 
 -- the error of the checks, as the layout's
-pub check_answers : (e : CheckError) (style indent signature list : ℕ) (rows text out : List ℕ) → checked (Err e) ≡ check_report style indent signature list rows (length text)
+pub check_answers : (e : CheckError) (style indent signature list : ℕ) (rows text out : List ℕ) → check_reported (Err e) ≡ check_report style indent signature list rows (length text)
     → Answers style indent signature list rows text out (reported (Err (after_check e))) out
 check_answers (BadOption position) style indent signature list rows text out h = refused_answers style indent signature list rows text out h (λ z. omega arith)
 check_answers RaggedRows style indent signature list rows text out h = refused_answers style indent signature list rows text out h (λ z. omega arith)
@@ -53,7 +51,7 @@ check_answers (BadRow row) style indent signature list rows text out h = refused
 
 -- the same of an answer that a `?` made
 pub refused_by : {style indent signature list : ℕ} {rows text out : List ℕ} (e : CheckError) (r : Result Text LayoutError) → IsErrAnd r (λ x. x ≡ after_check e)
-    → checked (Err e) ≡ check_report style indent signature list rows (length text) → Answers style indent signature list rows text out (reported r) out
+    → check_reported (Err e) ≡ check_report style indent signature list rows (length text) → Answers style indent signature list rows text out (reported r) out
 refused_by e (Ok x) q h = absurd q
 refused_by e (Err x) q h = rw q (check_answers e _ _ _ _ _ _ _ h)
 
@@ -73,7 +71,7 @@ record Ends (e : Ended) (mark : Bool) (out : List ℕ) (report : Report) (after 
   output : after ≡ (laid_out e mark out).out
 
 ends : (e : Ended) (mark : Bool) (out : List ℕ) {m : List ℕ} → sane (length out) e ≡ true → length m ≡ length out → ((s : State) → e ≡ finished s → m ≡ s.out ++ drop (length s.out) out)
-    → Ends e mark out (reported (answer_to (walked_of (formatted_of e)) mark)) (output_to (walked_of (formatted_of e)) m)
+    → Ends e mark out (reported (answer_to (formatted_of e) mark)) (output_to (formatted_of e) m)
 ends (finished s) mark out h l f = record { answer = refl; output = f s refl }
 ends (stopped n i) mark out {m} h l f =
     split (eqb n deep) (λ d. rw (eqb-true n deep d) (record { answer = refl; output = zeroes }))
@@ -103,14 +101,14 @@ module _ {style indent signature list : ℕ} {rows : List ℕ} (text : List ℕ)
   passed_layout out = rw (π.options, π.even, π.each)
 
   -- the walk ended with r, and left m
-  pub walked_answers : {out : List ℕ} {r : Result Finished WalkError} {m : List ℕ} {mark : Bool} → LaidOutLater rows text (options_of style indent signature list) out r m → mark ≡ plain (tokens_of rows text)
+  pub walked_answers : {out : List ℕ} {r : Result Finished WalkError} {m : List ℕ} {mark : Bool} → LaidOut rows text (options_of style indent signature list) out r m → mark ≡ plain (tokens_of rows text)
       → Answers style indent signature list rows text out (reported (answer_to r mark)) (output_to r m)
-  walked_answers {out} {r} {m} {mark} (f, (q, λ₀)) k =
+  walked_answers {out} {r} {m} {mark} λ₀ k =
       let o = options_of style indent signature list in
       let ε = ends (lay o (length out) (tokens_of rows text)) mark out (lay_sane o (length out) (tokens_of rows text)) λ₀.size λ₀.output in
-      rw (q, λ₀.answer) (record { answer = ε.answer ∙ rw (passed_layout out, k); output = ε.output ∙ rw (passed_layout out, k) })
+      rw λ₀.answer (record { answer = ε.answer ∙ rw (passed_layout out, k); output = ε.output ∙ rw (passed_layout out, k) })
 
   -- the same, where the walk's end is known by another name
-  pub walked_by : {out : List ℕ} {r s : Result Finished WalkError} {m : List ℕ} {mark : Bool} → LaidOutLater rows text (options_of style indent signature list) out r m → r ≡ s → mark ≡ plain (tokens_of rows text)
+  pub walked_by : {out : List ℕ} {r s : Result Finished WalkError} {m : List ℕ} {mark : Bool} → LaidOut rows text (options_of style indent signature list) out r m → r ≡ s → mark ≡ plain (tokens_of rows text)
       → Answers style indent signature list rows text out (reported (answer_to s mark)) (output_to s m)
   walked_by λ₀ e k = rw (← e) (walked_answers λ₀ k)

@@ -4,10 +4,10 @@ use Rattle.std.specs.Prelude.{Result, Ok, Err}
 use Rattle.shared.specs.Report.{Report, success, refuse, option, ragged_rows, bad_row, deep, full, bit}
 use Rattle.shared.specs.declared.refusal.Refusal.TheVariants
 use Rattle.shared.specs.declared.refusal.Refused.{Refused}
-use Rattle.format_tokens.specs.declared.later.CheckError.{CheckError}
-use Rattle.format_tokens.specs.declared.later.CheckError.TheVariants as Check
-use Rattle.format_tokens.specs.declared.later.WalkError.{WalkError}
-use Rattle.format_tokens.specs.declared.later.WalkError.TheVariants as Walk
+use Rattle.rows.specs.declared.CheckError.{CheckError}
+use Rattle.rows.specs.declared.CheckError.TheVariants as Check
+use Rattle.formatter.specs.declared.WalkError.{WalkError}
+use Rattle.formatter.specs.declared.WalkError.TheVariants as Walk
 use Rattle.format_tokens.specs.declared.Text.{Text}
 use Rattle.format_tokens.specs.declared.error.LayoutError.{LayoutError}
 use Rattle.format_tokens.specs.declared.error.LayoutError.TheVariants.{BadOption, RaggedRows, BadRow, Deep, Full}

@@ -1,3 +1,1 @@
-pub mod Later
 pub mod Answer
-pub mod Steps

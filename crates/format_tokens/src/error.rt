@@ -2,7 +2,8 @@
 ghost use Rattle.std.specs.Prelude.{◌≡◌};
 ghost use Rattle.format_tokens.specs.Answer.{after_check, after_walk, refused_of};
 
-use crate::later::{CheckError, WalkError};
+use formatter::WalkError;
+use rows::CheckError;
 use shared::refusal::{Refusal, Refused};
 
 #[derive(Clone, Copy, Debug, PartialEq, Eq)]

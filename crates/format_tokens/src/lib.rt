@@ -8,19 +8,16 @@ ghost use Rattle.rows.specs.Token.{tokens_of};
 ghost use Rattle.definition.specs.Plain.{plain as plain_mark};
 ghost use Rattle.definition.specs.Layout.{layout};
 ghost use Rattle.formatter.specs.CodeState.{options_of};
-ghost use Rattle.formatter.specs.Format.{CheckedRows};
-ghost use Rattle.format_tokens.specs.Later.{LaidOutLater};
+ghost use Rattle.formatter.specs.Format.{CheckedRows, LaidOut};
 ghost use Rattle.format_tokens.specs.Answer.{reported};
 
-use crate::later::{Finished, WalkError, check_unless_known, walked};
-use formatter::{BraceStyle, Formatter, Options, STACK_SIZE};
+use formatter::{BraceStyle, Finished, Formatter, Options, STACK_SIZE, WalkError};
 use plain::plain_mark;
-use rows::{MOST_ROWS, ROW_BYTES};
+use rows::{MOST_ROWS, ROW_BYTES, check_unless_known};
 
 pub use error::LayoutError;
 
 mod error;
-mod later;
 
 // A text that is laid out: its length, the number of inserted commas, and the plain mark.
 #[derive(Clone, Copy, Debug, PartialEq, Eq)]
@@ -106,10 +103,10 @@ fn lay_out(
     requires checked_rows { CheckedRows rows.now text.now }
     requires indent_width_bound { options.indent_width ≤ Rattle.rows.specs.Options.most_indent_width }
     requires plain_value { plain ≡ plain_mark (tokens_of rows.now text.now) }
-    ensures { LaidOutLater rows.now text.now (options_of options) out.old result
+    ensures { LaidOut rows.now text.now (options_of options) out.old result
         out.new }
 {
     let mut stack = [0; STACK_SIZE];
     let formatter = Formatter::new();
-    walked(formatter.format(options, out, &mut stack, rows, text, plain))
+    formatter.format(options, out, &mut stack, rows, text, plain)
 }

@@ -2,8 +2,8 @@
 use mathlib.Core.Path.{◌≡◌, sym, ap, ◌∙◌}
 use Rattle.rows.proofs.Passed.{passed, few_rows}
 use Rattle.std.specs.Prelude.{Result}
-use Rattle.format_tokens.specs.declared.later.Finished.{Finished}
-use Rattle.format_tokens.specs.declared.later.WalkError.{WalkError}
+use Rattle.formatter.specs.declared.Finished.{Finished}
+use Rattle.formatter.specs.declared.WalkError.{WalkError}
 use Rattle.format_tokens.specs.Answer.{reported}
 use Rattle.format_tokens.proofs.Laid.{Answers, refused_by, passed_walks, small_width, answer_to, output_to, walked_by}
 use Rattle.format_tokens.proofs.format_tokens_with.Goals as goal

@@ -1,2 +1,0 @@
--- What the walk promises to the layout's answer.
--- Assumes nothing.
