@@ -52,7 +52,10 @@ impl<'a> Left<'a> {
 }
 
 // Runs case after case, until one is not whole. No case is empty, so that there are fewer of them than bytes.
-pub fn replay<F: FnMut(&mut Left<'_>) -> io::Result<bool>>(input: &[u8], mut case: F) -> io::Result<()>
+pub fn replay<F: FnMut(&mut Left<'_>) -> io::Result<bool>>(
+    input: &[u8],
+    mut case: F,
+) -> io::Result<()>
     requires { F.IsAlwaysCallable case }
 {
     let mut left = Left { bytes: input };

@@ -39,12 +39,20 @@ pub fn of_sheet(answer: Result<SheetSize, SheetError>) -> Report
 pub fn of_pieces(answer: Result<usize, ReadError>) -> Report
     ensures { report_of result ≡ pieces_reported answer }
 {
-    report_answer(answer.map(|count| [count as u64, 0, 0]).map_err(Refused::from))
+    report_answer(
+        answer
+            .map(|count| [count as u64, 0, 0])
+            .map_err(Refused::from),
+    )
 }
 
 // The report of a space: 1 or 0, 0 and 0, or a refusal.
 pub fn of_space(answer: Result<bool, UnknownKind>) -> Report
     ensures { report_of result ≡ space_reported answer }
 {
-    report_answer(answer.map(|needed| [u64::from(needed), 0, 0]).map_err(Refused::from))
+    report_answer(
+        answer
+            .map(|needed| [u64::from(needed), 0, 0])
+            .map_err(Refused::from),
+    )
 }

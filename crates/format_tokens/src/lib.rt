@@ -11,11 +11,10 @@ ghost use Rattle.formatter.specs.CodeState.{options_of};
 ghost use Rattle.formatter.specs.Format.{CheckedRows, LaidOut};
 ghost use Rattle.format_tokens.specs.Answer.{reported};
 
+pub use error::LayoutError;
 use formatter::{BraceStyle, Finished, Formatter, Options, STACK_SIZE, WalkError};
 use plain::plain_mark;
 use rows::{MOST_ROWS, ROW_BYTES, check_unless_known};
-
-pub use error::LayoutError;
 
 mod error;
 
@@ -48,10 +47,22 @@ pub fn format_tokens_with(
 {
     // The mark is told first: its pass finds bad rows too, so that plain rows are passed over once.
     let plain = is_plain(rows, text);
-    check_unless_known(style, indent_width, signature_width, list_width, rows, text, plain)?;
+    check_unless_known(
+        style,
+        indent_width,
+        signature_width,
+        list_width,
+        rows,
+        text,
+        plain,
+    )?;
     let options = options_of(style, indent_width, signature_width, list_width);
     match lay_out(options, rows, text, out, plain) {
-        Ok(Finished { length, commas }) => Ok(Text { length, commas, plain }),
+        Ok(Finished { length, commas }) => Ok(Text {
+            length,
+            commas,
+            plain,
+        }),
         Err(error) => {
             out.fill(0);
             Err(error.into())

@@ -61,7 +61,10 @@ fn print_text(rt: &impl Print, text: Text, out: &[u8]) -> io::Result<()> {
         return Ok(());
     };
     let mark = u8::from(text.plain);
-    println!(rt; "length commas plain\n{} {} {mark}", text.length, text.commas)?;
+    println!(rt;
+        "length commas plain\n{} {} {mark}",
+        text.length, text.commas
+    )?;
     rt.write_all(bytes)
 }
 

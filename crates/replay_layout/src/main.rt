@@ -16,7 +16,10 @@ fn main(rt: HostRuntime) -> io::Result<()> {
     let mut rows = buffer();
     let mut out = [0u8; 65536];
     let size = read_full(&mut rt.reader(), &mut input)?;
-    replay(&input[..size], |left| replay_case(&rt, left, &mut rows, &mut out))
+    replay(
+        &input[..size],
+        |left| replay_case(&rt, left, &mut rows, &mut out),
+    )
 }
 
 // Room for 65,536 rows, one more than a layout takes.
@@ -146,11 +149,13 @@ fn replay_call(rt: &impl Print, case: Case<'_>, rows: &[u8], out: &mut [u8]) -> 
 // Writes the refusal, or 0, and the report's three numbers.
 fn print_answer(rt: &impl Print, answer: Result<Text, LayoutError>) -> io::Result<()> {
     match answer {
-        Ok(Text {
-            length,
-            commas,
-            plain,
-        }) => println!(rt; "0 {length} {commas} {}", u8::from(plain)),
+        Ok(
+            Text {
+                length,
+                commas,
+                plain,
+            },
+        ) => println!(rt; "0 {length} {commas} {}", u8::from(plain)),
         Err(error) => println!(rt; "{} 0 0", Refused::from(error)),
     }
 }
