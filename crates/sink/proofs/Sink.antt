@@ -8,8 +8,10 @@ use native.Mathlib.Numerals.{add-one}
 use native.Mathlib.Nat.{add-zero}
 use borrow.Author.Tests.{leb-true, leb-false}
 use lib.Dec.{leb}
-use lib.ListN.{length, take, drop, set, get_or, replicate, length-append, length-take, length-set, length-replicate, replicate-append-replicate, take-append-drop}
-use lib.Seq.{sets, sets-eq, slice, length-slice, drop-drop, take-suc-set, drop-set-lt, take-suc, drop-append-le, slice_empty}
+use lib.ListN.{length, take, drop, length-drop, set, get_or, replicate, length-append, length-take, length-set, length-replicate, replicate-append-replicate, take-append-drop}
+use lib.Seq.{length-take-le, sets, sets-eq, slice, length-slice, drop-drop, take-suc-set, drop-set-lt, take-suc, drop-append-le, slice_empty}
+use borrow.Rule.Slice.PartMut.{put_mid}
+use Rattle.std.proofs.lemmas.Slice.{take-put_mid, drop-put_mid}
 use Rattle.shared.proofs.Logic.{split}
 use Rattle.sink.specs.Sink.{Writes}
 
@@ -79,6 +81,22 @@ one_more {n = n} i b w h =
     let e : n + (i + 1) ≡ n + i + 1 = omega arith in
     let s = w.size in
     rw e (and_then w (one (omega arith)))
+
+-- a part of the output is written as a whole: what it holds now is ys
+pub fills : {l xs ys : List ℕ} {n e : ℕ} → n ≤ e → e ≤ length l → length xs ≡ e - n → ys ≡ xs → Writes l n xs (put_mid n (e - n) l ys) e
+fills {l} {xs} {ys} {n} {e} a b c d =
+    let f : length ys ≡ e - n = rw d c in
+    let far : e ≡ n + length ys = omega arith in
+    let h : n ≤ length l = omega arith in
+    rw (← d) (record {
+      size = simp (length-append, length-drop, length-take-le n l h) (omega (arith, length-take-le n l h));
+      fits = λ g. record {
+        far = far;
+        text = take-put_mid n (e - n) l ys e far h;
+        rest = drop-put_mid n (e - n) l ys e (omega arith) h f;
+      };
+      over = λ g. omega arith;
+    })
 
 -- where they do not fit, the length is past the end
 pub past : {l xs : List ℕ} {n : ℕ} → length l < n + length xs → Writes l n xs l (length l + 1)
