@@ -98,6 +98,13 @@ fills {l} {xs} {ys} {n} {e} a b c d =
       over = λ g. omega arith;
     })
 
+-- a part of the output, filled with spaces
+pub fills_spaces : {l ys : List ℕ} {n : ℕ} (k : ℕ) → n + k ≤ length l → ys ≡ replicate (length (take (n + k - n) (drop n l))) 32 → Writes l n (replicate k 32) (put_mid n (n + k - n) l ys) (n + k)
+fills_spaces {l} {ys} {n} k h e =
+    let w : n + k - n ≡ k = omega arith in
+    let f : length (take (n + k - n) (drop n l)) ≡ k = rw w (length-take-le k (drop n l) (omega (arith, length-drop n l))) in
+    fills (omega arith) h (rw w (length-replicate k 32)) (e ∙ rw f)
+
 -- where they do not fit, the length is past the end
 pub past : {l xs : List ℕ} {n : ℕ} → length l < n + length xs → Writes l n xs l (length l + 1)
 past h = record { size = refl; fits = λ g. absurd (omega arith); over = λ g. omega arith }
