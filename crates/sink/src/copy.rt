@@ -35,10 +35,8 @@ pub fn copy_bytes(out: &mut [u8], to: usize, text: &[u8], from: usize, size: usi
     ensures { Writes out.old to (slice from (from + size) text.now)
         out.new (to + size) }
 {
-    for i in 0..size {
-        let at = to + i;
-        let source = from + i;
-        out[at] = text[source];
+    for (i, &byte) in text[from..from + size].iter().enumerate() {
+        out[to + i] = byte;
     }
 }
 

@@ -1,5 +1,4 @@
 -- `sink::write::write_opener_line` meets its contract. Assumes nothing.
-use mathlib.Core.Path.{refl}
 use native.Mathlib.Omega.{arith}
 use Rattle.sink.proofs.Sizes.{feed_wanted}
 use Rattle.sink.proofs.Sink.{and_then, fills}
