@@ -1,4 +1,5 @@
 pub mod Kinds
+pub mod KindNumber
 pub mod Row
 pub mod Options
 pub mod Token
