@@ -1,4 +1,4 @@
--- A write over an earlier one: a copy by eights, and a lexeme over a space. Assumes nothing.
+-- A write over an earlier one: a copy in turns, and a lexeme over a space. Assumes nothing.
 use mathlib.Core.List.{List, ◌++◌, append_assoc}
 use mathlib.Core.Path.{◌≡◌, refl, sym, ◌∙◌}
 use Prim.Native.Nat.{ℕ, zero, suc, ◌+◌, ◌-◌, ◌≤◌, ◌<◌, min}
@@ -10,7 +10,7 @@ use lib.Dec.{leb}
 use borrow.Author.Tests.{leb-true, leb-false}
 use Rattle.shared.proofs.Logic.{split}
 use Rattle.sink.specs.Sink.{Writes}
-use Rattle.sink.proofs.Sink.{Copied, later, one, same_bytes_lem, part_none, part_more, part_done, slice_one}
+use Rattle.sink.proofs.Sink.{Copied, later, one, same_bytes_lem, part_none, part_done, slice_one}
 
 take-over : (l m xs : List ℕ) (n p q j : ℕ) → q ≡ n + j → q ≤ p → n ≤ length l → take p m ≡ take n l ++ xs → take q m ≡ take n l ++ take j xs
 take-over l m xs n p q j d b h e =
@@ -99,32 +99,10 @@ turn_more w size i j a h g b p x =
 pub ends : {l m k : List ℕ} {n : ℕ} (t : List ℕ) (s w size : ℕ) → w ≤ size → size ≤ w + w → s + size ≤ length t → Writes l n (slice s (s + w) t) m (n + w) → Writes m (n + (size - w)) (slice (s + (size - w)) (s + (size - w) + w) t) k (n + (size - w) + w) → Writes l n (slice s (s + size) t) k (n + size)
 ends t s w size a b h x y = part_done (s + size) size (part_over (size - w) w (omega arith) (omega arith) (omega arith) (record { size = x.size; wrote = x }) y) (omega arith) (omega arith)
 
--- ---- two, four and eight stores
+-- ---- one byte
 
 pub part_one : {l t : List ℕ} {n s : ℕ} → s < length t → n < length l → Copied l n t s (set l n (get_or t s 0)) 1
 part_one {l} {t} {n} {s} g h = record { size = length-set l n (get_or t s 0); wrote = same_bytes_lem (sym (slice_one s (s + 1) t (omega arith) (omega arith))) (one h) }
-
-part_next : {l t m : List ℕ} {n s i : ℕ} → s + i < length t → n + i < length l → Copied l n t s m i → Copied l n t s (set m (n + i) (get_or t (s + i) 0)) (i + 1)
-part_next g h p = let z = p.size in part_more p g (omega arith)
-
-module _ (l t : List ℕ) (n s : ℕ) where
-  pub part_two : s + 2 ≤ length t → n + 2 ≤ length l → Copied l n t s (set (set l n (get_or t s 0)) (n + 1) (get_or t (s + 1) 0)) 2
-  part_two g h = part_next (omega arith) (omega arith) (part_one (omega arith) (omega arith))
-
-  pub part_four : s + 4 ≤ length t → n + 4 ≤ length l → Copied l n t s (set (set (set (set l n (get_or t s 0)) (n + 1) (get_or t (s + 1) 0)) (n + 2) (get_or t (s + 2) 0)) (n + 3) (get_or t (s + 3) 0)) 4
-  part_four g h =
-      let p3 : Copied l n t s _ 3 = part_next (omega arith) (omega arith) (part_two (omega arith) (omega arith)) in
-      part_next (omega arith) (omega arith) p3
-
-  pub part_eight : s + 8 ≤ length t → n + 8 ≤ length l →
-      Copied l n t s
-      (set (set (set (set (set (set (set (set l n (get_or t s 0)) (n + 1) (get_or t (s + 1) 0)) (n + 2) (get_or t (s + 2) 0)) (n + 3) (get_or t (s + 3) 0)) (n + 4) (get_or t (s + 4) 0)) (n + 5) (get_or t (s + 5) 0)) (n + 6) (get_or t (s + 6) 0)) (n + 7) (get_or t (s + 7) 0))
-      8
-  part_eight g h =
-      let p5 : Copied l n t s _ 5 = part_next (omega arith) (omega arith) (part_four (omega arith) (omega arith)) in
-      let p6 : Copied l n t s _ 6 = part_next (omega arith) (omega arith) p5 in
-      let p7 : Copied l n t s _ 7 = part_next (omega arith) (omega arith) p6 in
-      part_next (omega arith) (omega arith) p7
 
 -- ---- a lexeme over a space
 

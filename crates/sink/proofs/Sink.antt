@@ -8,8 +8,10 @@ use native.Mathlib.Numerals.{add-one}
 use native.Mathlib.Nat.{add-zero}
 use borrow.Author.Tests.{leb-true, leb-false}
 use lib.Dec.{leb}
-use lib.ListN.{length, take, drop, set, get_or, replicate, length-append, length-take, length-set, length-replicate, replicate-append-replicate, take-append-drop}
-use lib.Seq.{sets, sets-eq, slice, length-slice, drop-drop, take-suc-set, drop-set-lt, take-suc, drop-append-le, slice_empty}
+use lib.ListN.{length, take, drop, length-drop, set, get_or, replicate, length-append, length-take, length-set, length-replicate, take-append-drop}
+use lib.Seq.{length-take-le, sets, sets-eq, slice, drop-drop, take-suc-set, drop-set-lt, take-suc, drop-append-le, slice_empty}
+use borrow.Rule.Slice.PartMut.{put_mid}
+use Rattle.std.proofs.lemmas.Slice.{take-put_mid, drop-put_mid}
 use Rattle.shared.proofs.Logic.{split}
 use Rattle.sink.specs.Sink.{Writes}
 
@@ -73,12 +75,28 @@ one {l} {n} {b} h = record {
   over = λ g. omega arith;
 }
 
--- one byte more, at the end of those that are written
-pub one_more : {l m xs : List ℕ} {n : ℕ} (i b : ℕ) → Writes l n xs m (n + i) → n + i < length l → Writes l n (xs ++ (b ∷ [])) (set m (n + i) b) (n + (i + 1))
-one_more {n = n} i b w h =
-    let e : n + (i + 1) ≡ n + i + 1 = omega arith in
-    let s = w.size in
-    rw e (and_then w (one (omega arith)))
+-- a part of the output is written as a whole: what it holds now is ys
+pub fills : {l xs ys : List ℕ} {n e : ℕ} → n ≤ e → e ≤ length l → length xs ≡ e - n → ys ≡ xs → Writes l n xs (put_mid n (e - n) l ys) e
+fills {l} {xs} {ys} {n} {e} a b c d =
+    let f : length ys ≡ e - n = rw d c in
+    let far : e ≡ n + length ys = omega arith in
+    let h : n ≤ length l = omega arith in
+    rw (← d) (record {
+      size = simp (length-append, length-drop, length-take-le n l h) (omega (arith, length-take-le n l h));
+      fits = λ g. record {
+        far = far;
+        text = take-put_mid n (e - n) l ys e far h;
+        rest = drop-put_mid n (e - n) l ys e (omega arith) h f;
+      };
+      over = λ g. omega arith;
+    })
+
+-- a part of the output, filled with spaces
+pub fills_spaces : {l ys : List ℕ} {n : ℕ} (k : ℕ) → n + k ≤ length l → ys ≡ replicate (length (take (n + k - n) (drop n l))) 32 → Writes l n (replicate k 32) (put_mid n (n + k - n) l ys) (n + k)
+fills_spaces {l} {ys} {n} k h e =
+    let w : n + k - n ≡ k = omega arith in
+    let f : length (take (n + k - n) (drop n l)) ≡ k = rw w (length-take-le k (drop n l) (omega (arith, length-drop n l))) in
+    fills (omega arith) h (rw w (length-replicate k 32)) (e ∙ rw f)
 
 -- where they do not fit, the length is past the end
 pub past : {l xs : List ℕ} {n : ℕ} → length l < n + length xs → Writes l n xs l (length l + 1)
@@ -105,29 +123,6 @@ module _ {l : List ℕ} {n : ℕ} {xs m : List ℕ} {r : ℕ} (w : Writes l n xs
       (λ e. leb-false _ _ e)
 
 -- ---- a loop's turn: one byte more
-
-pub record Padded (l : List ℕ) (n : ℕ) (m : List ℕ) (i : ℕ) : Type 0 where
-  pub from : n ≤ i
-  pub size : length m ≡ length l
-  pub wrote : Writes l n (replicate (i - n) 32) m i
-
-pub pad_none : {l : List ℕ} {n : ℕ} → Padded l n l n
-pad_none {l} {n} = let e : n - n ≡ 0 = omega arith in record { from = omega arith; size = refl; wrote = rw e nothing }
-
-pub pad_more : {l m : List ℕ} {n i : ℕ} → Padded l n m i → i < length m → Padded l n (set m i 32) (i + 1)
-pad_more {l} {m} {n} {i} p h =
-    let e : i - n + 1 ≡ i + 1 - n = omega arith in
-    record {
-      from = omega arith;
-      size = length-set m i 32 ∙ p.size;
-      wrote = same_bytes_lem (replicate-append-replicate (i - n) 1 32 ∙ rw e) (and_then p.wrote (one h));
-    }
-
-pub pad_done : {l m : List ℕ} {n i : ℕ} (k e : ℕ) → Padded l n m i → i ≤ e → e ≤ i → e ≡ n + k → Writes l n (replicate k 32) m e
-pad_done {l} {m} {n} {i} k e p a b d =
-    let f : i ≡ e = omega arith in
-    let g : e - n ≡ k = omega arith in
-    rw (← g, ← f) p.wrote
 
 pub slice_more : (s e : ℕ) (l : List ℕ) → s ≤ e → e < length l → slice s (e + 1) l ≡ slice s e l ++ (get_or l e 0 ∷ [])
 slice_more s e l g h =
@@ -157,9 +152,3 @@ part_more {l} {n} {t} {s} {m} {i} p g h =
 
 pub part_done : {l : List ℕ} {n : ℕ} {t : List ℕ} {s : ℕ} {m : List ℕ} {i : ℕ} (e k : ℕ) → Copied l n t s m i → s + i ≡ e → i ≡ k → Writes l n (slice s e t) m (n + k)
 part_done {l} {n} {t} {s} {m} {i} e k p a b = rw (← a, ← b) p.wrote
-
-pub past_pad : {l : List ℕ} {n : ℕ} (k : ℕ) → length l < n + k → Writes l n (replicate k 32) l (length l + 1)
-past_pad {l} {n} k h = past (omega (arith, length-replicate {A = ℕ} k 32))
-
-pub past_part : {l : List ℕ} {n : ℕ} (s e : ℕ) (t : List ℕ) → e ≤ length t → length l < n + (e - s) → Writes l n (slice s e t) l (length l + 1)
-past_part {l} {n} s e t g h = past (let f = length-slice s e t g in omega arith)

@@ -1,5 +1,5 @@
 -- How many bytes the writers put. Assumes nothing.
-use mathlib.Core.Bool.{Bool, true, false, cond}
+use mathlib.Core.Bool.{Bool, true, false, cond, not}
 use mathlib.Core.List.{List, [], ◌++◌}
 use mathlib.Core.Path.{◌≡◌, refl}
 use Prim.Native.Nat.{ℕ, ◌+◌, ◌-◌, ◌≤◌}
@@ -16,6 +16,11 @@ comma-size false = refl
 pub feed_size : (at_line_start : Bool) → length (cond at_line_start [] line_feed) ≡ count_feed at_line_start
 feed_size true = refl
 feed_size false = refl
+
+-- a line feed is wanted where no line starts
+pub feed_wanted : (at_line_start : Bool) → cond (not at_line_start) line_feed [] ≡ cond at_line_start [] line_feed
+feed_wanted true = refl
+feed_wanted false = refl
 
 -- spaces, and bytes after them
 pub gap-size : (gap : ℕ) (xs : List ℕ) → length (replicate gap 32 ++ xs) ≡ gap + length xs

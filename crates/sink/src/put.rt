@@ -1,33 +1,22 @@
 // Puts bytes into the lent output where they are known to fit.
-ghost use Rattle.std.specs.Prelude.{cond, [], ◌++◌, ◌+◌, ◌-◌, ◌≤◌, ◌<◌, length};
+ghost use Rattle.std.specs.Prelude.{cond, [], ◌∷◌, ◌++◌, ◌+◌, ◌-◌, ◌≤◌, ◌<◌, length};
+ghost use Rattle.std.specs.Int.{from_bool};
 ghost use Rattle.std.proofs.Math.Seq.{slice};
-ghost use Rattle.shared.specs.Bytes.{comma, else_word, line_feed};
-ghost use Rattle.sink.specs.Sink.{Writes, spaces, count_comma, count_feed};
+ghost use Rattle.shared.specs.Bytes.{else_word};
+ghost use Rattle.sink.specs.Sink.{Writes, spaces};
 ghost use Rattle.sink.specs.Tail.{tail_bytes};
 
 use crate::copy::copy;
 use crate::write::Tail;
 
-// Puts a line feed, unless a line starts.
-pub fn put_feed(out: &mut [u8], at: usize, at_line_start: bool)
-    requires { at + count_feed at_line_start ≤ length out.old }
-    ensures { Writes out.old at (cond at_line_start [] line_feed) out.new
-        (at + count_feed at_line_start) }
-{
-    if at_line_start {
-        return;
-    }
-    out[at] = b'\n';
-}
-
-// Puts a comma, if one is wanted.
-pub fn put_comma(out: &mut [u8], at: usize, wanted: bool)
-    requires { at + count_comma wanted ≤ length out.old }
-    ensures { Writes out.old at (cond wanted comma []) out.new
-        (at + count_comma wanted) }
+// Puts the byte `b`, if it is wanted.
+pub fn put_if(out: &mut [u8], at: usize, b: u8, wanted: bool)
+    requires { at + from_bool wanted ≤ length out.old }
+    ensures { Writes out.old at (cond wanted (b ∷ []) []) out.new
+        (at + from_bool wanted) }
 {
     if wanted {
-        out[at] = b',';
+        out[at] = b;
     }
 }
 
@@ -36,10 +25,7 @@ pub fn put_else(out: &mut [u8], at: usize)
     requires { at + 4 ≤ length out.old }
     ensures { Writes out.old at else_word out.new (at + 4) }
 {
-    out[at] = b'e';
-    out[at + 1] = b'l';
-    out[at + 2] = b's';
-    out[at + 3] = b'e';
+    out[at..at + 4].copy_from_slice(b"else");
 }
 
 // Puts `size` spaces: mostly none, one, or an indent.
@@ -47,23 +33,10 @@ pub fn put_gap(out: &mut [u8], at: usize, size: usize)
     requires { at + size ≤ length out.old }
     ensures { Writes out.old at (spaces size) out.new (at + size) }
 {
-    if size == 0 {
-        return;
-    }
-    if size == 1 {
-        out[at] = b' ';
-        return;
-    }
-    put_indent(out, at, size);
-}
-
-fn put_indent(out: &mut [u8], at: usize, size: usize)
-    requires { at + size ≤ length out.old }
-    ensures { Writes out.old at (spaces size) out.new (at + size) }
-{
-    let end = at + size;
-    for i in at..end {
-        out[i] = b' ';
+    match size {
+        0 => {}
+        1 => out[at] = b' ',
+        _ => out[at..at + size].fill(b' '),
     }
 }
 
@@ -91,14 +64,8 @@ pub fn put_tail(out: &mut [u8], at: usize, tail: Tail)
 {
     match tail {
         Tail::Nothing => {}
-        Tail::Feed => {
-            out[at] = b'\n';
-        }
-        Tail::Braces => {
-            let next = at + 1;
-            out[at] = b'{';
-            out[next] = b'}';
-        }
+        Tail::Feed => out[at] = b'\n',
+        Tail::Braces => out[at..at + 2].copy_from_slice(b"{}"),
     }
 }
 
@@ -127,7 +94,6 @@ pub fn put_token(
     out[at] = text[start];
     if 1 < size {
         copy(out, at, text, start, size);
-        return next;
     }
     next
 }

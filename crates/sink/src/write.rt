@@ -1,14 +1,14 @@
 // Writers into the lent output, on plain numbers. Each takes the length of the text so far, and answers the
 // length after it has written. Each has one room test for all that it writes. Where that does not fit,
 // nothing is written, and the answer is one past the output's end.
-ghost use Rattle.std.specs.Prelude.{cond, [], ◌∷◌, ◌++◌, ◌≡◌, ◌≤◌, ◌<◌, length};
+ghost use Rattle.std.specs.Prelude.{cond, [], ◌∷◌, ◌++◌, ◌≡◌, ◌+◌, ◌≤◌, ◌<◌, length, MatchBool};
 ghost use Rattle.std.proofs.Math.Seq.{slice};
 ghost use Rattle.shared.specs.Bytes.{comma, else_word, left_brace, left_paren, line_feed};
-ghost use Rattle.sink.specs.Sink.{Writes, Room, spaces, count_comma, count_feed};
+ghost use Rattle.sink.specs.Sink.{Writes, Room, spaces, count_comma};
 ghost use Rattle.sink.specs.Tail.{tail_bytes};
 
 use crate::copy::copy_bytes;
-use crate::put::{put_comma, put_else, put_feed, put_gap, put_part, put_tail};
+use crate::put::{put_else, put_gap, put_if, put_part, put_tail};
 
 // What stands after a lexeme.
 #[derive(Clone, Copy)]
@@ -89,14 +89,14 @@ pub fn write_closer(
         (cond wanted comma [] ++ ((cond at_line_start [] line_feed ++ spaces indent) ++ (closer ∷ [])))
         out.new result }
 {
-    let listed = len + count_comma(wanted);
-    let fed = listed + count_feed(at_line_start);
+    let listed = len + usize::from(wanted);
+    let fed = listed + usize::from(!at_line_start);
     let at = fed + indent;
     if out.len() <= at {
         return out.len() + 1;
     }
-    put_comma(out, len, wanted);
-    put_feed(out, listed, at_line_start);
+    put_if(out, len, b',', wanted);
+    put_if(out, listed, b'\n', !at_line_start);
     put_gap(out, fed, indent);
     out[at] = closer;
     at + 1
@@ -106,20 +106,7 @@ pub fn write_closer(
 pub fn count_comma(wanted: bool) -> usize
     ensures { (result ≡ count_comma wanted) × (result < 2) }
 {
-    if wanted {
-        return 1;
-    }
-    0
-}
-
-// Answers how many line feeds stand before an indent.
-fn count_feed(at_line_start: bool) -> usize
-    ensures { (result ≡ count_feed at_line_start) × (result < 2) }
-{
-    if at_line_start {
-        return 0;
-    }
-    1
+    usize::from(wanted)
 }
 
 // Writes a line feed, unless a line starts; spaces, `{` and a line feed.
@@ -129,17 +116,15 @@ pub fn write_opener_line(out: &mut [u8], len: usize, at_line_start: bool, indent
         ((cond at_line_start [] line_feed ++ spaces indent) ++ (left_brace ++ line_feed))
         out.new result }
 {
-    let fed = len + count_feed(at_line_start);
+    let fed = len + usize::from(!at_line_start);
     let at = fed + indent;
-    let opened = at + 1;
-    let next = opened + 1;
+    let next = at + 2;
     if out.len() < next {
         return out.len() + 1;
     }
-    put_feed(out, len, at_line_start);
+    put_if(out, len, b'\n', !at_line_start);
     put_gap(out, fed, indent);
-    out[at] = b'{';
-    out[opened] = b'\n';
+    out[at..next].copy_from_slice(b"{\n");
     next
 }
 
@@ -149,14 +134,12 @@ pub fn write_signature_line(out: &mut [u8], len: usize, indent: usize) -> usize
     ensures { Writes out.old len (left_paren ++ (line_feed ++ spaces indent))
         out.new result }
 {
-    let opened = len + 1;
-    let fed = opened + 1;
+    let fed = len + 2;
     let next = fed + indent;
     if out.len() < next {
         return out.len() + 1;
     }
-    out[len] = b'(';
-    out[opened] = b'\n';
+    out[len..fed].copy_from_slice(b"(\n");
     put_gap(out, fed, indent);
     next
 }
@@ -166,13 +149,11 @@ pub fn write_comma_line(out: &mut [u8], len: usize) -> usize
     requires { len ≤ length out.old }
     ensures { Writes out.old len (comma ++ line_feed) out.new result }
 {
-    let listed = len + 1;
-    let next = listed + 1;
+    let next = len + 2;
     if out.len() < next {
         return out.len() + 1;
     }
-    out[len] = b',';
-    out[listed] = b'\n';
+    out[len..next].copy_from_slice(b",\n");
     next
 }
 
@@ -202,8 +183,7 @@ pub fn write_byte(out: &mut [u8], len: usize, b: u8) -> usize
 {
     if len < out.len() {
         out[len] = b;
-        let next = len + 1;
-        return next;
+        return len + 1;
     }
     out.len() + 1
 }
@@ -212,16 +192,11 @@ pub fn write_byte(out: &mut [u8], len: usize, b: u8) -> usize
 pub fn write_spaces(out: &mut [u8], len: usize, n: usize) -> usize
     ensures { Writes out.old len (spaces n) out.new result }
 {
-    let size = out.len();
-    if len <= size {
-        if n <= size - len {
-            let next = len + n;
-            put_gap(out, len, n);
-            return next;
-        }
-        return size + 1;
+    if !has_room(out, len, n) {
+        return out.len() + 1;
     }
-    size + 1
+    put_gap(out, len, n);
+    len + n
 }
 
 // Writes the bytes of `text` from `start` to `end`.
@@ -230,15 +205,17 @@ pub fn write_part(out: &mut [u8], len: usize, text: &[u8], start: usize, end: us
     ensures { Writes out.old len (slice start end text.now)
         out.new result }
 {
-    let size = out.len();
     let n = end - start;
-    if len <= size {
-        if n <= size - len {
-            copy_bytes(out, len, text, start, n);
-            let next = len + n;
-            return next;
-        }
-        return size + 1;
+    if !has_room(out, len, n) {
+        return out.len() + 1;
     }
-    size + 1
+    copy_bytes(out, len, text, start, n);
+    len + n
+}
+
+// Answers whether `n` bytes fit after the first `len`, of which there may be more than fit already.
+fn has_room(out: &[u8], len: usize, n: usize) -> bool
+    ensures { MatchBool result (len + n ≤ length out.now) (length out.now < len + n) }
+{
+    len <= out.len() && n <= out.len() - len
 }

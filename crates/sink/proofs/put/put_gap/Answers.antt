@@ -1,10 +1,6 @@
 -- `sink::put::put_gap` meets its contract. Assumes nothing.
-use native.Mathlib.Omega.{arith}
-use Rattle.sink.proofs.Sink.{one, nothing-more}
+use Rattle.sink.proofs.Sink.{fills_spaces}
 use Rattle.sink.proofs.put.put_gap.Goals as goal
 
-pub returns-then-size-eq0 : goal.returns-then-size-eq0
-returns-then-size-eq0 c = rw c.if-size-eq0.true nothing-more
-
-pub returns-then-size-eq1 : goal.returns-then-size-eq1
-returns-then-size-eq1 c = rw c.if-size-eq1.true (one (omega arith))
+pub returns-in_default : goal.returns-in_default
+returns-in_default c = fills_spaces c.args.size c.requires (c.fill.ensures.after (λ y h. h))

@@ -21,5 +21,5 @@ shape_of-out-then-size-gt1 c = c.copy.ensures.size ∙ simp length-set
 pub returns-then-size-gt1 : goal.returns-then-size-gt1
 returns-then-size-gt1 c = put-more c.args.out.now c.args.text.now c.args.len c.args.space c.args.start c.args.end c.requires.start_lt_end c.requires.space_bound c.requires.start_in_bounds c.copy.ensures
 
-pub returns : goal.returns
-returns c = put_one c.args.out.now c.args.text.now c.args.len c.args.space c.args.start c.args.end c.requires.start_lt_end c.requires.space_bound c.requires.start_in_bounds c.if-size-gt1.false
+pub returns-else-size-gt1 : goal.returns-else-size-gt1
+returns-else-size-gt1 c = put_one c.args.out.now c.args.text.now c.args.len c.args.space c.args.start c.args.end c.requires.start_lt_end c.requires.space_bound c.requires.start_in_bounds c.if-size-gt1.false
