@@ -1,5 +1,5 @@
 -- From the layout on the rest of the output to the layout after a line. Assumes nothing.
-use mathlib.Core.Bool.{Bool, true, false, cond}
+use mathlib.Core.Bool.{true, false, cond}
 use mathlib.Core.List.{List, [], ◌∷◌, ◌++◌, append-nil}
 use mathlib.Core.Path.{◌≡◌, refl, sym, ap, subst, ◌∙◌}
 use Prim.Native.Nat.{ℕ, ◌+◌, ◌-◌, ◌≤◌, ◌<◌, min}
@@ -15,8 +15,7 @@ use Rattle.shared.proofs.Logic.{split, or_cases}
 use Rattle.rows.specs.Options.{default_style, default_indent_width, default_width}
 use Rattle.definition.specs.Layout.{Layout}
 use Rattle.definition.proofs.Laid.{layout-size, layout-fits, layout_unchanged}
-use Rattle.std.specs.Prelude.{Result, Ok, Err}
-use Rattle.format_tokens.specs.declared.Text.{Text}
+use Rattle.std.specs.Prelude.{Err}
 use Rattle.format_tokens.specs.declared.error.LayoutError.{LayoutError}
 use Rattle.format_tokens.specs.declared.error.LayoutError.TheVariants.{BadOption, RaggedRows, BadRow, Deep, Full}
 use Rattle.format_tokens.specs.Answer.{reported}

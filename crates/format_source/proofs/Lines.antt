@@ -1,44 +1,40 @@
 -- The first line: where it ends, whether it is a shebang, and the loop that puts it into the output. Assumes nothing.
-use mathlib.Core.Bool.{false, not, ◌&&◌}
+use mathlib.Core.Bool.{Bool, true, false, cond, not, ◌&&◌, false≢true}
 use mathlib.Core.List.{List, [], ◌∷◌, ◌++◌}
 use mathlib.Core.Path.{◌≡◌, refl, sym, ap, ◌∙◌}
 use Prim.Native.Nat.{ℕ, suc, ◌+◌, ◌≤◌, ◌<◌}
 use native.Mathlib.Nat.{zero-add}
 use native.Mathlib.Numerals.{add-one}
 use native.Mathlib.Omega.{arith}
-use lib.Dec.{eqb}
-use lib.ListN.{length, take, drop, set, get_or, length-set, drop_of_length-le}
+use lib.Dec.{eqb, ltb}
+use lib.ListN.{length, take, drop, set, get_or, length-set}
 use lib.Seq.{drop-cons, take-length, append_snoc, set-append_seam, paste-suc}
-use borrow.Author.Tests.{eq-eqb, ne_eqb, eqb-true}
+use borrow.Author.Tests.{eq-eqb, ne_eqb, eqb-true, ltb-false}
 use Rattle.shared.proofs.Logic.{split}
 use Rattle.shared.specs.Bytes.{byte, line_feed}
 use Rattle.shared.specs.Lines.{first_line}
+use Rattle.shared.proofs.Lines.{line_within}
+use Rattle.std.specs.Prelude.{Some, None}
+use Rattle.std.specs.Option.{unwrap_or}
+use Rattle.std.specs.List.{position_or_len, starts_with}
 use Rattle.format_source.specs.Source.{is_shebang}
 
 -- ---- the line's end
 
--- the first line's end, where no line feed stands before i
-abbrev pub EndsAfter : List ℕ → ℕ → Type 0
-EndsAfter s i = length (first_line [] s) ≡ i + length (first_line [] (drop i s))
+-- where the first line feed stands, or the source's length
+feed_at : (s : List ℕ) → position_or_len (λ b. eqb b (byte "\n")) s ≡ length (first_line [] s)
+unfolding first_line
+feed_at [] = refl
+feed_at (b ∷ s) = split (eqb b (byte "\n")) (λ e. rw e) (λ e. rw (e, feed_at s) (omega arith))
 
-module _ (s : List ℕ) (i : ℕ) where
-  pub ends_at : EndsAfter s i → i < length s → get_or s i 0 ≡ byte "\n" → i ≡ length (first_line [] s)
-  unfolding first_line
-  ends_at e h b =
-      let q : length (first_line [] (drop i s)) ≡ 0 = rw (drop-cons s i 0 h, eq-eqb (get_or s i 0) (byte "\n") b) in
-      omega arith
+line_len_le : (s : List ℕ) → length (first_line [] s) ≤ length s
+line_len_le s = line_within [] s (omega arith)
 
-  pub ends_later : EndsAfter s i → i < length s → (get_or s i 0 ≡ byte "\n" → ⊥) → EndsAfter s (i + 1)
-  unfolding first_line
-  ends_later e h b =
-      let q : length (first_line [] (drop i s)) ≡ suc (length (first_line [] (drop (i + 1) s))) = rw (add-one i, drop-cons s i 0 h, ne_eqb (get_or s i 0) (byte "\n") b) in
-      omega arith
-
-  pub ends_last : EndsAfter s i → i ≡ length s → length s ≡ length (first_line [] s)
-  unfolding first_line
-  ends_last e h =
-      let q : length (first_line [] (drop i s)) ≡ 0 = rw (drop_of_length-le s {i = i} (omega arith)) in
-      omega arith
+pub line_end : (s : List ℕ) → let p = position_or_len (λ b. eqb b (byte "\n")) s in unwrap_or (cond (ltb p (length s)) (Some p) None) (length s) ≡ length (first_line [] s)
+line_end s =
+    let h = line_len_le s in
+    rw (feed_at s) (split (ltb (length (first_line [] s)) (length s)) (λ e. rw e)
+    (λ e. let g = ltb-false (length (first_line [] s)) (length s) e in rw e (omega arith)))
 
 pub line_first_lem : (s : List ℕ) → take (length (first_line [] s)) s ≡ first_line [] s
 unfolding first_line
@@ -62,10 +58,30 @@ unfolding first_line
 shebang-bytes [] = refl
 shebang-bytes (b ∷ s) = split (eqb b (byte "\n")) (λ e. rw (e, eqb-true b (byte "\n") e)) (λ e. rw (e, second s))
 
-pub too_short : (s : List ℕ) → length s < 2 → is_shebang s ≡ false
-too_short [] h = refl
-too_short (b ∷ []) h = split (eqb b (byte "#")) (λ e. rw e) (λ e. rw e)
-too_short (b ∷ c ∷ s) h = absurd (omega arith)
+flip : (a b : ℕ) → eqb a b ≡ eqb b a
+flip a b = split (eqb b a) (λ e. let q = eqb-true b a e in rw e (eq-eqb a b (sym q))) (λ e. rw e (ne_eqb a b (λ q. false≢true (sym e ∙ eq-eqb b a (sym q)))))
+
+starts : (x y z : Bool) → (x && (y && true)) && not (x && (y && (z && true))) ≡ x && (y && not z)
+starts true true true = refl
+starts true true false = refl
+starts true false z = refl
+starts false y z = refl
+
+starts' : (x y : Bool) → (x && (y && true)) && not (x && (y && false)) ≡ x && (y && true)
+starts' true true = refl
+starts' true false = refl
+starts' false y = refl
+
+starts'' : (x : Bool) → (x && false) && not (x && false) ≡ x && false
+starts'' true = refl
+starts'' false = refl
+
+-- it begins with the two bytes, and not with the three
+pub shebang_starts : (s : List ℕ) → (starts_with eqb s (35 ∷ 33 ∷ []) && not (starts_with eqb s (35 ∷ 33 ∷ 91 ∷ []))) ≡ is_shebang s
+shebang_starts [] = refl
+shebang_starts (a ∷ []) = rw (flip 35 a) (starts'' (eqb a 35))
+shebang_starts (a ∷ b ∷ []) = rw (flip 35 a, flip 33 b) (starts' (eqb a 35) (eqb b 33))
+shebang_starts (a ∷ b ∷ c ∷ s) = rw (flip 35 a, flip 33 b, flip 91 c) (starts (eqb a 35) (eqb b 33) (eqb c 91))
 
 -- ---- the copy
 

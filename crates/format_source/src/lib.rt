@@ -63,11 +63,7 @@ fn shebang_len(source: &[u8]) -> usize
 fn is_shebang(source: &[u8]) -> bool
     ensures { result ≡ is_shebang (first_line [] source.now) }
 {
-    match source {
-        [b'#', b'!', b'[', ..] => false,
-        [b'#', b'!', ..] => true,
-        _ => false,
-    }
+    source.starts_with(b"#!") && !source.starts_with(b"#![")
 }
 
 // Returns the length of the first line without its line feed.

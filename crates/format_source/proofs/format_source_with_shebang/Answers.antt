@@ -8,7 +8,7 @@ pub returns-then-line-eq0 : goal.returns-then-line-eq0
 returns-then-line-eq0 c =
     let a = c.args in
     let μ =
-    without_line a.source.now a.rows.now a.text.now a.out.now c.shebang_len-line.ensures c.smaller-room.ensures
+    without_line a.source.now a.rows.now a.text.now a.out.now c.shebang_len-line.ensures c.min-room.ensures
     (record { answer = c.format_tokens_with-answer.ensures.answer; output = c.format_tokens_with-answer.ensures.output })
     c.if-line-eq0.true in
     record {
@@ -20,7 +20,7 @@ pub returns-then-before_walk : goal.returns-then-before_walk
 returns-then-before_walk c =
     let a = c.args in
     let μ =
-    rows_refused a.source.now a.rows.now a.text.now a.out.now c.shebang_len-line.ensures c.smaller-room.ensures
+    rows_refused a.source.now a.rows.now a.text.now a.out.now c.shebang_len-line.ensures c.min-room.ensures
     (record { answer = c.format_tokens_with-answer.ensures.answer; output = c.format_tokens_with-answer.ensures.output })
     c.if-line-eq0.false (sym c.before_walk.ensures ∙ c.if-before_walk.true) in
     record {
@@ -34,7 +34,7 @@ slice_bounds-with_line-end c = sym (length-take-le _ _ (within_source c.args.sou
 pub with_line-requires : goal.with_line-requires
 with_line-requires c =
     let a = c.args in
-    text-fits a.source.now a.rows.now a.text.now a.out.now c.shebang_len-line.ensures c.smaller-room.ensures
+    text-fits a.source.now a.rows.now a.text.now a.out.now c.shebang_len-line.ensures c.min-room.ensures
     (record { answer = c.format_tokens_with-answer.ensures.answer; output = c.format_tokens_with-answer.ensures.output })
     c.if-line-eq0.false
 
@@ -42,7 +42,7 @@ pub returns : goal.returns
 returns c =
     let a = c.args in
     let μ =
-    with_line_lem a.source.now a.rows.now a.text.now a.out.now c.shebang_len-line.ensures c.smaller-room.ensures
+    with_line_lem a.source.now a.rows.now a.text.now a.out.now c.shebang_len-line.ensures c.min-room.ensures
     (record { answer = c.format_tokens_with-answer.ensures.answer; output = c.format_tokens_with-answer.ensures.output })
     c.if-line-eq0.false (sym c.before_walk.ensures ∙ c.if-before_walk.false)
     (record { answer = c.with_line.ensures.answer; output = c.with_line.ensures.output }) in

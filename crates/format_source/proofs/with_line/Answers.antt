@@ -8,7 +8,7 @@ use Rattle.format_source.proofs.with_line.Goals as goal
 pub returns-then-out-start : goal.returns-then-out-start
 returns-then-out-start c =
     let a = c.args in
-    let μ = no_room a.line.now (record { report = reported a.answer; out = _ }) a.out.now (search rules) c.clear_bytes.ensures in
+    let μ = no_room a.line.now (record { report = reported a.answer; out = _ }) a.out.now (search rules) (c.fill.ensures.after (λ y q. q)) in
     record {
       answer = μ.answer;
       output = μ.output;
@@ -19,25 +19,18 @@ returns-in_default c =
     let a = c.args in
     let μ =
     refused a.line.now (record { report = reported a.answer; out = _ }) a.out.now (search rules)
-    (no_text a.answer c.in_default.not-Text) c.clear_bytes-in_default.ensures in
+    (rw c.in_default.is (no_text c.in_default.field-0)) (c.fill-in_default.ensures.after (λ y q. q)) in
     record {
       answer = μ.answer;
       output = μ.output;
     }
-
-pub overflow_add-end : goal.overflow_add-end
-overflow_add-end c =
-    let e = ap reported c.in-Text.is in
-    let w = c.requires (ap (λ r. r.refusal) e) in
-    let q = ap (λ r. r.first) e in
-    search rules
 
 pub returns : goal.returns
 returns c =
     let a = c.args in
     let μ =
     text-after a.line.now (record { report = reported a.answer; out = _ }) a.out.now (search rules)
-    (ap reported c.in-Text.is) c.put_line.ensures in
+    (ap reported c.in-Ok.is) c.put_line.ensures in
     record {
       answer = μ.answer;
       output = μ.output;
