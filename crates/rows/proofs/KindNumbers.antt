@@ -1,12 +1,14 @@
 -- Kinds of the code and their numbers. Assumes nothing.
-use mathlib.Core.List.{List, [], ◌∷◌}
-use mathlib.Core.Path.{◌≡◌, refl}
-use Prim.Native.Nat.{ℕ, ◌≤◌, ◌<◌}
+use mathlib.Core.List.{[], ◌∷◌}
+use mathlib.Core.Bool.{Bool, true, false}
+use mathlib.Core.Path.{◌≡◌, refl, sym, ◌∙◌}
+use Prim.Native.Nat.{ℕ, ◌<◌}
 use native.Mathlib.Omega.{arith}
 use lib.Dec.{eqb, ltb}
 use lib.ListN.{get_or}
-use borrow.Author.Tests.{eq-eqb, ne_eqb, ltb-true, ltb-false}
-use denote.Enum.Bare.{sameb, same_true, same_false}
+use borrow.Author.Tests.{eqb-true, eqb-false, ne_eqb, ltb-true, ltb-false}
+use denote.Enum.Declared.{tag_of}
+use denote.Enum.Bare.{sameb}
 use Rattle.std.specs.Prelude.{min}
 use Rattle.shared.proofs.Logic.{split}
 use Rattle.shared.proofs.Injective.{injective}
@@ -58,11 +60,56 @@ back Set = refl
 back Result = refl
 back Other = refl
 
+-- the tag of a kind, as `as u32` gives it
+pub tag_is : (k : Kind) → tag_of the_type k ≡ kind_number k
+tag_is Eof = refl
+tag_is Newline = refl
+tag_is LeftBrace = refl
+tag_is RightBrace = refl
+tag_is LeftParen = refl
+tag_is RightParen = refl
+tag_is LeftBracket = refl
+tag_is RightBracket = refl
+tag_is Comma = refl
+tag_is Colon = refl
+tag_is Semicolon = refl
+tag_is Question = refl
+tag_is Dot = refl
+tag_is DotDot = refl
+tag_is ColonColon = refl
+tag_is Hash = refl
+tag_is Bang = refl
+tag_is BangHash = refl
+tag_is Minus = refl
+tag_is Else = refl
+tag_is Fn = refl
+tag_is Record = refl
+tag_is Identifier = refl
+tag_is NumberLiteral = refl
+tag_is ByteLiteral = refl
+tag_is StringLiteral = refl
+tag_is CharacterLiteral = refl
+tag_is FloatLiteral = refl
+tag_is BoolLiteral = refl
+tag_is Null = refl
+tag_is Array = refl
+tag_is Map = refl
+tag_is Set = refl
+tag_is Result = refl
+tag_is Other = refl
+
+pub same_number : (a b : Kind) → kind_number a ≡ kind_number b → a ≡ b
+same_number = injective kind_number kind_of back
+
 pub same_kind : (a b : Kind) → sameb the_type a b ≡ eqb (kind_number a) (kind_number b)
-same_kind a b =
-    split (sameb the_type a b)
-    (λ e. rw (e, same_true the_type tt a b e, eq-eqb (kind_number b) (kind_number b) refl))
-    (λ e. rw (e, ne_eqb (kind_number a) (kind_number b) (λ q. same_false the_type a b e (injective kind_number kind_of back a b q))))
+same_kind a b = rw (tag_is a, tag_is b)
+
+module _ {b : Bool} (a k : Kind) (e : b ≡ sameb the_type a k) where
+  pub alike : b ≡ true → kind_number a ≡ kind_number k
+  alike t = eqb-true _ _ (sym (same_kind a k) ∙ sym e ∙ t)
+
+  pub unlike : b ≡ false → kind_number a ≡ kind_number k → ⊥
+  unlike f = eqb-false _ _ (sym (same_kind a k) ∙ sym e ∙ f)
 
 -- ---- a number above 34 counts as 34: it is none of the kinds below
 
