@@ -10,24 +10,25 @@ use Rattle.definition.specs.Layout.{Layout, layout}
 use Rattle.definition.specs.Demand3.{lexemes, text_of, ReadsBack, FirstHalfOf}
 use Rattle.definition.proofs.Laid.{layout-fits}
 use Rattle.definition.proofs.Demand3.{first_half}
-use Rattle.format_tokens.specs.declared.Answer.{Answer}
-use Rattle.format_tokens.specs.declared.Answer.TheVariants.{Text, BadOption, RaggedRows, BadRow, Deep, Full}
+use Rattle.std.specs.Prelude.{Result, Ok, Err}
+use Rattle.format_tokens.specs.declared.Text.{Text}
+use Rattle.format_tokens.specs.declared.error.LayoutError.{LayoutError}
+use Rattle.format_tokens.specs.declared.error.LayoutError.TheVariants.{BadOption, RaggedRows, BadRow, Deep, Full}
 use Rattle.format_tokens.specs.Answer.{reported}
 use Rattle.read_back.specs.ReadBack.{seen, read_back_answer, read_back_slots}
 use Rattle.read_back.specs.Steps.{Fits}
 
 -- ---- the layout's answer, as the code tells its cases apart
 
--- every variant but `Text` is a refusal
-pub refused : (laid : Answer) → ((n c : ℕ) (b : Bool) → laid ≡ Text n c b → ⊥) → accepted (reported laid) ≡ false
-refused (Text length commas plain) h = absurd (h length commas plain refl)
-refused (BadOption position) h = refl
-refused RaggedRows h = refl
-refused (BadRow row) h = refl
-refused (Deep index) h = refl
-refused (Full index) h = refl
+-- an error is a refusal
+pub refused : (e : LayoutError) → accepted (reported (Err e)) ≡ false
+refused (BadOption position) = refl
+refused RaggedRows = refl
+refused (BadRow row) = refl
+refused (Deep index) = refl
+refused (Full index) = refl
 
-pub fits-text : {laid : Answer} {n c : ℕ} {b : Bool} (out : List ℕ) → laid ≡ Text n c b → Fits (seen laid out) → n ≤ length out
+pub fits-text : {laid : Result Text LayoutError} {t : Text} (out : List ℕ) → laid ≡ Ok t → Fits (seen laid out) → t.length ≤ length out
 fits-text out e φ = (rw e at φ) refl
 
 -- ---- a layout's text read back
@@ -48,7 +49,7 @@ module _ (l : Layout) (e : l.report.refusal ≡ 0) where
 
 -- ---- the call: its answer and its output are the layout's
 
-module _ (style indent signature list : ℕ) (rows text out : List ℕ) (laid : Answer) {after : List ℕ}
+module _ (style indent signature list : ℕ) (rows text out : List ℕ) (laid : Result Text LayoutError) {after : List ℕ}
     (e : reported laid ≡ (layout style indent signature list rows text out).report) (f : after ≡ (layout style indent signature list rows text out).out) where
   seen_is : seen laid after ≡ layout style indent signature list rows text out
   seen_is = rw (e, f)

@@ -1,11 +1,12 @@
 -- What laying out and reading back leaves, and what a caller of it sees.
 -- Assumes nothing.
-use Rattle.std.specs.Prelude.{cond, List, ℕ}
+use Rattle.std.specs.Prelude.{cond, List, Result, ℕ}
 use Rattle.shared.specs.Report.{Report, success, accepted}
 use Rattle.pieces.specs.Answer.{read_answer, read_slots}
 use Rattle.definition.specs.Layout.{Layout}
 use Rattle.definition.specs.Demand3.{text_of}
-use Rattle.format_tokens.specs.declared.Answer.{Answer}
+use Rattle.format_tokens.specs.declared.Text.{Text}
+use Rattle.format_tokens.specs.declared.error.LayoutError.{LayoutError}
 use Rattle.format_tokens.specs.Answer.{reported}
 
 -- ---- what is read
@@ -21,5 +22,5 @@ read_back_slots l space = cond (accepted l.report) (read_slots (text_of l) space
 -- ---- what a caller sees
 
 -- a layout, by its answer and the output after the call
-abbrev pub seen : Answer → List ℕ → Layout
+abbrev pub seen : Result Text LayoutError → List ℕ → Layout
 seen laid out = record { report = reported laid; out = out }

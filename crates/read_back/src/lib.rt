@@ -9,14 +9,14 @@ ghost use Rattle.pieces.specs.Answer as Read;
 ghost use Rattle.read_back.specs.ReadBack.{seen, read_back_answer, read_back_slots};
 ghost use Rattle.read_back.specs.Steps.{Fits};
 
-use format_tokens::format_tokens_with;
+use format_tokens::{LayoutError, Text, format_tokens_with};
 use pieces::{ReadError, read_pieces};
 
 // What the layout answers, and what reading its text answers. After a refusal nothing is read, and `read`
 // tells of 0 pieces.
-#[derive(Clone, Copy)]
+#[derive(Clone, Copy, Debug, PartialEq, Eq)]
 pub struct ReadBack {
-    pub laid: format_tokens::Answer,
+    pub laid: Result<Text, LayoutError>,
     pub read: Result<usize, ReadError>,
 }
 
@@ -62,15 +62,19 @@ pub fn format_and_read_back(
 }
 
 // Reads the text that a layout left in `out` into `pieces`. After a refusal it reads nothing.
-fn read_laid(laid: format_tokens::Answer, out: &[u8], pieces: &mut [u32]) -> Result<usize, ReadError>
+fn read_laid(
+    laid: Result<Text, LayoutError>,
+    out: &[u8],
+    pieces: &mut [u32],
+) -> Result<usize, ReadError>
     requires { Fits (seen laid out.now) }
     ensures answer { Read.reported result
         ≡ read_back_answer (seen laid out.now) (length pieces.old) }
     ensures slice { pieces.new
         ≡ read_back_slots (seen laid out.now) pieces.old }
 {
-    let format_tokens::Answer::Text { length, .. } = laid else {
+    let Ok(text) = laid else {
         return Ok(0);
     };
-    read_pieces(&out[..length], pieces)
+    read_pieces(&out[..text.length], pieces)
 }

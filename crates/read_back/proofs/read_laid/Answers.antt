@@ -8,7 +8,7 @@ use Rattle.read_back.proofs.read_laid.Goals as goal
 pub returns-in_default : goal.returns-in_default
 unfolding read_back_answer read_back_slots
 returns-in_default c =
-    let a = refused c.args.laid c.in_default.not-Text in
+    let a = rw c.in_default.is (refused c.in_default.field-0) in
     record {
       answer = rw a;
       slice = rw a;
@@ -20,7 +20,7 @@ slice_bounds-read_pieces-end c = search (rules, length-take-le, fits-text)
 pub returns : goal.returns
 unfolding read_back_answer read_back_slots
 returns c =
-    let e = c.in-Text.is in
+    let e = c.in-Ok.is in
     record {
       answer = rw e c.read_pieces.ensures.answer;
       slice = rw e c.read_pieces.ensures.slice;
