@@ -3,11 +3,13 @@
 #![tactic(auto)]
 
 ghost use Rattle.std.specs.Prelude.{◌≡◌};
+ghost use Rattle.shared.specs.declared.refusal.Refusal.TheVariants.{BadRow};
 ghost use Rattle.rows.specs.KindNumber.{kind_number};
 ghost use Rattle.spaces.specs.Space.{needs_space, no_space_after, no_space_before, is_value_kind};
 ghost use Rattle.spaces.specs.Answer.{reported, space_report};
 
 use rows::Kind;
+use shared::refusal::{Refusal, Refused};
 use std::error::Error;
 use std::fmt;
 
@@ -20,9 +22,20 @@ pub struct UnknownKind {
     pub position: usize,
 }
 
+impl From<UnknownKind> for Refused {
+    ghost from_gives = { λ e r. (r.refusal ≡ BadRow) × (r.place ≡ e.position) };
+
+    fn from(error: UnknownKind) -> Refused {
+        Refused {
+            refusal: Refusal::BadRow,
+            place: error.position,
+        }
+    }
+}
+
 impl fmt::Display for UnknownKind {
     fn fmt<W: fmt::Write>(&self, f: &mut fmt::Formatter<W>) -> fmt::Result {
-        write!(f, "argument {} is no kind of token", self.position)
+        Refused::from(*self).fmt(f)
     }
 }
 
