@@ -1,8 +1,9 @@
+use mathlib.Core.Bool.{Bool}
 use mathlib.Core.Path.{◌≡◌}
-use Prim.Native.Nat.{◌+◌}
+use Prim.Native.Nat.{ℕ, ◌+◌}
 use lib.ListN.{drop}
-use Rattle.pieces.specs.Sets.{contains, run_length}
+use Rattle.pieces.specs.Sets.{Tests, run_length}
 use Rattle.pieces.proofs.runs.run_end.Given as goal
 
 abbrev pub invariant-loop-i : goal.invariant-loop-i
-invariant-loop-i l = l.from + run_length (contains l.set) (drop l.from l.text) ≡ l.i + run_length (contains l.set) (drop l.i l.text)
+invariant-loop-i g l = (p : ℕ → Bool) → Tests (λ b r. goal.F-post g l.takes b r) p → l.from + run_length p (drop l.from l.text) ≡ l.i + run_length p (drop l.i l.text)
