@@ -15,7 +15,7 @@ use crate::{bytes, eights};
 pub fn gap_end(text: &[u8], from: usize) -> usize
     ensures { result ≡ from + run_length (λ b. is_gap (class b)) (drop from text.now) }
 {
-    set_end(text, from, bytes::GAPS)
+    run_end(text, from, bytes::GAPS)
 }
 
 // The index after a run of word bytes which the byte `first`, directly before `from`, began.
@@ -26,7 +26,7 @@ pub fn word_end(text: &[u8], from: usize, first: u8) -> usize
     if first.is_ascii_digit() {
         number_end(text, from)
     } else {
-        set_end(text, from, bytes::WORDS)
+        run_end(text, from, bytes::WORDS)
     }
 }
 
@@ -35,7 +35,7 @@ pub fn word_end(text: &[u8], from: usize, first: u8) -> usize
 pub fn operator_end(text: &[u8], from: usize) -> usize
     ensures { EndsAt text.now operator from result }
 {
-    set_end(text, from, bytes::OPERATORS)
+    run_end(text, from, bytes::OPERATORS)
 }
 
 // The index after the quote that closes what the byte `quote`, directly before `from`, opened; None where no
@@ -60,7 +60,7 @@ pub fn ordinary_end(text: &[u8], from: usize, quote: u8) -> usize
     ensures { result ≡ from + run_length (ordinary quote) (drop from text.now) }
 {
     let start = ordinary_eights(text, from, quote);
-    run_end(text, start, |b| b != quote && b != b'\\')
+    end_of_run(text, start, |b| b != quote && b != b'\\')
 }
 
 // The index after as many ordinary bytes from `from` on as can be passed over eight at a time.
@@ -111,15 +111,15 @@ fn number_takes(text: &[u8], i: usize) -> bool
 }
 
 // The index after the run of bytes of a set that starts at `from`.
-fn set_end(text: &[u8], from: usize, set: ByteSet) -> usize
+fn run_end(text: &[u8], from: usize, set: ByteSet) -> usize
     ensures { result ≡ from + run_length (contains set) (drop from text.now) }
 {
-    run_end(text, from, |b| set.contains(b))
+    end_of_run(text, from, |b| set.contains(b))
 }
 
 // The index after the run of bytes that `takes` takes, which starts at `from`. With `take_while(..).count()` in
 // place of the loop texts take a twelfth longer to read.
-fn run_end<F: Fn(u8) -> bool>(text: &[u8], from: usize, takes: F) -> usize
+fn end_of_run<F: Fn(u8) -> bool>(text: &[u8], from: usize, takes: F) -> usize
     requires { F.IsAlwaysCallable takes }
     ensures { (p : ℕ → Bool) → Tests (F.post takes) p
         → result ≡ from + run_length p (drop from text.now) }
