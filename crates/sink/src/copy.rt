@@ -62,18 +62,20 @@ fn copy_eights(out: &mut [u8], to: usize, text: &[u8], from: usize, size: usize)
         out.new (to + size) }
 {
     let last = size - EIGHT;
-    for i in (0..size).step_by(EIGHT) {
-        let at = i.min(last);
-        copy_block::<EIGHT>(out, to + at, text, from + at);
+    for i in (0..last).step_by(EIGHT) {
+        copy_block::<EIGHT>(out, to + i, text, from + i);
     }
+    copy_block::<EIGHT>(out, to + last, text, from + last);
 }
 
-// Copies N bytes, which is one load and one store, since N is a constant.
+// Copies N bytes. All are loaded before one is stored: the compiler makes one load and one store of it.
 fn copy_block<const N: usize>(out: &mut [u8], to: usize, text: &[u8], from: usize)
     requires from_in_bounds { from + N ≤ length text.now }
     requires to_in_bounds { to + N ≤ length out.old }
     ensures { Writes out.old to (slice from (from + N) text.now)
         out.new (to + N) }
 {
-    out[to..to + N].copy_from_slice(&text[from..from + N]);
+    let mut block = [0u8; N];
+    block.copy_from_slice(&text[from..from + N]);
+    out[to..to + N].copy_from_slice(&block);
 }
