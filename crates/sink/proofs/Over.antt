@@ -1,12 +1,16 @@
 -- A write over an earlier one: a copy in turns, and a lexeme over a space. Assumes nothing.
 use mathlib.Core.List.{List, ◌++◌, append_assoc}
 use mathlib.Core.Path.{◌≡◌, refl, sym, ◌∙◌}
-use Prim.Native.Nat.{ℕ, zero, suc, ◌+◌, ◌-◌, ◌≤◌, ◌<◌}
+use Prim.Native.Nat.{ℕ, zero, suc, ◌+◌, ◌-◌, ◌≤◌, ◌<◌, min}
+use native.Mathlib.Nat.{min-eq_left, min-eq_right}
 use native.Mathlib.Omega.{arith}
 use lib.ListN.{length, take, drop, set, get_or, replicate, length-append, length-set}
 use lib.Seq.{slice, length-slice, length-take-le, take-take, take-add, take-append-add, drop-drop, drop_at}
+use lib.Dec.{leb}
+use borrow.Author.Tests.{leb-true, leb-false}
+use Rattle.shared.proofs.Logic.{split}
 use Rattle.sink.specs.Sink.{Writes}
-use Rattle.sink.proofs.Sink.{Copied, later, one, same_bytes_lem, part_done, slice_one}
+use Rattle.sink.proofs.Sink.{Copied, later, one, same_bytes_lem, part_none, part_done, slice_one}
 
 take-over : (l m xs : List ℕ) (n p q j : ℕ) → q ≡ n + j → q ≤ p → n ≤ length l → take p m ≡ take n l ++ xs → take q m ≡ take n l ++ take j xs
 take-over l m xs n p q j d b h e =
@@ -70,13 +74,30 @@ part_over {l} {t} {m} {k} {n} {s} {i} j w a b h p x =
       wrote = rw (← f) (same_bytes_lem (rw (take_slice s j i t (omega arith) a) (slice_join s j w t (omega arith))) (overwrite j (omega arith) (omega arith) refl p.wrote x));
     }
 
--- the last w bytes, after i are copied
-pub tail : {l m m' k : List ℕ} {n : ℕ} (t : List ℕ) (s w size i : ℕ) → w ≤ size → size - w ≤ i → i ≤ size → s + size ≤ length t → m' ≡ m → Copied l n t s m i → Writes m' (n + (size - w)) (slice (s + (size - w)) (s + (size - w) + w) t) k (n + (size - w) + w) → Writes l n (slice s (s + size) t) k (n + size)
-tail t s w size i a b c h e p y = part_done (s + size) size (part_over (size - w) w b (omega arith) (omega arith) p (rw e at y)) (omega arith) (omega arith)
+-- what is copied in turns of w bytes is the least of i and size, and the last turn may go over an earlier one
+pub turn-none : {l t : List ℕ} {n s : ℕ} (size : ℕ) → Copied l n t s l (size - (size - 0))
+turn-none size = let e : size - (size - 0) ≡ 0 = omega arith in rw e part_none
+
+turn : {l t m k : List ℕ} {n s : ℕ} (w i j p : ℕ) → j ≤ i → i ≤ j + w → s + j + w ≤ length t → p ≡ j + w → Copied l n t s m i → Writes m (n + j) (slice (s + j) (s + j + w) t) k (n + j + w) → Copied l n t s k p
+turn w i j p a b h e q x = rw e (part_over j w a b h q x)
+
+pub turn_more : {l t m k : List ℕ} {n s : ℕ} (w size i j : ℕ) → w ≤ size → s + size ≤ length t → i < size → j ≡ min i (size - w)
+    → Copied l n t s m (size - (size - i)) → Writes m (n + j) (slice (s + j) (s + j + w) t) k (n + j + w)
+    → Copied l n t s k (size - (size - (i + w)))
+turn_more w size i j a h g b p x =
+    split (leb i (size - w))
+    (λ q.
+    let f = leb-true i (size - w) q in
+    let e : j ≡ i = b ∙ min-eq_left f in
+    turn w (size - (size - i)) j (size - (size - (i + w))) (omega arith) (omega arith) (omega arith) (omega arith) p x)
+    (λ q.
+    let f = leb-false i (size - w) q in
+    let e : j ≡ size - w = b ∙ min-eq_right (omega arith) in
+    turn w (size - (size - i)) j (size - (size - (i + w))) (omega arith) (omega arith) (omega arith) (omega arith) p x)
 
 -- the first w bytes and the last w, which may go over them
 pub ends : {l m k : List ℕ} {n : ℕ} (t : List ℕ) (s w size : ℕ) → w ≤ size → size ≤ w + w → s + size ≤ length t → Writes l n (slice s (s + w) t) m (n + w) → Writes m (n + (size - w)) (slice (s + (size - w)) (s + (size - w) + w) t) k (n + (size - w) + w) → Writes l n (slice s (s + size) t) k (n + size)
-ends t s w size a b h x y = tail t s w size w a (omega arith) a h refl (record { size = x.size; wrote = x }) y
+ends t s w size a b h x y = part_done (s + size) size (part_over (size - w) w (omega arith) (omega arith) (omega arith) (record { size = x.size; wrote = x }) y) (omega arith) (omega arith)
 
 -- ---- one byte
 
