@@ -1,5 +1,5 @@
--- The loop of `read_sheet`: the rows so far stand first in the slices, and what is left of the sheet completes the answer. Assumes nothing.
-use mathlib.Core.Bool.{Bool, true, false}
+-- The loop of `read_lines`: the rows so far stand first in the slices, and what is left of the sheet completes the answer. Assumes nothing.
+use mathlib.Core.Bool.{Bool, true, false, true≢false}
 use mathlib.Core.List.{List, [], ◌++◌}
 use mathlib.Core.Path.{◌≡◌, refl, sym, ap, ◌∙◌}
 use Prim.Native.Nat.{ℕ, ◌+◌, ◌*◌, ◌≤◌, ◌<◌}
@@ -8,17 +8,18 @@ use lib.Dec.{leb}
 use lib.ListN.{length, drop, length-append, length-drop, drop_of_length-le}
 use lib.Seq.{sets, sets-eq, take_at, drop-append-add, drop-drop}
 use borrow.Author.Tests.{leb-true}
-use Rattle.shared.specs.Report.{refuse, zeroed, put_first, bad_line, sheet_full}
+use Rattle.shared.specs.Report.{refuse, refusal_number, zeroed, put_first}
 use Rattle.shared.proofs.Logic.{and_left, and_right}
 use Rattle.rows.specs.Row.{row_size}
-use Rattle.sheet.specs.declared.Answer.{Answer}
-use Rattle.sheet.specs.declared.Answer.TheVariants.{Read, NoNames, BadLine, SheetFull}
-use Rattle.sheet.specs.declared.Step.{Step}
-use Rattle.sheet.specs.declared.Step.TheVariants.{Row, Bad, Full}
-use Rattle.sheet.specs.Line.{names, begins, lines, bad, line_of}
+use Rattle.std.specs.Prelude.{Result, Ok, Err, is_err}
+use Rattle.std.specs.Result.{IsErrAnd}
+use Rattle.sheet.specs.declared.SheetSize.{SheetSize}
+use Rattle.sheet.specs.declared.SheetError.{SheetError}
+use Rattle.sheet.specs.declared.SheetError.TheVariants.{NoNames, BadLine, SheetFull}
+use Rattle.sheet.specs.Line.{names, begins, lines, line_of}
 use Rattle.sheet.specs.Row.{row_bytes}
-use Rattle.sheet.specs.Answer.{reported, Reading, done, refused, fits, read_line, read_lines, reading, answer_of, sheet_answer, rows_of, texts_of, sheet_rows, sheet_text}
-use Rattle.sheet.specs.Steps.{line_at, after_at, Stored, Unfit, StepAt}
+use Rattle.sheet.specs.Answer.{reported, refused_of, done, refused, fits, read_line, read_lines, reading, sheet_answer, sheet_rows, sheet_text}
+use Rattle.sheet.specs.Steps.{line_at, after_at, Stored, StepAt, ReadAt}
 use Rattle.sheet.proofs.Cut.{lines_at}
 use Rattle.sheet.proofs.Writing.{row-size}
 
@@ -53,38 +54,22 @@ module _ {xs₀ xs bs : List ℕ} {n : ℕ} (φ : Filled xs₀ xs bs n) where
 
 -- at its head: n rows, whose texts have len bytes, and the sheet is read from `at` on
 pub record State (sheet rows₀ text₀ rows text : List ℕ) (at n len : ℕ) : Type 0 where
-  pub named : begins names sheet ≡ true
   pub rs : List ℕ
   pub ts : List ℕ
   pub rows_filled : Filled rows₀ rows rs (row_size * n)
   pub text_filled : Filled text₀ text ts len
   pub left : reading sheet (length rows₀) (length text₀) ≡ read_lines (length rows₀) (length text₀) n rs ts (lines (drop at sheet))
 
-pub begin : (sheet rows text : List ℕ) → begins names sheet ≡ true → State sheet rows text rows text 15 0 0
+pub begin : (sheet rows text : List ℕ) → State sheet rows text rows text 15 0 0
 unfolding reading
-begin sheet rows text e = record { named = e; rs = []; ts = []; rows_filled = filled_none; text_filled = filled_none; left = refl }
-
--- the answer a and the slices xs and ys at the end
-pub record Answered (sheet rows₀ text₀ : List ℕ) (a : Answer) (xs ys : List ℕ) : Type 0 where
-  pub report : reported a ≡ sheet_answer sheet (length rows₀) (length text₀)
-  pub rows : xs ≡ sheet_rows sheet rows₀ text₀
-  pub text : ys ≡ sheet_text sheet rows₀ text₀
-
-pub unnamed : (sheet rows text : List ℕ) → begins names sheet ≡ false → Answered sheet rows text NoNames rows text
-unfolding sheet_answer sheet_rows sheet_text
-unnamed sheet rows text e = record { report = rw e; rows = rw e; text = rw e }
-
--- a sheet with the names line, by what its lines read as
-answered : (sheet rows₀ text₀ : List ℕ) (a : Answer) {xs ys : List ℕ} (r : Reading) → begins names sheet ≡ true → reading sheet (length rows₀) (length text₀) ≡ r → reported a ≡ answer_of r → xs ≡ rows_of r rows₀ → ys ≡ texts_of r text₀ → Answered sheet rows₀ text₀ a xs ys
-unfolding sheet_answer sheet_rows sheet_text
-answered sheet rows₀ text₀ a r n e f x y = record { report = f ∙ rw (n, e); rows = x ∙ rw (n, e); text = y ∙ rw (n, e) }
+begin sheet rows text = record { rs = []; ts = []; rows_filled = filled_none; text_filled = filled_none; left = refl }
 
 module _ {sheet rows₀ text₀ rows text : List ℕ} {at n len : ℕ} (σ : State sheet rows₀ text₀ rows text at n len) where
-  pub finished : length sheet ≤ at → Answered sheet rows₀ text₀ (Read n len) rows text
+  pub finished : length sheet ≤ at → ReadAt sheet rows₀ text₀ (Ok (record { rows = n; text_bytes = len })) rows text
   unfolding read_lines lines
   finished h =
       let e : reading sheet (length rows₀) (length text₀) ≡ done n σ.rs σ.ts = σ.left ∙ rw (drop_of_length-le sheet h) in
-      answered sheet rows₀ text₀ (Read n len) _ σ.named e (rw σ.text_filled.size) (filled_first σ.rows_filled) (filled_first σ.text_filled)
+      rw e (record { report = rw σ.text_filled.size; rows_are = filled_first σ.rows_filled; text_is = filled_first σ.text_filled })
 
   module _ (h : at < length sheet) where
     -- the line at hand, and those after it
@@ -92,43 +77,61 @@ module _ {sheet rows₀ text₀ rows text : List ℕ} {at n len : ℕ} (σ : Sta
     unfolding read_lines
     one_line = σ.left ∙ rw (lines_at sheet at h)
 
-    -- a refusal that zeroes the slices
-    refuses : (a : Answer) (number line : ℕ) (xs ys : List ℕ) {xs' ys' : List ℕ} → reading sheet (length rows₀) (length text₀) ≡ refused number line → reported a ≡ refuse number line → length xs ≡ length rows → length ys ≡ length text → xs' ≡ zeroed xs → ys' ≡ zeroed ys → Answered sheet rows₀ text₀ a xs' ys'
-    refuses a number line xs ys e f p q x y =
-        answered sheet rows₀ text₀ a (refused number line) σ.named e f (x ∙ rw (p ∙ sized σ.rows_filled)) (y ∙ rw (q ∙ sized σ.text_filled))
-
     fits-same : (k : ℕ) {b : Bool} → fits (length rows) (length text) n (len + k) ≡ b → fits (length rows₀) (length text₀) n (length σ.ts + k) ≡ b
     fits-same k e = rw (σ.text_filled.size, ← sized σ.rows_filled, ← sized σ.text_filled) e
 
-    -- what the answer of `read_line` tells
-    module _ (r : Step) (xs ys : List ℕ) (τ : StepAt sheet at rows n text len r xs ys) where
-      module _ (p : length xs ≡ length rows) (q : length ys ≡ length text) {xs' ys' : List ℕ} (x : xs' ≡ zeroed xs) (y : ys' ≡ zeroed ys) where
-        pub bad_line_lem : r ≡ Bad → Answered sheet rows₀ text₀ (BadLine (n + 1)) xs' ys'
-        bad_line_lem e =
-            let b : line_of (line_at sheet at) ≡ bad = rw e at τ in
-            refuses (BadLine (n + 1)) bad_line (n + 1) xs ys (one_line ∙ rw b) refl p q x y
+    -- what an error of `read_line` tells
+    pub stopped : (e : SheetError) (xs ys : List ℕ) → StepAt sheet at rows n text len (Err e) xs ys → reading sheet (length rows₀) (length text₀) ≡ refused (refusal_number (refused_of e).refusal) (refused_of e).place
+    stopped NoNames xs ys τ = absurd τ
+    stopped (BadLine line) xs ys τ = one_line ∙ rw (τ.1, τ.0)
+    stopped (SheetFull line) xs ys τ = one_line ∙ rw (τ.1.says, fits-same (length τ.1.bs) τ.1.unfit, τ.0)
 
-        pub full : r ≡ Full → Answered sheet rows₀ text₀ (SheetFull (n + 1)) xs' ys'
-        full e =
-            let υ : Unfit sheet at (length rows) n (length text) len = rw e at τ in
-            refuses (SheetFull (n + 1)) sheet_full (n + 1) xs ys (one_line ∙ rw (υ.says, fits-same (length υ.bs) υ.unfit)) refl p q x y
+    module _ {next end : ℕ} {xs ys : List ℕ} (τ : Stored sheet at rows n text len next end xs ys) where
+      row_room : row_size * n + row_size ≤ length rows
+      row_room = leb-true _ _ (and_left (leb (row_size * n + row_size) (length rows)) _ τ.fit)
 
-      module _ {next end : ℕ} (e : r ≡ Row next end) where
-        pub step : Stored sheet at rows n text len next end xs ys
-        step = rw e at τ
+      text-room : len + length τ.bs ≤ length text
+      text-room = leb-true _ _ (and_left (leb (len + length τ.bs) (length text)) _ (and_right (leb (row_size * n + row_size) (length rows)) _ τ.fit))
 
-        row_room : row_size * n + row_size ≤ length rows
-        row_room = leb-true _ _ (and_left (leb (row_size * n + row_size) (length rows)) _ step.fit)
+      pub more : State sheet rows₀ text₀ xs ys next (n + 1) end
+      more = record {
+        rs = σ.rs ++ row_bytes τ.what τ.kind len end;
+        ts = σ.ts ++ τ.bs;
+        rows_filled = filled_more σ.rows_filled (row_bytes τ.what τ.kind len end) τ.rows_are (omega (arith, row-size τ.what τ.kind len end)) (omega (arith, row_room, sized σ.rows_filled));
+        text_filled = filled_more σ.text_filled τ.bs τ.text_is (sym τ.end_is) (omega (arith, text-room, τ.end_is, sized σ.text_filled));
+        left = one_line ∙ rw (τ.says, fits-same (length τ.bs) τ.fit, σ.text_filled.size, ← τ.end_is, τ.rest);
+      }
 
-        text-room : len + length step.bs ≤ length text
-        text-room = leb-true _ _ (and_left (leb (len + length step.bs) (length text)) _ (and_right (leb (row_size * n + row_size) (length rows)) _ step.fit))
+-- an error that `?` hands on
+pub refuses : (sheet rows text xs ys : List ℕ) (e : SheetError) (r : Result SheetSize SheetError) → IsErrAnd r (λ f. f ≡ e) → reading sheet (length rows) (length text) ≡ refused (refusal_number (refused_of e).refusal) (refused_of e).place → ReadAt sheet rows text r xs ys
+refuses sheet rows text xs ys e (Ok size) h w = absurd h
+refuses sheet rows text xs ys e (Err f) h w = rw h w
 
-        pub more : State sheet rows₀ text₀ xs ys next (n + 1) end
-        more = record {
-          named = σ.named;
-          rs = σ.rs ++ row_bytes step.what step.kind len end;
-          ts = σ.ts ++ step.bs;
-          rows_filled = filled_more σ.rows_filled (row_bytes step.what step.kind len end) step.rows_are (omega (arith, row-size step.what step.kind len end)) (omega (arith, row_room, sized σ.rows_filled));
-          text_filled = filled_more σ.text_filled step.bs step.text_is (sym step.end_is) (omega (arith, text-room, step.end_is, sized σ.text_filled));
-          left = one_line ∙ rw (step.says, fits-same (length step.bs) step.fit, σ.text_filled.size, ← step.end_is, step.rest);
-        }
+-- ---- the whole sheet
+
+-- the answer a and the slices xs and ys at the end
+pub record Answered (sheet rows₀ text₀ : List ℕ) (a : Result SheetSize SheetError) (xs ys : List ℕ) : Type 0 where
+  pub report : reported a ≡ sheet_answer sheet (length rows₀) (length text₀)
+  pub rows : xs ≡ sheet_rows sheet rows₀ text₀
+  pub text : ys ≡ sheet_text sheet rows₀ text₀
+
+pub unnamed : (sheet rows text : List ℕ) → begins names sheet ≡ false → Answered sheet rows text (Err NoNames) rows text
+unfolding sheet_answer sheet_rows sheet_text
+unnamed sheet rows text e = record { report = rw e; rows = rw e; text = rw e }
+
+reported_error : (e : SheetError) → reported (Err e) ≡ refuse (refusal_number (refused_of e).refusal) (refused_of e).place
+reported_error NoNames = refl
+reported_error (BadLine line) = refl
+reported_error (SheetFull line) = refl
+
+module _ (sheet rows₀ text₀ : List ℕ) (named : begins names sheet ≡ true) where
+  pub answered : (r : Result SheetSize SheetError) {xs ys : List ℕ} → is_err r ≡ false → ReadAt sheet rows₀ text₀ r xs ys → Answered sheet rows₀ text₀ r xs ys
+  unfolding sheet_answer sheet_rows sheet_text
+  answered (Ok size) h w = record { report = w.report ∙ rw named; rows = w.rows_are ∙ rw named; text = w.text_is ∙ rw named }
+  answered (Err e) h w = absurd (true≢false h)
+
+  -- a refusal zeroes the slices
+  pub zeroes : (r : Result SheetSize SheetError) (xs ys : List ℕ) {xs' ys' : List ℕ} → is_err r ≡ true → ReadAt sheet rows₀ text₀ r xs ys → xs' ≡ zeroed rows₀ → ys' ≡ zeroed text₀ → Answered sheet rows₀ text₀ r xs' ys'
+  unfolding sheet_answer sheet_rows sheet_text
+  zeroes (Ok size) xs ys h w x y = absurd (true≢false (sym h))
+  zeroes (Err e) xs ys h w x y = record { report = reported_error e ∙ rw (named, w); rows = x ∙ rw (named, w); text = y ∙ rw (named, w) }

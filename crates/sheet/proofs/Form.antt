@@ -10,8 +10,11 @@ use borrow.Author.Tests.{ne_eqb, le-leb, lt-leb, leb-true, ltb-true}
 use Rattle.shared.specs.Bytes.{line_feed, digit}
 use Rattle.shared.proofs.Lines.{line_within}
 use Rattle.shared.proofs.Logic.{and_left, and_right}
+use Rattle.rows.specs.KindNumber.{what_number}
+use Rattle.rows.specs.declared.kind.What.{What}
+use Rattle.rows.specs.declared.kind.What.TheVariants.{Leading, Token, Trailing}
+use Rattle.std.specs.Prelude.{Option, None, Some}
 use Rattle.sheet.specs.declared.line.Head.{Head}
-use Rattle.sheet.specs.declared.line.Head.TheVariants.{Row, Bad}
 use Rattle.sheet.specs.Line.{Line, bad, text_of, row_of, space_and_text, is_second, kind_from, kind_and_text, space_and_kind, what_of, line_of}
 use Rattle.sheet.specs.Steps.{line_at, after_at, Headed, HeadAt}
 use Rattle.sheet.proofs.Cut.{line_here, line_more, rest_more}
@@ -55,10 +58,15 @@ digit-solid b e q = let h = digit_low b e in omega arith
 pub what-solid : (b : ℕ) → what_of b ≤ 2 → b ≡ 10 → ⊥
 what-solid b h q = let e : what_of b ≡ 3 = rw q in omega arith
 
+pub what-small : (w : What) → what_number w ≤ 2
+what-small Leading = omega arith
+what-small Token = omega arith
+what-small Trailing = omega arith
+
 -- a head after bytes that have been read
-onward : {said said' : Line} (sheet : List ℕ) (at at' : ℕ) (r : Head) → said ≡ said' → after_at sheet at ≡ after_at sheet at' → at ≤ at' → HeadAt said' sheet at' r → HeadAt said sheet at r
-onward sheet at at' (Row what kind from) e b h σ = record { says = e ∙ σ.says; rest = b ∙ σ.rest; after = omega (arith, σ.after); within = σ.within }
-onward sheet at at' Bad e b h σ = e ∙ σ
+onward : {said said' : Line} (sheet : List ℕ) (at at' : ℕ) (r : Option Head) → said ≡ said' → after_at sheet at ≡ after_at sheet at' → at ≤ at' → HeadAt said' sheet at' r → HeadAt said sheet at r
+onward sheet at at' (Some head) e b h σ = record { says = e ∙ σ.says; rest = b ∙ σ.rest; after = omega (arith, σ.after); within = σ.within }
+onward sheet at at' None e b h σ = e ∙ σ
 
 -- ---- the kind, from an index on
 
@@ -142,7 +150,7 @@ module _ (sheet : List ℕ) (at : ℕ) (h : at + 5 ≤ length sheet) where
     pub head_unspaced : (get_or sheet (at + 1) 0 ≡ 32 → ⊥) → line_of (line_at sheet at) ≡ bad
     head_unspaced n = after-what ∙ rw (line_here sheet (at + 1) (omega arith), ne_eqb (get_or sheet (at + 1) 0) 32 n)
 
-    pub head-kind : (r : Head) → get_or sheet (at + 1) 0 ≡ 32 → HeadAt (kind_and_text (what_of (get_or sheet at 0)) (line_at sheet (at + 2))) sheet (at + 2) r → HeadAt (line_of (line_at sheet at)) sheet at r
+    pub head-kind : (r : Option Head) → get_or sheet (at + 1) 0 ≡ 32 → HeadAt (kind_and_text (what_of (get_or sheet at 0)) (line_at sheet (at + 2))) sheet (at + 2) r → HeadAt (line_of (line_at sheet at)) sheet at r
     head-kind r e σ =
         let two : at + 1 + 1 ≡ at + 2 = omega arith in
         onward sheet at (at + 2) r (after-what ∙ rw (line_here sheet (at + 1) (omega arith), e, two))

@@ -10,7 +10,7 @@ use borrow.Author.Tests.{ne_eqb}
 use Rattle.sink.specs.Sink.{Writes}
 use Rattle.sink.proofs.Sink.{nothing, and_then}
 use Rattle.sheet.specs.Line.{with_byte, text_of}
-use Rattle.sheet.specs.Steps.{line_at, after_at, EscapeAt, Texted}
+use Rattle.sheet.specs.Steps.{line_at, after_at, Escapes, Texted}
 use Rattle.sheet.proofs.Cut.{line_none, line_here, line_more, rest_more, rest_feed}
 
 abbrev with_bytes : List ℕ → Option (List ℕ) → Option (List ℕ)
@@ -32,38 +32,28 @@ bytes_wrong (b ∷ bs) = rw (bytes_wrong bs)
 -- ---- after a backslash
 
 module _ (sheet : List ℕ) (i : ℕ) where
-  pub escape_out : length sheet ≤ i → EscapeAt sheet i 0
+  pub escape_out : length sheet ≤ i → text_of true (line_at sheet i) ≡ none
   unfolding text_of
-  escape_out h = record { bars = λ e. rw (line_none sheet i h); makes = λ n. absurd (n refl); rest = λ n. absurd (n refl); within = λ n. absurd (n refl) }
+  escape_out h = rw (line_none sheet i h)
 
   module _ (h : i < length sheet) where
-    pub escape_other : (get_or sheet i 0 ≡ 110 → ⊥) → (get_or sheet i 0 ≡ 92 → ⊥) → EscapeAt sheet i 0
+    pub escape_other : (get_or sheet i 0 ≡ 110 → ⊥) → (get_or sheet i 0 ≡ 92 → ⊥) → text_of true (line_at sheet i) ≡ none
     unfolding text_of
-    escape_other n m = record {
-      bars = λ e. rw (line_here sheet i h, ne_eqb (get_or sheet i 0) 110 n, ne_eqb (get_or sheet i 0) 92 m);
-      makes = λ n. absurd (n refl);
-      rest = λ n. absurd (n refl);
-      within = λ n. absurd (n refl);
-    }
+    escape_other n m = rw (line_here sheet i h, ne_eqb (get_or sheet i 0) 110 n, ne_eqb (get_or sheet i 0) 92 m)
 
     -- a byte that may stand there, and what it makes
-    escape_some : (c b : ℕ) → (b ≡ 0 → ⊥) → (c ≡ 10 → ⊥) → ((t : List ℕ) → text_of true (c ∷ t) ≡ with_byte b (text_of false t)) → get_or sheet i 0 ≡ c → EscapeAt sheet i b
-    escape_some c b z n f e =
+    escape_some : (c b : ℕ) → (c ≡ 10 → ⊥) → ((t : List ℕ) → text_of true (c ∷ t) ≡ with_byte b (text_of false t)) → get_or sheet i 0 ≡ c → Escapes sheet i b
+    escape_some c b n f e =
         let solid : get_or sheet i 0 ≡ 10 → ⊥ = λ q. n (sym e ∙ q) in
-        record {
-          bars = λ q. absurd (z q);
-          makes = λ q. rw (line_more sheet i h solid, e) (f (line_at sheet (i + 1)));
-          rest = λ q. rest_more sheet i h solid;
-          within = λ q. h;
-        }
+        record { makes = rw (line_more sheet i h solid, e) (f (line_at sheet (i + 1))); rest = rest_more sheet i h solid; within = h }
 
-    pub escape_feed : get_or sheet i 0 ≡ 110 → EscapeAt sheet i 10
+    pub escape_feed : get_or sheet i 0 ≡ 110 → Escapes sheet i 10
     unfolding text_of
-    escape_feed e = escape_some 110 10 (λ q. omega arith) (λ q. omega arith) (λ t. refl) e
+    escape_feed e = escape_some 110 10 (λ q. omega arith) (λ t. refl) e
 
-    pub escape_backslash : get_or sheet i 0 ≡ 92 → EscapeAt sheet i 92
+    pub escape_backslash : get_or sheet i 0 ≡ 92 → Escapes sheet i 92
     unfolding text_of
-    escape_backslash e = escape_some 92 92 (λ q. omega arith) (λ q. omega arith) (λ t. refl) e
+    escape_backslash e = escape_some 92 92 (λ q. omega arith) (λ t. refl) e
 
 -- ---- the loop
 
@@ -102,16 +92,16 @@ module _ {sheet : List ℕ} {from : ℕ} {text₀ : List ℕ} {len : ℕ} {text 
         unfolding text_of
         escaped_here = rw (line_more sheet i h n, b)
 
-        pub scan_wrong : EscapeAt sheet (i + 1) 0 → text_of false (line_at sheet from) ≡ none
-        scan_wrong ε = σ.says ∙ rw (escaped_here, ε.bars refl) (bytes_wrong σ.bs)
+        pub scan_wrong : text_of true (line_at sheet (i + 1)) ≡ none → text_of false (line_at sheet from) ≡ none
+        scan_wrong ε = σ.says ∙ rw (escaped_here, ε) (bytes_wrong σ.bs)
 
-        pub scan_escaped : {e m' : ℕ} {text' : List ℕ} → EscapeAt sheet (i + 1) e → (e ≡ 0 → ⊥) → Writes text m (e ∷ []) text' m' → Scanned sheet from text₀ len text' (i + 1 + 1) m'
-        scan_escaped {e} ε z w = record {
+        pub scan_escaped : {e m' : ℕ} {text' : List ℕ} → Escapes sheet (i + 1) e → Writes text m (e ∷ []) text' m' → Scanned sheet from text₀ len text' (i + 1 + 1) m'
+        scan_escaped {e} ε w = record {
           bs = σ.bs ++ (e ∷ []);
-          says = σ.says ∙ rw (escaped_here, ε.makes z) (bytes_then σ.bs e _);
-          rest = σ.rest ∙ rest_more sheet i h n ∙ ε.rest z;
+          says = σ.says ∙ rw (escaped_here, ε.makes) (bytes_then σ.bs e _);
+          rest = σ.rest ∙ rest_more sheet i h n ∙ ε.rest;
           after = omega (arith, σ.after);
-          within = omega (arith, ε.within z);
+          within = omega (arith, ε.within);
           wrote = and_then σ.wrote w;
         }
 

@@ -12,10 +12,25 @@ use Rattle.rows.specs.Row.{row_size}
 use Rattle.sheet.specs.Line.{Line, bad, row, text_of, line_of}
 use Rattle.sheet.specs.Row.{row_fits, with_row}
 use Rattle.sheet.specs.Answer.{fits}
-use Rattle.sheet.specs.Steps.{line_at, Headed, Texted, Stored, Unfit}
+use Rattle.sheet.specs.Steps.{line_at, Headed, HeadAt, Texted, TextAt, Stored, Unfit}
+use Rattle.std.specs.Prelude.{Option, None, Some, Result, Ok}
+use Rattle.std.specs.Option.{ok_or}
+use Rattle.rows.specs.KindNumber.{what_number, kind_number}
+use Rattle.sheet.specs.declared.SheetError.{SheetError}
+use Rattle.sheet.specs.declared.line.Head.{Head}
+use Rattle.sheet.specs.declared.line.TextEnd.{TextEnd}
 use Rattle.sink.proofs.Sink.{wrote_sets, within-fits, past_over}
 
--- what `Bad` of `read_text` tells
+-- a head, and a text, that `ok_or` hands on
+pub headed : {said : Line} {sheet : List ℕ} {at : ℕ} (e : SheetError) {h : Head} {r : Result Head SheetError} (o : Option Head) → r ≡ ok_or o e → r ≡ Ok h → HeadAt said sheet at o → Headed said sheet at (what_number h.what) (kind_number h.kind) h.from
+headed e {h = h} (Some k) p q η = let same : k ≡ h = cc in rw same at η
+headed e None p q η = absurd cc
+
+pub texted : {sheet : List ℕ} {from : ℕ} {text : List ℕ} {len : ℕ} (e : SheetError) {t : TextEnd} {r : Result TextEnd SheetError} {text' : List ℕ} (o : Option TextEnd) → r ≡ ok_or o e → r ≡ Ok t → TextAt sheet from text len o text' → Texted sheet from text len t.next t.end text'
+texted e {t = t} (Some k) p q τ = let same : k ≡ t = cc in rw same at τ
+texted e None p q τ = absurd cc
+
+-- what no text tells
 pub text-bad : {said : Line} {at what kind : ℕ} (sheet : List ℕ) (from : ℕ) → text_of false (line_at sheet from) ≡ none → Headed said sheet at what kind from → said ≡ bad
 text-bad sheet from w η = η.says ∙ rw w
 

@@ -8,7 +8,9 @@ use lib.ListN.{length, length-append}
 use lib.Seq.{sets}
 use borrow.Author.Tests.{le-leb}
 use Rattle.shared.specs.Numbers.{most32}
-use Rattle.shared.proofs.LittleEndian.{length-little_endian}
+use mir.Syntax.{w32}
+use Rattle.std.specs.Int.{to_le_bytes}
+use Rattle.shared.proofs.LittleEndian.{length-little_endian, le_bytes}
 use Rattle.shared.proofs.Stores.{sets_after}
 use Rattle.rows.specs.Row.{row_size}
 use Rattle.sheet.specs.Row.{number, row_bytes, row_fits}
@@ -18,6 +20,10 @@ row_fits_lem space n end g h = rw (le-leb (row_size * n + row_size) space g, le-
 
 pub row-size : (what kind start end : ℕ) → length (row_bytes what kind start end) ≡ row_size
 row-size what kind start end = simp (length-append, length-little_endian)
+
+-- the library's four bytes of a number
+pub number_bytes : {bs : List ℕ} {y : ℕ} (x : ℕ) → bs ≡ to_le_bytes w32 y → y ≡ x → bs ≡ number x
+number_bytes x e f = e ∙ rw f (le_bytes 4 x)
 
 pub row_stored : (l : List ℕ) (at what kind start end : ℕ) {a b c d : List ℕ} → a ≡ sets l at (number what) →
     b ≡ sets a (at + 4) (number kind) → c ≡ sets b (at + 8) (number start) → d ≡ sets c (at + 12) (number end) →

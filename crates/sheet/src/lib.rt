@@ -2,22 +2,27 @@
 #![tactic(auto)]
 
 ghost use Rattle.std.specs.Prelude.{◌≡◌, ◌*◌, ◌≤◌, ◌<◌, length};
-ghost use Rattle.shared.specs.Report.{zeroed};
 ghost use Rattle.rows.specs.Row.{row_size};
-ghost use Rattle.sheet.specs.Line.{begins};
-ghost use Rattle.sheet.specs.Answer.{reported, sheet_answer, sheet_rows, sheet_text};
-ghost use Rattle.sheet.specs.Steps.{StepAt};
+ghost use Rattle.sheet.specs.Answer.{reported, refused_of, sheet_answer, sheet_rows, sheet_text};
+ghost use Rattle.sheet.specs.Steps.{StepAt, ReadAt};
 
-use shared::clear_bytes;
+use shared::refusal::{Refusal, Refused};
 
 mod line;
 mod row;
 
-// What reading a sheet answers. Lines are numbered from 1, after the names line.
-#[derive(Clone, Copy)]
-pub enum Answer {
-    // The whole sheet was read: how many rows it has, and how many bytes their texts have.
-    Read { rows: usize, text_bytes: usize },
+use line::TextEnd;
+
+// How many rows a sheet has, and how many bytes their texts have.
+#[derive(Clone, Copy, Debug, PartialEq, Eq)]
+pub struct SheetSize {
+    pub rows: usize,
+    pub text_bytes: usize,
+}
+
+// Why a sheet is refused. Lines are numbered from 1, after the names line.
+#[derive(Clone, Copy, Debug, PartialEq, Eq)]
+pub enum SheetError {
     // The sheet does not begin with the names line.
     NoNames,
     // The line of this number breaks its form.
@@ -26,11 +31,32 @@ pub enum Answer {
     SheetFull { line: usize },
 }
 
-// The length of the names line, with its line feed.
-const NAMES_BYTES: usize = 15;
+impl From<SheetError> for Refused {
+    ghost from_gives = { λ e r. r ≡ refused_of e };
+
+    fn from(error: SheetError) -> Refused {
+        match error {
+            SheetError::NoNames => Refused {
+                refusal: Refusal::NoNames,
+                place: 0,
+            },
+            SheetError::BadLine { line } => Refused {
+                refusal: Refusal::BadLine,
+                place: line,
+            },
+            SheetError::SheetFull { line } => Refused {
+                refusal: Refusal::SheetFull,
+                place: line,
+            },
+        }
+    }
+}
+
+// The names line.
+const NAMES: &[u8; 15] = b"what kind text\n";
 
 // Reads `sheet`: its rows go into `rows`, 16 bytes each, and their texts into `text`, one after another.
-pub fn read_sheet(sheet: &[u8], rows: &mut [u8], text: &mut [u8]) -> Answer
+pub fn read_sheet(sheet: &[u8], rows: &mut [u8], text: &mut [u8]) -> Result<SheetSize, SheetError>
     ensures answer { reported result
         ≡ sheet_answer sheet.now (length rows.old) (length text.old) }
     ensures rows { rows.new
@@ -38,70 +64,34 @@ pub fn read_sheet(sheet: &[u8], rows: &mut [u8], text: &mut [u8]) -> Answer
     ensures text { text.new
         ≡ sheet_text sheet.now rows.old text.old }
 {
-    if !begins(sheet, b"what kind text\n") {
-        return Answer::NoNames;
+    if !sheet.starts_with(NAMES) {
+        return Err(SheetError::NoNames);
     }
-    let mut at = NAMES_BYTES;
+    let read = read_lines(sheet, rows, text);
+    if read.is_err() {
+        rows.fill(0);
+        text.fill(0);
+    }
+    read
+}
+
+// Reads the lines after the names line.
+fn read_lines(sheet: &[u8], rows: &mut [u8], text: &mut [u8]) -> Result<SheetSize, SheetError>
+    ensures { ReadAt sheet.now rows.old text.old result rows.new text.new }
+{
+    let mut at = NAMES.len();
     let mut n = 0;
     let mut len = 0;
     while at < sheet.len() {
-        let line = n + 1;
-        match read_line(sheet, at, rows, n, text, len) {
-            Step::Row { next, end } => {
-                at = next;
-                n = line;
-                len = end;
-            }
-            Step::Bad => {
-                clear(rows, text);
-                return Answer::BadLine { line: line };
-            }
-            Step::Full => {
-                clear(rows, text);
-                return Answer::SheetFull { line: line };
-            }
-        }
+        let text_end = read_line(sheet, at, rows, n, text, len)?;
+        at = text_end.next;
+        len = text_end.end;
+        n += 1;
     }
-    Answer::Read {
+    Ok(SheetSize {
         rows: n,
         text_bytes: len,
-    }
-}
-
-// Whether `s` begins with the bytes of `p`.
-fn begins(s: &[u8], p: &[u8]) -> bool
-    ensures { result ≡ begins p.now s.now }
-{
-    if s.len() < p.len() {
-        return false;
-    }
-    for i in 0..p.len() {
-        if s[i] != p[i] {
-            return false;
-        }
-    }
-    true
-}
-
-// Sets every byte of both slices to 0.
-fn clear(rows: &mut [u8], text: &mut [u8])
-    ensures rows { rows.new ≡ zeroed rows.old }
-    ensures text { text.new ≡ zeroed text.old }
-{
-    clear_bytes(rows);
-    clear_bytes(text);
-}
-
-// What reading a line answers.
-#[derive(Clone, Copy)]
-pub enum Step {
-    // The line's row and text were stored: the next line starts at index `next` of the sheet, and the texts
-    // so far end at index `end`.
-    Row { next: usize, end: usize },
-    // The line breaks its form.
-    Bad,
-    // The row does not fit, or its text does not.
-    Full,
+    })
 }
 
 // Reads the line at index `at` of `sheet`. Its row goes into `rows` after `n` rows, and its text into `text`
@@ -113,25 +103,19 @@ fn read_line(
     n: usize,
     text: &mut [u8],
     len: usize,
-) -> Step
+) -> Result<TextEnd, SheetError>
     requires { (at < length sheet.now) × (row_size * n ≤ length rows.old) × (len ≤ length text.old) }
     ensures { StepAt sheet.now at rows.old n text.old len result
         rows.new text.new }
 {
-    let line::Head::Row { what, kind, from } = line::head_at(sheet, at) else {
-        return Step::Bad;
-    };
-    let line::Text::End { next, end } = line::read_text(sheet, from, text, len) else {
-        return Step::Bad;
-    };
-    if text.len() < end {
-        return Step::Full;
+    let line = n + 1;
+    let head = line::head_at(sheet, at).ok_or(SheetError::BadLine { line })?;
+    let read = line::read_text(sheet, head.from, text, len).ok_or(SheetError::BadLine { line })?;
+    if text.len() < read.end {
+        return Err(SheetError::SheetFull { line });
     }
-    if row::store(rows, n, what, kind, len, end) {
-        return Step::Row {
-            next: next,
-            end: end,
-        };
+    if !row::store(rows, n, head.what, head.kind, len, read.end) {
+        return Err(SheetError::SheetFull { line });
     }
-    Step::Full
+    Ok(read)
 }

@@ -9,7 +9,7 @@ use native.Mathlib.Nat.{add-zero}
 use borrow.Author.Tests.{leb-true, leb-false}
 use lib.Dec.{leb}
 use lib.ListN.{length, take, drop, length-drop, set, get_or, replicate, length-append, length-take, length-set, length-replicate, take-append-drop}
-use lib.Seq.{length-take-le, sets, sets-eq, slice, drop-drop, take-suc-set, drop-set-lt, take-suc, drop-append-le, slice_empty}
+use lib.Seq.{length-take-le, take_all, sets, sets-eq, slice, drop-drop, take-suc-set, drop-set-lt, take-suc, drop-append-le, slice_empty}
 use borrow.Rule.Slice.PartMut.{put_mid}
 use Rattle.std.proofs.lemmas.Slice.{take-put_mid, drop-put_mid}
 use Rattle.shared.proofs.Logic.{split}
@@ -91,12 +91,12 @@ fills {l} {xs} {ys} {n} {e} a b c d =
       over = λ g. omega arith;
     })
 
--- a part of the output, filled with spaces
-pub fills_spaces : {l ys : List ℕ} {n : ℕ} (k : ℕ) → n + k ≤ length l → ys ≡ replicate (length (take (n + k - n) (drop n l))) 32 → Writes l n (replicate k 32) (put_mid n (n + k - n) l ys) (n + k)
-fills_spaces {l} {ys} {n} k h e =
+-- a part of the output, of which all i bytes are spaces
+pub fills_spaces : {l : List ℕ} {n : ℕ} (ys : List ℕ) (k i : ℕ) → n + k ≤ length l → length ys ≡ length (take (n + k - n) (drop n l)) → i ≡ length ys → take i ys ≡ replicate i 32 → Writes l n (replicate k 32) (put_mid n (n + k - n) l ys) (n + k)
+fills_spaces {l} {n} ys k i h e f t =
     let w : n + k - n ≡ k = omega arith in
-    let f : length (take (n + k - n) (drop n l)) ≡ k = rw w (length-take-le k (drop n l) (omega (arith, length-drop n l))) in
-    fills (omega arith) h (rw w (length-replicate k 32)) (e ∙ rw f)
+    let g : i ≡ k = f ∙ e ∙ rw w (length-take-le k (drop n l) (omega (arith, length-drop n l))) in
+    fills (omega arith) h (rw w (length-replicate k 32)) (sym (take_all i ys (omega arith)) ∙ rw (← g) t)
 
 -- where they do not fit, the length is past the end
 pub past : {l xs : List ℕ} {n : ℕ} → length l < n + length xs → Writes l n xs l (length l + 1)

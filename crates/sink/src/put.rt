@@ -36,7 +36,11 @@ pub fn put_gap(out: &mut [u8], at: usize, size: usize)
     match size {
         0 => {}
         1 => out[at] = b' ',
-        _ => out[at..at + size].fill(b' '),
+        _ => {
+            for place in out[at..at + size].iter_mut() {
+                *place = b' ';
+            }
+        }
     }
 }
 

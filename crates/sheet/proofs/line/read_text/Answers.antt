@@ -1,5 +1,4 @@
 -- `sheet::line::read_text` meets its contract. Assumes nothing.
-use native.Mathlib.Omega.{arith}
 use borrow.Author.Rules.{rules}
 use Rattle.sheet.proofs.Scanning.{scan_start, scan_out, scan_feed, scan_wrong, scan_escaped, scan_plain}
 use Rattle.sheet.proofs.line.read_text.Goals as goal
@@ -13,21 +12,15 @@ shape_of-text-then-b-eq10 c = c.loop-i.invariant.wrote.size
 pub returns-then-b-eq10 : goal.returns-then-b-eq10
 returns-then-b-eq10 c = scan_feed c.loop-i.invariant c.loop-i-test.true c.if-b-eq10.true
 
-pub shape_of-text-then-e-eq0 : goal.shape_of-text-then-e-eq0
-shape_of-text-then-e-eq0 c = c.loop-i.invariant.wrote.size
-
-pub returns-then-e-eq0 : goal.returns-then-e-eq0
-returns-then-e-eq0 c = scan_wrong c.loop-i.invariant c.loop-i-test.true c.if-b-eq10.false c.if-b-eq92.true (rw (← c.if-e-eq0.true) c.escape_at-e.ensures)
-
-pub overflow_add-i-then-b-eq92 : goal.overflow_add-i-then-b-eq92
-overflow_add-i-then-b-eq92 c = let h = c.escape_at-e.ensures.within c.if-e-eq0.false in omega arith
+pub returns-in_err-escaped : goal.returns-in_err-escaped
+returns-in_err-escaped c = rw c.from_residual.ensures (scan_wrong c.loop-i.invariant c.loop-i-test.true c.if-b-eq10.false c.if-b-eq92.true c.in_err-escaped.ensures)
 
 pub loop-i-preserved-then-b-eq92 : goal.loop-i-preserved-then-b-eq92
 loop-i-preserved-then-b-eq92 c =
-    scan_escaped c.loop-i.invariant c.loop-i-test.true c.if-b-eq10.false c.if-b-eq92.true c.escape_at-e.ensures c.if-e-eq0.false c.write_byte-m.ensures
+    scan_escaped c.loop-i.invariant c.loop-i-test.true c.if-b-eq10.false c.if-b-eq92.true c.in_ok-escaped.ensures c.write_byte-end.ensures
 
 pub loop-i-preserved : goal.loop-i-preserved
-loop-i-preserved c = scan_plain c.loop-i.invariant c.loop-i-test.true c.if-b-eq10.false c.if-b-eq92.false c.write_byte-m-else-b-eq92.ensures
+loop-i-preserved c = scan_plain c.loop-i.invariant c.loop-i-test.true c.if-b-eq10.false c.if-b-eq92.false c.write_byte-end-else-b-eq92.ensures
 
 pub shape_of-text : goal.shape_of-text
 shape_of-text c = c.loop-i.invariant.wrote.size

@@ -13,6 +13,3 @@ loop-i-preserved c = turn_more 8 c.args.size c.loop-i.i c.min-at.result c.requir
 
 pub returns : goal.returns
 returns c = part_done (c.args.from + c.args.size) _ c.loop-i.invariant (omega arith) (omega arith)
-
-pub returns-2 : goal.returns-2
-returns-2 c = part_done (c.args.from + c.args.size) _ (turn_more 8 c.args.size c.loop-i.i c.min-at.result c.requires.le_size c.requires.size_in_bounds c.loop-i-test.true c.min-at.ensures c.loop-i.invariant c.copy_block.ensures) (omega arith) (omega arith)
