@@ -1,4 +1,6 @@
 pub mod Kinds
+pub mod KindNumber
+pub mod KindSet
 pub mod Row
 pub mod Options
 pub mod Token

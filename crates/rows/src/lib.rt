@@ -1,14 +1,19 @@
 // The rows that the lexer sends, and the checks that come before a layout (specification, 'Rows').
 #![tactic(auto)]
 
-ghost use Rattle.std.specs.Prelude.{true, ◌≡◌, ◌+◌, ◌≤◌, ◌<◌, length};
+ghost use Rattle.std.specs.Prelude.{true, ◌≡◌, ◌+◌, ◌≤◌, ◌<◌, eqb, length, min, MatchOption};
+ghost use Rattle.rows.specs.Kinds.{TokenRow, Trailing, BlankLine, Other};
+ghost use Rattle.rows.specs.KindNumber.{what_number, trivia_number, kind_number};
 ghost use Rattle.rows.specs.Row.{row_size, number, row_at};
 ghost use Rattle.rows.specs.Checks.{may_trail, misnamed, bad_row, after, GoodRows};
 ghost use Rattle.rows.specs.Bounds.{row_of};
 ghost use Rattle.rows.specs.Answer.{reported, check_report, rows_report, each_row_report};
 
+pub mod kind;
 pub mod kinds;
 pub mod options;
+
+pub use kind::{Kind, KindSet, Trivia, What};
 
 // What the checks of the options and the rows answer.
 #[derive(Clone, Copy)]
@@ -90,6 +95,47 @@ pub struct Row {
     pub kind: u32,
     pub start: u32,
     pub end: u32,
+}
+
+impl Row {
+    // Tells whether the row is a token's own.
+    pub fn is_token(self) -> bool
+        ensures { result ≡ eqb (row_of self).what TokenRow }
+    {
+        self.what == What::Token as u32
+    }
+
+    // Returns what the row is. A number above 2 is nothing.
+    pub fn what(self) -> Option<What>
+        ensures { MatchOption result (Trailing < (row_of self).what)
+            (λ what. what_number what ≡ (row_of self).what) }
+    {
+        match self.what {
+            0 => Some(What::Leading),
+            1 => Some(What::Token),
+            2 => Some(What::Trailing),
+            _ => None,
+        }
+    }
+
+    // Returns the kind of a token's row. Every number above 34 is `Other`.
+    pub fn token_kind(self) -> Kind
+        ensures { kind_number result ≡ min (row_of self).kind Other }
+    {
+        Kind::of(self.kind)
+    }
+
+    // Returns the kind of a row of trivia. Every number above 3 is `BlankLine`.
+    pub fn trivia(self) -> Trivia
+        ensures { trivia_number result ≡ min (row_of self).kind BlankLine }
+    {
+        match self.kind {
+            0 => Trivia::LineComment,
+            1 => Trivia::DocComment,
+            2 => Trivia::BlockComment,
+            _ => Trivia::BlankLine,
+        }
+    }
 }
 
 // Returns the row whose bytes start at index `at`.

@@ -1,10 +1,13 @@
 -- A number and a report written into a lent slice, byte by byte. Assumes nothing.
 use mathlib.Core.List.{List, ◌++◌}
-use mathlib.Core.Path.{◌≡◌, refl, ap, ◌∙◌}
-use Prim.Native.Nat.{ℕ, zero, suc, ◌+◌, ◌*◌, ◌/◌, ◌%◌, ◌<◌}
+use mathlib.Core.Path.{◌≡◌, refl, ap, sym, ◌∙◌}
+use Prim.Native.Nat.{ℕ, zero, suc, ◌+◌, ◌*◌, ◌/◌, ◌%◌, ◌^◌, ◌<◌}
 use native.Mathlib.Omega.{arith}
 use lib.ListN.{length, set, length-append}
 use lib.Seq.{sets}
+use Rattle.std.specs.Int.{byte_at, bytes_low_first}
+use native.Mathlib.Nat.{pow-suc}
+use Rattle.std.proofs.Math.Nat.{div-div-eq-div-mul}
 use Rattle.shared.specs.Numbers.{little_endian}
 use Rattle.shared.specs.Report.{Report, report_bytes, report_size}
 use Rattle.shared.proofs.Stores.{sets_after, sets_whole}
@@ -15,6 +18,21 @@ pub length-little_endian : (n x : ℕ) → length (little_endian n x) ≡ n
 unfolding little_endian
 length-little_endian zero x = refl
 length-little_endian (suc n) x = rw (length-little_endian n (x / 256))
+
+-- the library's bytes of a number are ours
+byte_low : (i x : ℕ) → byte_at i x ≡ x / 256 ^ i % 256
+byte_low zero x = omega arith
+byte_low (suc i) x = refl
+
+low_first : (i n x : ℕ) → bytes_low_first i n x ≡ little_endian n (x / 256 ^ i)
+unfolding little_endian
+low_first i zero x = refl
+low_first i (suc n) x =
+    let q : x / 256 ^ i / 256 ≡ x / 256 ^ suc i = div-div-eq-div-mul x (256 ^ i) 256 ∙ ap (λ m. x / m) (sym (pow-suc 256 i)) in
+    rw (byte_low i x, low_first (suc i) n x, q)
+
+pub le_bytes : (n x : ℕ) → bytes_low_first 0 n x ≡ little_endian n x
+le_bytes n x = low_first 0 n x ∙ ap (λ y. little_endian n y) (omega arith)
 
 -- four bytes, stored one by one
 pub four_stored : (l : List ℕ) (at x : ℕ) →

@@ -1,8 +1,13 @@
 -- The table of refusals (specification, 'Refusals'), and what a call answers in its terms.
 -- Assumes nothing.
-use Rattle.std.specs.Prelude.{Bool, cond, List, ◌++◌, ℕ, eqb, length, drop, replicate}
+use Rattle.std.specs.Prelude.{Bool, cond, List, ◌++◌, ℕ, Option, None, Some, Result, Ok, Err, eqb, length, get_or, drop, replicate}
+use Rattle.std.specs.Fmt.{decimal}
+use Rattle.shared.specs.Bytes.{space}
 use Rattle.shared.specs.Numbers.{little_endian}
 use Rattle.shared.specs.declared.report.Report.{}
+use Rattle.shared.specs.declared.refusal.Refusal.{Refusal}
+use Rattle.shared.specs.declared.refusal.Refusal.TheVariants.{BadOption, RaggedRows, BadRow, Deep, Full, NoNames, BadLine, SheetFull, Unreadable, PiecesFull, BadReport}
+use Rattle.shared.specs.declared.refusal.Refused.{Refused}
 
 -- The refusals' numbers, under the table's names.
 abbrev pub option : ℕ
@@ -38,6 +43,29 @@ pieces_full = 10
 abbrev pub report : ℕ
 report = 11
 
+-- The number of a refusal in the code's enum.
+abbrev pub refusal_number : Refusal → ℕ
+refusal_number BadOption = option
+refusal_number RaggedRows = ragged_rows
+refusal_number BadRow = bad_row
+refusal_number Deep = deep
+refusal_number Full = full
+refusal_number NoNames = no_names
+refusal_number BadLine = bad_line
+refusal_number SheetFull = sheet_full
+refusal_number Unreadable = unreadable
+refusal_number PiecesFull = pieces_full
+refusal_number BadReport = report
+
+-- The number of a refusal, or 0.
+abbrev pub number_or_0 : Option Refusal → ℕ
+number_or_0 None = 0
+number_or_0 (Some r) = refusal_number r
+
+-- What a program writes of a refusal: its number, a space and its place.
+abbrev pub refused_text : Refused → List ℕ
+refused_text r = decimal (refusal_number r.refusal) ++ space ++ decimal r.place
+
 -- The refusal, or 0, and the report's three numbers: on a refusal its place, 0 and 0.
 pub record Report : Type 0 where
   pub refusal : ℕ
@@ -59,7 +87,12 @@ accepted r = eqb r.refusal 0
 
 -- the report that a `Report` of the code is
 abbrev pub report_of : Rattle.shared.specs.declared.report.Report.Report → Report
-report_of r = record { refusal = r.refusal; first = r.first; second = r.second; third = r.third }
+report_of r = record { refusal = number_or_0 r.refusal; first = r.first; second = r.second; third = r.third }
+
+-- The report of an answer: three numbers, or a refusal.
+abbrev pub answer_report : Result (List ℕ) Refused → Report
+answer_report (Ok ns) = success (get_or ns 0 0) (get_or ns 1 0) (get_or ns 2 0)
+answer_report (Err r) = refuse (refusal_number r.refusal) r.place
 
 -- how many bytes a report has
 abbrev pub report_size : ℕ

@@ -7,6 +7,7 @@ ghost use Rattle.shared.specs.Report.{zeroed};
 
 pub mod classes;
 pub mod numbers;
+pub mod refusal;
 pub mod refusals;
 pub mod report;
 

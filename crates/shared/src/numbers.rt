@@ -36,6 +36,14 @@ pub fn smaller(a: usize, b: usize) -> usize
     b
 }
 
+// Writes the bytes `x` into `bytes` from index `at` on.
+pub fn put<const N: usize>(bytes: &mut [u8], at: usize, x: [u8; N])
+    requires { at + N ≤ length bytes.old }
+    ensures { bytes.new ≡ sets bytes.old at x.entry }
+{
+    bytes[at..at + N].copy_from_slice(&x);
+}
+
 // Writes the four bytes of `x` into `bytes` from index `at`, the lowest first. It has no loop, so that the
 // compiler makes one store of it.
 pub fn put_u32(bytes: &mut [u8], at: usize, x: u32)

@@ -1,4 +1,4 @@
--- Sets of kinds held as bits: what the code tests.
+-- Sets of kinds held as bits of a number.
 -- Assumes nothing.
 use Rattle.std.specs.Prelude.{Bool, false, cond, ℕ, ◌/◌, ◌%◌, ◌^◌, eqb, ltb}
 
