@@ -30,7 +30,8 @@ use Rattle.formatter.specs.declared.Ends.{Ends}
 use Rattle.formatter.specs.declared.token.Place.{Place}
 use Rattle.std.specs.declared.option.Option.{Option}
 use Rattle.std.specs.declared.option.Option.TheVariants.{None, Some}
-use Rattle.formatter.specs.CodeState.{Locals, CodeState, code_state, state_of, locals_of, formatter_of, fields_of, fields_on, options_of, prev_of, top_first}
+use Rattle.formatter.specs.declared.FnState.{FnState}
+use Rattle.formatter.specs.CodeState.{Locals, fn_number, CodeState, code_state, state_of, locals_of, formatter_of, fields_of, fields_on, options_of, prev_of, top_first}
 use Rattle.formatter.specs.Does.{Does, Arrives, Puts}
 use Rattle.formatter.specs.Token.{Ready, StackRoom, InRows, Ahead, AtToken, kind_of, depth_of}
 use Rattle.formatter.specs.Trivia.{WholeRows, trivia_in, lead_token}
@@ -103,7 +104,7 @@ leading-room h (without_leading e d n eg em) = rw (eg, em, n) h
 leading-room h (leading-written d z eg em) = rw (eg, em) z
 
 -- The state f with another `fn_state`.
-abbrev pub with_fn_state : ℕ → Formatter → Formatter
+abbrev pub with_fn_state : FnState → Formatter → Formatter
 with_fn_state n f =
     record {
       at_line_start = f.at_line_start;
@@ -126,14 +127,14 @@ with_fn_state n f =
 
 -- What the calls of one turn say after the leading trivia: refusal 4's test, whether a one-line block's `}` stands before, the
 -- test for trailing trivia, the arm, the trailing trivia, and `fn_state`.
-pub record Calls (options : Options) (rows text : List ℕ) (token : TokenAt) (f : Formatter) (k : List ℕ) (g : Formatter) (m : List ℕ) (r close b : Bool) (g₂ : Formatter) (k₂ m₂ : List ℕ) (g₃ : Formatter) (m₃ : List ℕ) (n : ℕ) : Type 0 where
+pub record Calls (options : Options) (rows text : List ℕ) (token : TokenAt) (f : Formatter) (k : List ℕ) (g : Formatter) (m : List ℕ) (r close b : Bool) (g₂ : Formatter) (k₂ m₂ : List ℕ) (g₃ : Formatter) (m₃ : List ℕ) (n : FnState) : Type 0 where
   pub overflow : AtToken token rows text (λ t ts. r ≡ overflows (options_of options) t ts (fields_on g k))
   pub calm : r ≡ false
   pub taken : close ≡ (eqb token.lead token.own && f.just_closed_inline)
   pub trailing : AtToken token rows text (λ t ts. b ≡ (ltb (token.own + 16) token.next && not (returns_early t ts (fields_on g k))))
   pub arms : AtToken token rows text (λ t ts. (y : Locals) → y.inline_close ≡ close → overflows (options_of options) t ts (fields_on g k) ≡ false → Does (arm (options_of options) token.index t ts) y (code_state g k m) (code_state g₂ k₂ m₂))
   pub trailed : Trailed (trivia_in rows text (token.own + 16) token.next) b g₂ m₂ g₃ m₃
-  pub tracked : n ≡ (track_fn_state token.kind (fields_of g₃)).fn_state
+  pub tracked : fn_number n ≡ (track_fn_state token.kind (fields_of g₃)).fn_state
 
 -- A token without leading rows has no leading trivia.
 empty_is : (rows text : List ℕ) (from to : ℕ) → WholeRows rows text from to → eqb from to ≡ is_empty (trivia_in rows text from to)
@@ -279,7 +280,7 @@ module _ {options : Options} {rows text k₀ l₀ k l : List ℕ} {f : Formatter
         ∙ ap (λ y. y && f.just_closed_inline) (ap is_empty (leading_is ω ι.going.head h τ) ∙ sym (empty_is rows text token.lead token.own (leads ω ι.going.head h τ)))
         ∙ sym e
 
-    module _ {r close b : Bool} {g₂ g₃ : Formatter} {k₂ m₂ m₃ : List ℕ} {n : ℕ} (κ : Calls options rows text token f k g m r close b g₂ k₂ m₂ g₃ m₃ n) where
+    module _ {r close b : Bool} {g₂ g₃ : Formatter} {k₂ m₂ m₃ : List ℕ} {n : FnState} (κ : Calls options rows text token f k g m r close b g₂ k₂ m₂ g₃ m₃ n) where
       abbrev q : Formatter
       q = with_fn_state n g₃
 

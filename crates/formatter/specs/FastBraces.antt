@@ -13,6 +13,7 @@ use Rattle.definition.specs.Act.{state}
 use Rattle.definition.specs.Layout.{finished, lay_from}
 use Rattle.formatter.specs.declared.Formatter as code
 use Rattle.formatter.specs.declared.fast_braces.FastBraces.{FastBraces}
+use Rattle.formatter.specs.CodeState.{fn_number}
 use Rattle.formatter.specs.Token.{kind_of}
 
 -- ---- before fast braces
@@ -23,7 +24,7 @@ pub record MayStartFastBraces (f : code.Formatter) (b : Bool) : Type 0 where
   pub mid_line : f.at_line_start ≡ false
   pub no_record : f.record_pending ≡ false
   pub outside : f.in_record ≡ false
-  pub no_fn : f.fn_state ≡ 0
+  pub no_fn : fn_number f.fn_state ≡ 0
 
 -- The place where they start, in the code's state f.
 abbrev pub fast_braces_at : code.Formatter → ℕ → FastBraces

@@ -15,7 +15,7 @@ ghost use Rattle.formatter.specs.Token.{CanWrite, CanWriteLexeme, Ready, StackRo
 ghost use Rattle.formatter.specs.Token.{Ahead, AtToken, bare_token, lexeme_of, depth_of, stack_size};
 ghost use Rattle.formatter.specs.Parts.{closes_signature, close_list};
 
-use crate::{Ends, Formatter, Options, SignatureDepth, TokenAt};
+use crate::{Ends, FnState, Formatter, Options, SignatureDepth, TokenAt};
 use lookahead::{should_break_list, should_break_sig};
 use rows::kinds;
 use sink::write::{Tail, count_comma, write_closer, write_comma_line, write_signature_line};
@@ -55,7 +55,7 @@ impl Formatter {
     pub fn at_signature(self) -> bool
         ensures { result ≡ at_signature (fields_of self) }
     {
-        !self.in_one_line_block() && (self.fn_state == 2 || self.fn_state == 1)
+        !self.in_one_line_block() && self.fn_state != FnState::Outside
     }
 
     // Whether the list that the token opens breaks: it is wide, and outside one-line blocks and records.
@@ -86,7 +86,7 @@ impl Formatter {
             (λ t ts. Puts (open_signature (options_of options) token.index t ts) self out.old
             result out.new) }
     {
-        self.fn_state = 0;
+        self.fn_state = FnState::Outside;
         if should_break_sig(&rows[token.lead..], options.fn_sig_width) {
             self.break_signature(options, out, token.index)
         } else {

@@ -11,7 +11,7 @@ ghost use Rattle.formatter.specs.FastBraces.{fast_braces_at, with_fast_braces};
 ghost use Rattle.formatter.specs.FastBraces.{opener_bytes, closer_bytes, after_opener, after_closer};
 
 use crate::fast_tokens::kind_of;
-use crate::{Formatter, InlineDepth};
+use crate::{FnState, Formatter, InlineDepth};
 use rows::{ROW_BYTES, kinds, row_at};
 
 // A place among fast braces: the index of the next row, the length of the text, the last token's kind, and
@@ -54,7 +54,7 @@ impl Formatter {
         if self.in_record {
             return false;
         }
-        self.fn_state == 0
+        self.fn_state == FnState::Outside
     }
 
     // Lays out the braces from the row at `at` on, while they stand in a one-line block and two bytes are

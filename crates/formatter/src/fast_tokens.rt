@@ -13,8 +13,8 @@ ghost use Rattle.formatter.specs.FastTokens.{fast_kinds_of, fast_kind_bits, chan
 ghost use Rattle.formatter.specs.FastTokens.{fast_state_of, fast_state_after, with_fast_state};
 ghost use Rattle.formatter.specs.FastTokens.{fn_after, pending_after, unary_after, group_after};
 
-use crate::lexeme::record_pending_after;
-use crate::{Formatter, GroupDepth};
+use crate::lexeme::{named_after, record_pending_after};
+use crate::{FnState, Formatter, GroupDepth};
 use rows::{ROW_BYTES, kinds, row_at};
 use sink::put::put_token;
 use spaces::between::{loose_after, space_after};
@@ -44,7 +44,7 @@ const ALL: u64 = 0x7_ffff_ffff;
 // one of them; and `loose`, the kinds after which a space stands.
 #[derive(Clone, Copy)]
 pub struct FastState {
-    pub fn_state: u8,
+    pub fn_state: FnState,
     pub group_depth: usize,
     pub record_pending: bool,
     pub changing: u64,
@@ -86,7 +86,7 @@ impl Formatter {
             return false;
         }
         if self.in_broken_signature() {
-            return self.fn_state == 0;
+            return self.fn_state == FnState::Outside;
         }
         true
     }
@@ -255,32 +255,24 @@ fn fast_state_after(state: FastState, prev: u32, kind: u32) -> FastState
 }
 
 // The kinds that change a field, as bits: all, where `fn` or `record` is still looked back to.
-fn changing_kinds(fn_state: u8, record_pending: bool) -> u64
+fn changing_kinds(fn_state: FnState, record_pending: bool) -> u64
     ensures { result ≡ changing_kinds fn_state record_pending }
 {
-    if record_pending {
+    if record_pending || fn_state != FnState::Outside {
         return ALL;
     }
-    if fn_state == 0 {
-        return CHANGING;
-    }
-    ALL
+    CHANGING
 }
 
 // `fn_state` after a fast token of this kind.
-fn fn_state_after(state: u8, kind: u32) -> u8
+fn fn_state_after(state: FnState, kind: u32) -> FnState
     ensures { result ≡ fn_after kind state }
 {
-    if kind == kinds::FN {
-        return 1;
+    match kind {
+        kinds::FN => FnState::AfterFn,
+        kinds::IDENTIFIER => named_after(state),
+        _ => FnState::Outside,
     }
-    if kind == kinds::IDENTIFIER {
-        if state == 1 {
-            return 2;
-        }
-        return 0;
-    }
-    0
 }
 
 // `record_pending` after a fast token of this kind: only the last arm of `push_token` sets it.

@@ -5,14 +5,14 @@ ghost use Rattle.definition.specs.Emit.{is_some, track_fn_state, track_minus, pu
 ghost use Rattle.definition.specs.Arms.{else_arm, else_on_new_line, other_arm};
 ghost use Rattle.sink.specs.Tail.{tail_bytes};
 ghost use Rattle.sink.specs.Sink.{past_gap};
-ghost use Rattle.formatter.specs.CodeState.{Locals, code_state, fields_of, formatter_of};
+ghost use Rattle.formatter.specs.CodeState.{Locals, code_state, fields_of, fn_number, formatter_of};
 ghost use Rattle.formatter.specs.CodeState.{options_of, signature_of};
 ghost use Rattle.formatter.specs.Does.{Does, Puts};
 ghost use Rattle.formatter.specs.Token.{CanWriteLexeme, Ready, InRows, Kept};
 ghost use Rattle.formatter.specs.Token.{IndentBounds, AtToken, bare_token, lexeme_of, kind_of};
 ghost use Rattle.formatter.specs.Parts.{gap_size, indent_or_space_size, emit_tail};
 
-use crate::{Formatter, Options, TokenAt};
+use crate::{FnState, Formatter, Options, TokenAt};
 use row_writers::write_lexeme;
 use rows::kinds;
 use sink::write::{Tail, write_else};
@@ -170,25 +170,23 @@ impl Formatter {
         }
     }
 
-    // `fn_state` after a token of this kind, which tracks `fn name (`. The state 0, which is most frequent,
-    // is asked for first.
-    pub fn track_fn_state(self, kind: u32) -> u8
-        ensures { result ≡ (track_fn_state kind (fields_of self)).fn_state }
+    // `fn_state` after a token of this kind, which tracks `fn name (`. `Outside`, which is most frequent, is
+    // asked for first.
+    pub fn track_fn_state(self, kind: u32) -> FnState
+        ensures { fn_number result ≡ (track_fn_state kind (fields_of self)).fn_state }
     {
         let state = self.fn_state;
-        if kind != kinds::FN {
-            if state == 0 {
-                return 0;
-            }
+        if kind != kinds::FN && state == FnState::Outside {
+            return FnState::Outside;
         }
         if self.in_broken_signature() {
             return state;
         }
         match kind {
-            kinds::FN => 1,
+            kinds::FN => FnState::AfterFn,
             kinds::IDENTIFIER => named_after(state),
             kinds::NEWLINE => state,
-            _ => 0,
+            _ => FnState::Outside,
         }
     }
 
@@ -200,14 +198,14 @@ impl Formatter {
     }
 }
 
-// `fn_state` after a name: 2 where `fn` stands before it.
-fn named_after(state: u8) -> u8
-    ensures { result ≡ cond (eqb state 1) 2 0 }
+// `fn_state` after a name, by whether `fn` stands before it.
+pub fn named_after(state: FnState) -> FnState
+    ensures { fn_number result ≡ cond (eqb (fn_number state) 1) 2 0 }
 {
-    if state == 1 {
-        return 2;
+    match state {
+        FnState::AfterFn => FnState::Named,
+        _ => FnState::Outside,
     }
-    0
 }
 
 // Answers whether a record is pending after a token of the kind: `record` arms the record layout, a name

@@ -22,6 +22,17 @@ pub mod lines;
 pub mod token;
 pub mod trivia;
 
+// How far the walk has come in `fn name (`: `fn_state`, a number in format.rs.
+#[derive(Clone, Copy, Debug, PartialEq, Eq)]
+pub enum FnState {
+    // 0: it is in no such place.
+    Outside,
+    // 1: `fn` stands before.
+    AfterFn,
+    // 2: `fn` and a name stand before.
+    Named,
+}
+
 // Four counts have a type of their own each, so that none is taken for another. This one says how many parens
 // are open in a broken signature.
 #[derive(Clone, Copy)]
@@ -85,7 +96,7 @@ pub struct Ends {
 // (docs/BENCHMARKS.md); the order of format.rs takes a tenth more.
 #[derive(Clone, Copy)]
 pub struct Formatter {
-    pub fn_state: u8,
+    pub fn_state: FnState,
     pub inline_depth: InlineDepth,
     pub in_record: bool,
     pub just_closed_inline: bool,
@@ -128,7 +139,7 @@ impl Formatter {
         ensures { (stack : List ℕ) → stack_size ≤ length stack → Fresh result stack }
     {
         Formatter {
-            fn_state: 0,
+            fn_state: FnState::Outside,
             inline_depth: InlineDepth(0),
             in_record: false,
             just_closed_inline: false,
