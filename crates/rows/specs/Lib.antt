@@ -6,4 +6,5 @@ pub mod Options
 pub mod Token
 pub mod Checks
 pub mod Bounds
+pub mod RowsLeft
 pub mod Answer
