@@ -139,7 +139,7 @@ right_is : {m : FastState} → Consistent m → fast_state_for m.fn_state m.reco
 right_is ρ = rw (← ρ.changing, ← ρ.loose)
 
 -- A kind whose bit is not set changes none.
-pub state_kept : {m : FastState} → Consistent m → (p k : ℕ) → k ≤ Other → bit m.changing k ≡ 0 → m ≡ fast_state_after p k m
+pub state_kept : {m : FastState} → Consistent m → (p k : ℕ) → k ≤ Other → bit m.changing.0 k ≡ 0 → m ≡ fast_state_after p k m
 state_kept {m} ρ p k h e =
     split (m.record_pending || not (eqb (fn_number m.fn_state) 0))
     (λ b.

@@ -11,6 +11,8 @@ use Rattle.formatter.specs.declared.Formatter.{Formatter}
 use Rattle.formatter.specs.declared.Options.{Options}
 use Rattle.formatter.specs.declared.BraceStyle.{BraceStyle}
 use Rattle.formatter.specs.declared.BraceStyle.TheVariants.{SameLine, Allman}
+use Rattle.rows.specs.declared.kind.Kind.{Kind}
+use Rattle.rows.specs.KindNumber.{kind_number}
 use Rattle.formatter.specs.declared.SignatureDepth.{SignatureDepth}
 use Rattle.formatter.specs.declared.FnState.{FnState}
 use Rattle.formatter.specs.declared.FnState.TheVariants.{Outside, AfterFn, Named}
@@ -23,8 +25,8 @@ option_of f None = none
 option_of f (Some x) = some (f x)
 
 -- The last token's kind, if there was a token.
-abbrev pub prev_of : Prelude.Option ℕ → Option ℕ
-prev_of p = option_of (λ k. k) p
+abbrev pub prev_of : Prelude.Option Kind → Option ℕ
+prev_of p = option_of kind_number p
 
 -- The index of the Newline to swallow, if there is one.
 abbrev pub newline_of : Prelude.Option ℕ → Option ℕ

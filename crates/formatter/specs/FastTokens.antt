@@ -5,6 +5,7 @@ use Rattle.std.specs.Prelude.{Bool, true, false, cond, not, ◌&&◌, ◌||◌, 
 use Rattle.std.proofs.Math.Option.{none, some}
 use Rattle.rows.specs.Kinds.{Leading, Trailing, RightBrace, RightParen, RightBracket, Comma, Hash, Minus}
 use Rattle.rows.specs.Kinds.{Else, Fn, Record, Identifier, Other}
+use Rattle.rows.specs.KindNumber.{kind_number}
 use Rattle.rows.specs.Row.{row_size, row_at, rows_of}
 use Rattle.rows.specs.Options.{Options}
 use Rattle.rows.specs.Token.{tokens_of}
@@ -88,9 +89,9 @@ fast_state_for fn pending unary group =
       fn_state = fn;
       group_depth = group;
       record_pending = pending;
-      changing = changing_kinds fn pending;
+      changing = record { 0 = changing_kinds fn pending };
       prev_minus_is_unary = unary;
-      loose = loose_after Other unary;
+      loose = record { 0 = loose_after Other unary };
     }
 
 -- These fields of the code's state f.
@@ -106,8 +107,8 @@ fast_state_after p k m =
 
 -- The two sets of kinds are those that go with the fields.
 pub record Consistent (m : FastState) : Type 0 where
-  pub changing : m.changing ≡ changing_kinds m.fn_state m.record_pending
-  pub loose : m.loose ≡ loose_after Other m.prev_minus_is_unary
+  pub changing : m.changing.0 ≡ changing_kinds m.fn_state m.record_pending
+  pub loose : m.loose.0 ≡ loose_after Other m.prev_minus_is_unary
 
 -- The definition's formatter f with the last kind k and the fields of m.
 abbrev pub with_fast_state : ℕ → FastState → Formatter → Formatter
@@ -177,7 +178,6 @@ pub record FastTokensLaidOut
     (rows text : List ℕ) (from n prev : ℕ) (m : FastState) (t : FastKinds) (l k : List ℕ) (r : code-fast.FastTokens) : Type 0 where
   pub whole : r.at ≡ from + row_size * ((r.at - from) / row_size)
   pub head : TokenBoundary rows text r.at
-  pub last : r.prev ≤ Other
   pub group : r.state.group_depth ≤ m.group_depth
   pub size : length k ≡ length l
   pub far : n ≤ r.len
@@ -187,5 +187,5 @@ pub record FastTokensLaidOut
       (o : Options) (f : Formatter) (c i : ℕ) → BeforeFastTokens f prev m t
       → lay_from o (length l) (finished (state f (take n l) c)) i (tokens_of (drop from rows) text)
       ≡ lay_from o (length l)
-      (finished (state (after_fast_tokens (ltb from r.at) r.prev r.state f) (take r.len k) c))
+      (finished (state (after_fast_tokens (ltb from r.at) (kind_number r.prev) r.state f) (take r.len k) c))
       (i + (r.at - from) / row_size) (tokens_of (drop r.at rows) text)
