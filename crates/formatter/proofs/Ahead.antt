@@ -22,13 +22,17 @@ use Rattle.definition.specs.PushToken.{push_token, turn}
 use Rattle.definition.specs.Layout.{finished, lay_from}
 use Rattle.definition.proofs.Last.{Told}
 use Rattle.sink.proofs.Sink.{nothing, later}
+use Rattle.rows.specs.declared.kind.Kind.{Kind}
+use Rattle.rows.specs.declared.kind.Kind.TheVariants as kinds
+use Rattle.rows.specs.KindNumber.{kind_number}
+use Rattle.std.specs.Prelude.{unwrap_or}
+use Rattle.formatter.proofs.Numbered.{kind_few}
 use Rattle.formatter.specs.declared.Formatter.{Formatter}
 use Rattle.std.specs.declared.option.Option.{Option}
 use Rattle.std.specs.declared.option.Option.TheVariants.{None, Some}
 use Rattle.formatter.specs.declared.fast_tokens.FastTokens as code
 use Rattle.formatter.specs.CodeState.{Locals, CodeState, code_state, state_of, locals_of, prev_of, formatter_of}
 use Rattle.formatter.specs.Does.{Does}
-use Rattle.formatter.specs.Token.{kind_of}
 use Rattle.formatter.specs.Format.{CheckedRows, TokenBoundary, only_tokens, own_row, next_row}
 use Rattle.formatter.specs.FastTokens.{BeforeFastTokens, FastTokensLaidOut, ChangedBy, with_fast_state, after_fast_tokens, fast_state_of, fast_kinds_of}
 use Rattle.formatter.specs.declared.fast_braces.FastBraces.{FastBraces}
@@ -36,7 +40,7 @@ use Rattle.formatter.specs.FastBraces.{BeforeFastBraces, FastBracesLaidOut, with
 use Rattle.formatter.proofs.Does.{yes, no, updated}
 use Rattle.formatter.proofs.Turned.{taken}
 use Rattle.formatter.proofs.Runs.{checked-after}
-use Rattle.formatter.proofs.Place.{bare-run, token_here, tokens_next, tokens_next_lem, row_in}
+use Rattle.formatter.proofs.Place.{bare-run, token_here, tokens_next, tokens_next_lem, kind_here}
 use Rattle.formatter.proofs.Going.{Going, goes_on, tokens_none}
 use Rattle.formatter.proofs.Turn.{chosen_not}
 
@@ -44,7 +48,7 @@ use Rattle.formatter.proofs.Turn.{chosen_not}
 
 module _ {rows text : List ℕ} {at : ℕ} (ω : CheckedRows rows text) (η : TokenBoundary rows text at) (h : at < length rows) where
   pub kind_known : (token_here rows text at).kind ≤ Other
-  kind_known = (row_in ω η h).kind
+  kind_known = kind_here ω η h
 
   -- A token that is said to come next is there.
   pub next_there : (k : ℕ) → next_is k (tokens_next rows text at) ≡ true → next_row rows (own_row rows at) < length rows
@@ -74,7 +78,7 @@ module _ {rows text : List ℕ} {o : Options.Options} {k₀ l₀ : List ℕ} {x 
 
 -- ---- after fast tokens and fast braces
 
-known_prev : (p : Option ℕ) → is_some (prev_of p) ≡ true → prev_of p ≡ some (kind_of p)
+known_prev : (p : Option Kind) → is_some (prev_of p) ≡ true → prev_of p ≡ some (kind_number (unwrap_or p kinds.Eof))
 known_prev None e = impossible' e
 known_prev (Some k) e = refl
 
@@ -102,7 +106,7 @@ module _ (rows : List ℕ) (at : ℕ) (whole : at ≡ 16 * (at / 16)) where
 
 module _ {rows text : List ℕ} {o : Options.Options} {k₀ l₀ : List ℕ} {x : Locals} {f : Formatter} {k l : List ℕ} {i at : ℕ} (ω : CheckedRows rows text) (γ : Going rows text o k₀ l₀ i at x (code_state f k l)) where
   -- In a line there is a token before.
-  pub last_known : f.at_line_start ≡ false → prev_of f.prev ≡ some (kind_of f.prev)
+  pub last_known : f.at_line_start ≡ false → prev_of f.prev ≡ some (kind_number (unwrap_or f.prev kinds.Eof))
   last_known e = known_prev f.prev (γ.told.mid_line e)
 
   -- What was laid out ahead, up to the row at `to`, with the locals z.
@@ -156,15 +160,15 @@ module _ {rows text : List ℕ} {o : Options.Options} {k₀ l₀ : List ℕ} {x 
 
   -- ---- fast tokens
 
-  module _ {m : List ℕ} {r : code.FastTokens} (ρ : BeforeFastTokens (formatter_of f k x) (kind_of f.prev) (fast_state_of f) (fast_kinds_of f k)) (σ : FastTokensLaidOut rows text at f.len (kind_of f.prev) (fast_state_of f) (fast_kinds_of f k) l m r) where
+  module _ {m : List ℕ} {r : code.FastTokens} (ρ : BeforeFastTokens (formatter_of f k x) (kind_number (unwrap_or f.prev kinds.Eof)) (fast_state_of f) (fast_kinds_of f k)) (σ : FastTokensLaidOut rows text at f.len (kind_number (unwrap_or f.prev kinds.Eof)) (fast_state_of f) (fast_kinds_of f k) l m r) where
     abbrev gone : Locals
-    gone = locals_of (after_fast_tokens (ltb at r.at) r.prev r.state (formatter_of f k x))
+    gone = locals_of (after_fast_tokens (ltb at r.at) (kind_number r.prev) r.state (formatter_of f k x))
 
     pub goes_past_fast_tokens :
-        {g : Formatter} → ChangedBy (with_fast_state r.prev r.state) r.len f g
+        {g : Formatter} → ChangedBy (with_fast_state (kind_number r.prev) r.state) r.len f g
         → Going rows text o k₀ l₀ (i + (r.at - at) / 16) r.at gone (code_state g k m)
     goes_past_fast_tokens {g} β =
-        let form : formatter_of g k gone ≡ after_fast_tokens (ltb at r.at) r.prev r.state (formatter_of f k x) = β.form k gone in
+        let form : formatter_of g k gone ≡ after_fast_tokens (ltb at r.at) (kind_number r.prev) r.state (formatter_of f k x) = β.form k gone in
         goes_past (record {
           whole = σ.whole;
           head = σ.head;
@@ -174,7 +178,7 @@ module _ {rows text : List ℕ} {o : Options.Options} {k₀ l₀ : List ℕ} {x 
           rest = rw β.len σ.rest;
           lays = rw (form, β.len, β.commas) (σ.lays o (formatter_of f k x) f.commas i ρ);
           shallow = refl;
-          told = rw form (record { last = σ.last; mid_line = λ e. refl });
+          told = rw form (record { last = kind_few r.prev; mid_line = λ e. refl });
           indent = ap (λ z. z.indent) form;
           group = let e : g.group_depth.0 ≡ r.state.group_depth = ap (λ z. z.group_depth) form in let h = σ.group in omega arith;
           inline = let e : g.inline_depth.0 ≡ f.inline_depth.0 = ap (λ z. z.inline_depth) form in omega arith;
@@ -186,7 +190,7 @@ module _ {rows text : List ℕ} {o : Options.Options} {k₀ l₀ : List ℕ} {x 
 
   -- ---- fast braces
 
-  module _ (only : only_tokens (rows_of rows) ≡ true) {m : List ℕ} {r : FastBraces} (ρ : BeforeFastBraces (formatter_of f k x) (fast_braces_at f at)) (σ : FastBracesLaidOut rows (fast_braces_at f at) l m r) (last : kind_of f.prev ≤ Other) where
+  module _ (only : only_tokens (rows_of rows) ≡ true) {m : List ℕ} {r : FastBraces} (ρ : BeforeFastBraces (formatter_of f k x) (fast_braces_at f at)) (σ : FastBracesLaidOut rows (fast_braces_at f at) l m r) where
     abbrev past_braces : Locals
     past_braces = locals_of (after_fast_braces (ltb at r.at) σ.close r (formatter_of f k x))
 
@@ -204,7 +208,7 @@ module _ {rows text : List ℕ} {o : Options.Options} {k₀ l₀ : List ℕ} {x 
           rest = rw β.len σ.rest;
           lays = rw (form, β.len, β.commas) (σ.lays text o (formatter_of f k x) f.commas i ρ);
           shallow = refl;
-          told = rw form (record { last = σ.last last; mid_line = λ e. refl });
+          told = rw form (record { last = kind_few r.prev; mid_line = λ e. refl });
           indent = ap (λ z. z.indent) form;
           group = let e : g.group_depth.0 ≡ f.group_depth.0 = ap (λ z. z.group_depth) form in omega arith;
           inline = let e : g.inline_depth.0 ≡ r.depth = ap (λ z. z.inline_depth) form in let h = σ.deep in omega arith;

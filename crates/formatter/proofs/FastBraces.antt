@@ -19,10 +19,12 @@ use Rattle.definition.specs.Act.{state}
 use Rattle.definition.specs.Layout.{finished, lay_from}
 use Rattle.sink.specs.Sink.{Writes}
 use Rattle.sink.proofs.Sink.{later}
+use Rattle.rows.specs.declared.kind.Kind.TheVariants as kinds
+use Rattle.rows.specs.KindNumber.{kind_number}
+use Rattle.std.specs.Prelude.{unwrap_or, min}
 use Rattle.formatter.specs.declared.Formatter as code
 use Rattle.formatter.specs.declared.fast_braces.FastBraces.{FastBraces}
 use Rattle.formatter.specs.CodeState.{Locals, prev_of, formatter_of}
-use Rattle.formatter.specs.Token.{kind_of}
 use Rattle.formatter.specs.Format.{only_tokens}
 use Rattle.formatter.specs.FastBraces.{MayStartFastBraces, BeforeFastBraces, after_fast_braces, fast_braces_at, FastBracesLaidOut, opener_bytes, closer_bytes, after_opener, after_closer}
 use Rattle.formatter.proofs.BareRow.{row_token, only_after, lay-turn}
@@ -56,7 +58,7 @@ module _ {rows l m : List ℕ} {from b : FastBraces} (α : FastBracesSoFar rows 
   here : b.at + 16 ≤ length rows
   here = let w = α.done.within in omega arith
 
-  module _ {k : ℕ} {xs m' : List ℕ} {r : FastBraces} (kind : (row_at rows b.at).kind ≡ k) (turns : Turns k b xs r) (next : r.at ≡ b.at + 16) (last : r.prev ≤ Other) (deep : r.depth ≤ b.depth + 1) (fits : b.len + length xs ≤ length m) (w : Writes m b.len xs m' r.len) where
+  module _ {k : ℕ} {xs m' : List ℕ} (r : FastBraces) (kind : (row_at rows b.at).kind ≡ k) (turns : Turns k b xs r) (next : r.at ≡ b.at + 16) (deep : r.depth ≤ b.depth + 1) (fits : b.len + length xs ≤ length m) (w : Writes m b.len xs m' r.len) where
     text-fits : length (take r.len m') ≤ length l
     text-fits =
         let u = (w.fits fits).far in
@@ -86,7 +88,6 @@ module _ {rows l m : List ℕ} {from b : FastBraces} (α : FastBracesSoFar rows 
               record {
                 whole = let x = δ.whole in omega arith;
                 within = let x = here in omega arith;
-                last = λ e. last;
                 size = w.size ∙ δ.size;
                 far = let y = δ.far in omega arith;
                 room = omega arith;
@@ -102,27 +103,30 @@ module _ {rows l m : List ℕ} {from b : FastBraces} (α : FastBracesSoFar rows 
 
   -- The same by the code's row, and by the place that it comes to.
 
+  read : {n : ℕ} (k : ℕ) → k < Other → min n Other ≡ k → n ≡ k
+  read k h e = omega arith
+
   pub goes_open :
-      (row : Row) {r : FastBraces} {m' : List ℕ} → row ≡ row_at rows b.at → row.kind ≡ LeftBrace → 0 < b.depth → 2 ≤ length m - b.len
+      (row : Row) {r : FastBraces} {m' : List ℕ} → row ≡ row_at rows b.at → min row.kind Other ≡ LeftBrace → 0 < b.depth → 2 ≤ length m - b.len
       → Writes m b.len opener_bytes m' r.len × (r ≡ after_opener b r.len) → FastBracesSoFar rows from l r m'
   goes_open row {r} {m'} e k d f w =
-      rw w.1 (more (rw e at k) (open_turns b r.len d) refl (omega arith) (omega arith) (let x = α.done.room in omega arith) w.0)
+      rw w.1 (more _ (rw e at (read LeftBrace (omega arith) k)) (open_turns b r.len d) refl (omega arith) (let x = α.done.room in omega arith) w.0)
 
   closer-fits : 2 ≤ length m - b.len → b.len + length (closer_bytes b.prev) ≤ length m
   closer-fits f =
       let x = α.done.room in
-      split (eqb b.prev LeftBrace) (λ e. rw e (omega arith)) (λ e. rw e (omega arith))
+      split (eqb (kind_number b.prev) LeftBrace) (λ e. rw e (omega arith)) (λ e. rw e (omega arith))
 
   pub goes_close :
-      (row : Row) {r : FastBraces} {m' : List ℕ} → row ≡ row_at rows b.at → row.kind ≡ RightBrace → 0 < b.depth → 2 ≤ length m - b.len
+      (row : Row) {r : FastBraces} {m' : List ℕ} → row ≡ row_at rows b.at → min row.kind Other ≡ RightBrace → 0 < b.depth → 2 ≤ length m - b.len
       → Writes m b.len (closer_bytes b.prev) m' r.len × (r ≡ after_closer b r.len) → FastBracesSoFar rows from l r m'
   goes_close row {r} {m'} e k d f w =
-      rw w.1 (more (rw e at k) (close_turns b r.len d) refl (omega arith) (omega arith) (closer-fits f) w.0)
+      rw w.1 (more _ (rw e at (read RightBrace (omega arith) k)) (close_turns b r.len d) refl (omega arith) (closer-fits f) w.0)
 
 -- ---- where they begin
 
 pub before_fast_braces :
-    {f : code.Formatter} {bare : Bool} → MayStartFastBraces f bare → (at : ℕ) (stack : List ℕ) (x : Locals) → prev_of f.prev ≡ some (kind_of f.prev) → x.skip_next ≡ false → x.too_deep ≡ none
+    {f : code.Formatter} {bare : Bool} → MayStartFastBraces f bare → (at : ℕ) (stack : List ℕ) (x : Locals) → prev_of f.prev ≡ some (kind_number (unwrap_or f.prev kinds.Eof)) → x.skip_next ≡ false → x.too_deep ≡ none
     → BeforeFastBraces (formatter_of f stack x) (fast_braces_at f at)
 before_fast_braces ν at stack x p s d =
     record {

@@ -22,6 +22,9 @@ use Rattle.definition.specs.PushToken.{arm, take_inline_close, turn}
 use Rattle.spaces.specs.Between.{loose_after, bit, spaces}
 use Rattle.spaces.proofs.Pairs.{spaces_are, loose_other}
 use Rattle.formatter.specs.declared.fast_tokens.FastState.{FastState}
+use Rattle.formatter.specs.declared.FnState.{FnState}
+use Rattle.formatter.specs.declared.FnState.TheVariants.{Outside, AfterFn, Named}
+use Rattle.formatter.specs.CodeState.{fn_number}
 use Rattle.formatter.specs.FastTokens.{FastKinds, is_closer, fast_kind_bits, space_before, fn_after, pending_after, group_after, fast_state_for, fast_state_after, Consistent, BeforeFastTokens, after_fast_tokens}
 use Rattle.formatter.proofs.Gaps.{token_gap_lem}
 use Rattle.formatter.proofs.Turn.{same, chosen_not, by_arm_lem}
@@ -106,6 +109,18 @@ space-before t loose p k h w = times (bit loose p) (ltb k Hash) ∙ ap (λ n. bi
 pub space-few : (spaced k : ℕ) → spaced < 2 → space_before spaced k < 2
 space-few spaced k h = split (ltb k Hash) (λ e. rw e (omega arith)) (λ e. rw e h)
 
+-- ---- `fn_state`
+
+outside_is : (n : FnState) → fn_number n ≡ 0 → n ≡ Outside
+outside_is Outside e = refl
+outside_is AfterFn e = absurd (omega arith)
+outside_is Named e = absurd (omega arith)
+
+number_in : (a b : Bool) → fn_number (cond a AfterFn (cond b Named Outside)) ≡ cond a 1 (cond b 2 0)
+number_in true b = refl
+number_in false true = refl
+number_in false false = refl
+
 -- ---- the kinds that change a field, by the bits of a number
 
 abbrev changes : ℕ → Bool
@@ -117,16 +132,16 @@ some_kinds = refl
 all_kinds : all_below 35 (λ k. eqb (bit 0x7_ffff_ffff k) 1) ≡ true
 all_kinds = refl
 
-pub state-same : {n n' : ℕ} {a a' b b' : Bool} {g g' : ℕ} → n ≡ n' → a ≡ a' → b ≡ b' → g ≡ g' → fast_state_for n a b g ≡ fast_state_for n' a' b' g'
+pub state-same : {n n' : FnState} {a a' b b' : Bool} {g g' : ℕ} → n ≡ n' → a ≡ a' → b ≡ b' → g ≡ g' → fast_state_for n a b g ≡ fast_state_for n' a' b' g'
 state-same n a b g = rw (n, a, b, g)
 
 right_is : {m : FastState} → Consistent m → fast_state_for m.fn_state m.record_pending m.prev_minus_is_unary m.group_depth ≡ m
 right_is ρ = rw (← ρ.changing, ← ρ.loose)
 
 -- A kind whose bit is not set changes none.
-pub state_kept : {m : FastState} → Consistent m → (p k : ℕ) → k ≤ Other → bit m.changing k ≡ 0 → m ≡ fast_state_after p k m
+pub state_kept : {m : FastState} → Consistent m → (p k : ℕ) → k ≤ Other → bit m.changing.0 k ≡ 0 → m ≡ fast_state_after p k m
 state_kept {m} ρ p k h e =
-    split (m.record_pending || not (eqb m.fn_state 0))
+    split (m.record_pending || not (eqb (fn_number m.fn_state) 0))
     (λ b.
     let z : bit 0x7_ffff_ffff k ≡ 0 = rw (ρ.changing, b) at e in
     let w : bit 0x7_ffff_ffff k ≡ 1 = eqb-true _ _ (below 35 (λ k. eqb (bit 0x7_ffff_ffff k) 1) all_kinds k (omega arith)) in
@@ -137,8 +152,8 @@ state_kept {m} ρ p k h e =
     let none : changes k ≡ false = split (changes k) (λ x. let y : ◌≡◌ {A = ℕ} 0 1 = sym z ∙ w ∙ rw x in absurd (omega arith)) (λ x. x) in
     let rest = or_right (is_closer k) (eqb k Minus || (eqb k Fn || eqb k Record)) none in
     let late = or_right (eqb k Minus) (eqb k Fn || eqb k Record) rest in
-    let pending = or_left m.record_pending (not (eqb m.fn_state 0)) b in
-    let state : m.fn_state ≡ 0 = eqb-true m.fn_state 0 (un_not (eqb m.fn_state 0) (or_right m.record_pending (not (eqb m.fn_state 0)) b)) in
+    let pending = or_left m.record_pending (not (eqb (fn_number m.fn_state) 0)) b in
+    let state : m.fn_state ≡ Outside = outside_is m.fn_state (eqb-true (fn_number m.fn_state) 0 (un_not (eqb (fn_number m.fn_state) 0) (or_right m.record_pending (not (eqb (fn_number m.fn_state) 0)) b))) in
     sym (state-same (rw (or_left (eqb k Fn) (eqb k Record) late, state, and-false (eqb k Identifier)))
     (rw (or_right (eqb k Fn) (eqb k Record) late, pending, and-false (eqb k Identifier)) (same (leb k Comma || eqb k Else)))
     (rw (or_left (eqb k Minus) (eqb k Fn || eqb k Record) rest))
@@ -204,7 +219,7 @@ module _ {f : Formatter} {p : ℕ} {m : FastState} {ks : FastKinds} (σ : Before
   pub prev_is_lem : f.prev ≡ some p
   prev_is_lem = sym (ap (λ g. g.prev) σ.with_state)
 
-  fn_is : f.fn_state ≡ m.fn_state
+  fn_is : f.fn_state ≡ fn_number m.fn_state
   fn_is = sym (ap (λ g. g.fn_state) σ.with_state)
 
   pending_is : f.record_pending ≡ m.record_pending
@@ -216,7 +231,7 @@ module _ {f : Formatter} {p : ℕ} {m : FastState} {ks : FastKinds} (σ : Before
   group_is : f.group_depth ≡ m.group_depth
   group_is = sym (ap (λ g. g.group_depth) σ.with_state)
 
-  fn_after_lem : (k : ℕ) → is_fast_kind ks k ≡ true → cond (is_some f.sig_break_depth) f.fn_state (fn_state_after k f) ≡ fn_after k m.fn_state
+  fn_after_lem : (k : ℕ) → is_fast_kind ks k ≡ true → cond (is_some f.sig_break_depth) f.fn_state (fn_state_after k f) ≡ fn_number (fn_after k m.fn_state)
   unfolding is_fast_kind
   fn_after_lem k h =
       split (is_some f.sig_break_depth)
@@ -224,7 +239,7 @@ module _ {f : Formatter} {p : ℕ} {m : FastState} {ks : FastKinds} (σ : Before
       let q = σ.no_fn e in
       let n : eqb k Fn ≡ false = never ks k Fn h q.0 in
       rw (e, fn_is, q.1, n, and-false (eqb k Identifier)))
-      (λ e. rw (e, fn_is, never ks k Newline h refl))
+      (λ e. rw (e, fn_is, never ks k Newline h refl, number_in (eqb k Fn) (eqb k Identifier && eqb (fn_number m.fn_state) 1)))
 
 -- ---- the turn
 

@@ -28,6 +28,11 @@ use Rattle.definition.specs.Layout.{finished, lay_from}
 use Rattle.sink.specs.Sink.{Writes}
 use Rattle.spaces.specs.Between.{bit, spaces}
 use Rattle.sink.proofs.Sink.{later}
+use Rattle.rows.specs.declared.kind.Kind.{Kind}
+use Rattle.rows.specs.declared.kind.Kind.TheVariants as kinds
+use Rattle.rows.specs.KindNumber.{kind_number}
+use Rattle.std.specs.Prelude.{unwrap_or, min}
+use Rattle.formatter.proofs.Numbered.{kind_few, read_as}
 use Rattle.formatter.specs.declared.Formatter as code
 use Rattle.std.specs.declared.option.Option.{Option}
 use Rattle.std.specs.declared.option.Option.TheVariants.{None, Some}
@@ -35,7 +40,6 @@ use Rattle.formatter.specs.declared.SignatureDepth.{SignatureDepth}
 use Rattle.formatter.specs.declared.fast_tokens.FastState.{FastState}
 use Rattle.formatter.specs.declared.fast_tokens.FastTokens as code-fast
 use Rattle.formatter.specs.CodeState.{Locals, prev_of, signature_of, top_first, formatter_of, fields_of, fields_on}
-use Rattle.formatter.specs.Token.{kind_of}
 use Rattle.formatter.specs.Trivia.{trivia_in}
 use Rattle.formatter.specs.Format.{CheckedRows, TokenBoundary, own_row, next_row}
 use Rattle.formatter.specs.FastTokens.{FastKinds, fast_kinds_of, fast_kind_bits, space_before, group_after, is_closer, fast_state_of, fast_state_after, Consistent, BareRow, IsFastToken, MayStartFastTokens, BeforeFastTokens, after_fast_tokens, FastTokensLaidOut}
@@ -68,7 +72,7 @@ module _ {rows text : List ℕ} {at : ℕ} (ω : CheckedRows rows text) (η : To
     next_is_lem = let e = λ₁.trails in omega arith
 
     pub bare_row_inside : (r : Row) → r ≡ row_at rows at → Inside text r
-    bare_row_inside r e = rw e (rw own_is at (row_in ω η h).inside)
+    bare_row_inside r e = rw e (rw own_is at (row_in ω η h))
 
     pub bare_row_boundary : TokenBoundary rows text (at + 16)
     bare_row_boundary = rw (own_is, next_is_lem) at (head-next ω η h)
@@ -92,32 +96,31 @@ module _ {rows text : List ℕ} {at : ℕ} (ω : CheckedRows rows text) (η : To
 
 -- ---- what holds at the loop's head
 
-abbrev ended : ℕ → ℕ → ℕ → FastState → code-fast.FastTokens
+abbrev ended : ℕ → ℕ → Kind → FastState → code-fast.FastTokens
 ended at len prev m = record { at = at; prev = prev; len = len; state = m }
 
 -- From the row at `from` and the output l, fast tokens of the kinds `fast` are laid out up to the row at `at` and the output k.
-pub record FastTokensSoFar (rows text : List ℕ) (from n before : ℕ) (m₀ : FastState) (fast : ℕ) (l : List ℕ) (at len prev : ℕ) (m : FastState) (k : List ℕ) : Type 0 where
+pub record FastTokensSoFar (rows text : List ℕ) (from n before : ℕ) (m₀ : FastState) (fast : ℕ) (l : List ℕ) (at len : ℕ) (prev : Kind) (m : FastState) (k : List ℕ) : Type 0 where
   pub right : Consistent m
-  pub last : prev ≤ Other
   pub room : len ≤ length k
   pub size : length k ≡ length l
   pub head : TokenBoundary rows text at
   pub done : (t : FastKinds) → fast ≡ fast_kind_bits t → FastTokensLaidOut rows text from n before m₀ t l k (ended at len prev m)
-  pub still : (t : FastKinds) → fast ≡ fast_kind_bits t → (f : Formatter) → BeforeFastTokens f before m₀ t → BeforeFastTokens (after_fast_tokens (ltb from at) prev m f) prev m t
+  pub still : (t : FastKinds) → fast ≡ fast_kind_bits t → (f : Formatter) → BeforeFastTokens f before m₀ t → BeforeFastTokens (after_fast_tokens (ltb from at) (kind_number prev) m f) (kind_number prev) m t
 
 less_group : (k n : ℕ) → group_after k n ≤ n
 less_group k n = split (is_closer k) (λ e. rw e (omega arith)) (λ e. rw e (omega arith))
 
-module _ {rows text l k : List ℕ} {from n before at len prev fast : ℕ} {m₀ m : FastState} (ω : CheckedRows rows text) (α : FastTokensSoFar rows text from n before m₀ fast l at len prev m k) (h : at < length rows) where
-  module _ (λ₁ : BareRow rows at) where
+module _ {rows text l k : List ℕ} {from n before at len fast : ℕ} {prev : Kind} {m₀ m : FastState} (ω : CheckedRows rows text) (α : FastTokensSoFar rows text from n before m₀ fast l at len prev m k) (h : at < length rows) where
+  module _ (λ₁ : BareRow rows at) (its_kind : Kind) (kind_is : kind_number its_kind ≡ (row_at rows at).kind) where
     abbrev kind : ℕ
     kind = (row_at rows at).kind
 
     abbrev next : FastState
-    next = fast_state_after prev kind m
+    next = fast_state_after (kind_number prev) kind m
 
     abbrev gap : ℕ
-    gap = cond (space_after (some prev) m.prev_minus_is_unary kind) 1 0
+    gap = cond (space_after (some (kind_number prev)) m.prev_minus_is_unary kind) 1 0
 
     abbrev bytes : List ℕ
     bytes = replicate gap 32 ++ bytes_of text (row_at rows at)
@@ -140,14 +143,14 @@ module _ {rows text l k : List ℕ} {from n before at len prev fast : ℕ} {m₀
 
       module _ (t : FastKinds) (q : fast ≡ fast_kind_bits t) (only : is_fast_kind t kind ≡ true) where
         step : (o : Options) (f : Formatter) (c j : ℕ) → BeforeFastTokens f before m₀ t
-            → lay_from o (length l) (finished (state (after_fast_tokens (ltb from at) prev m f) (take len k) c)) j (tokens_of (drop at rows) text)
+            → lay_from o (length l) (finished (state (after_fast_tokens (ltb from at) (kind_number prev) m f) (take len k) c)) j (tokens_of (drop at rows) text)
             ≡ lay_from o (length l) (finished (state (after_fast_tokens true kind next f) (take len' k') c)) (j + 1) (tokens_of (drop (at + 16) rows) text)
         step o f c j σ =
-            let g = after_fast_tokens (ltb from at) prev m f in
+            let g = after_fast_tokens (ltb from at) (kind_number prev) m f in
             let e = fast_turn o j (row_token text (row_at rows at)) (tokens_of (drop (at + 16) rows) text) g (take len k) c t (α.still t q f σ) refl refl only in
             lay_bare_row ω α.head h λ₁ o (length l) j (state g (take len k) c) (e ∙ ap (λ x. state (after_fast_tokens true kind next f) x c) (sym (w.fits all_fit).text)) text-fits σ.shallow
 
-        laid_further : FastTokensLaidOut rows text from n before m₀ t l k' (ended (at + 16) len' kind next)
+        laid_further : FastTokensLaidOut rows text from n before m₀ t l k' (ended (at + 16) len' its_kind next)
         laid_further =
             let u = w.fits all_fit in
             let uf = u.far in
@@ -157,7 +160,6 @@ module _ {rows text l k : List ℕ} {from n before at len prev fast : ℕ} {m₀
             record {
               whole = let x = δ.whole in omega arith;
               head = bare_row_boundary ω α.head h λ₁;
-              last = row_known ω α.head h (row_at rows at) refl;
               group = let g = δ.group in omega (arith, less_group kind m.group_depth);
               size = w.size ∙ δ.size;
               far = let y = δ.far in omega arith;
@@ -167,10 +169,10 @@ module _ {rows text l k : List ℕ} {from n before at len prev fast : ℕ} {m₀
                   let x = δ.whole in
                   let j : i + (at + 16 - from) / 16 ≡ i + (at - from) / 16 + 1 = omega arith in
                   let e : ltb from (at + 16) ≡ true = lt-ltb from (at + 16) (omega arith) in
-                  rw (j, e) (δ.lays o f c i σ ∙ step o f c (i + (at - from) / 16) σ);
+                  rw (j, e, kind_is) (δ.lays o f c i σ ∙ step o f c (i + (at - from) / 16) σ);
             }
 
-      more : ((t : FastKinds) → fast ≡ fast_kind_bits t → is_fast_kind t kind ≡ true) → from ≤ at → FastTokensSoFar rows text from n before m₀ fast l (at + 16) len' kind next k'
+      more : ((t : FastKinds) → fast ≡ fast_kind_bits t → is_fast_kind t kind ≡ true) → from ≤ at → FastTokensSoFar rows text from n before m₀ fast l (at + 16) len' its_kind next k'
       more only far =
           let u = w.fits all_fit in
           let uf = u.far in
@@ -179,45 +181,46 @@ module _ {rows text l k : List ℕ} {from n before at len prev fast : ℕ} {m₀
           let e : ltb from (at + 16) ≡ true = lt-ltb from (at + 16) (omega arith) in
           record {
             right = record { changing = refl; loose = refl };
-            last = row_known ω α.head h (row_at rows at) refl;
             room = omega arith;
             size = w.size ∙ α.size;
             head = bare_row_boundary ω α.head h λ₁;
             done = λ t q. laid_further t q (only t q);
-            still = λ t q f σ. rw e (fast_next (α.still t q f σ) kind (only t q));
+            still = λ t q f σ. rw (e, kind_is) (fast_next (α.still t q f σ) kind (only t q));
           }
 
   -- What is asked where a fast token is written.
   pub taken-fits :
-      {spaced : ℕ} → IsFastToken rows fast at (length k) len spaced → spaced < 2 → (r : Row) {space : ℕ} → r ≡ row_at rows at → space ≡ space_before spaced r.kind
+      {spaced : ℕ} → IsFastToken rows fast at (length k) len spaced → spaced < 2 → (r : Row) (j : Kind) {space : ℕ} → r ≡ row_at rows at → kind_number j ≡ min r.kind Other → space ≡ space_before spaced (kind_number j)
       → ((r.start < r.end) × (r.end ≤ length text)) × ((space ≤ 1) × (len + (space + (r.end - r.start)) ≤ length k))
-  taken-fits {spaced} τ few r e z =
+  taken-fits {spaced} τ few r j e jr z =
+      let its : kind_number j ≡ (row_at rows at).kind = read_as j (rw e at jr) (row_known ω α.head h (row_at rows at) refl) in
       let s = space-few spaced (row_at rows at).kind few in
       let f = τ.fits in
       let l = α.room in
-      rw (z, e) ((τ.byte, (bare_row_inside ω α.head h τ.alone (row_at rows at) refl).within), (omega arith, omega arith))
+      rw (z, its, e) ((τ.byte, (bare_row_inside ω α.head h τ.alone (row_at rows at) refl).within), (omega arith, omega arith))
 
   -- After one more fast token the same holds: by the code's row, its bits and its numbers of spaces.
   pub again :
-      {spaced : ℕ} → IsFastToken rows fast at (length k) len spaced → spaced ≡ bit m.loose prev → (r : Row) {space len' : ℕ} {k' : List ℕ} {m' : FastState} → (t : FastKinds) → fast ≡ fast_kind_bits t
-      → r ≡ row_at rows at → space ≡ space_before spaced r.kind
-      → Writes k len (replicate space 32 ++ bytes_of text r) k' len' → m' ≡ fast_state_after prev r.kind m → FastTokensSoFar rows text from n before m₀ fast l (at + 16) len' r.kind m' k'
-  again {spaced} τ y r t q e z w d =
+      {spaced : ℕ} → IsFastToken rows fast at (length k) len spaced → spaced ≡ bit m.loose.0 (kind_number prev) → (r : Row) (j : Kind) {space len' : ℕ} {k' : List ℕ} {m' : FastState} → (t : FastKinds) → fast ≡ fast_kind_bits t
+      → r ≡ row_at rows at → kind_number j ≡ min r.kind Other → space ≡ space_before spaced (kind_number j)
+      → Writes k len (replicate space 32 ++ bytes_of text r) k' len' → m' ≡ fast_state_after (kind_number prev) (kind_number j) m → FastTokensSoFar rows text from n before m₀ fast l (at + 16) len' j m' k'
+  again {spaced} τ y r j t q e jr z w d =
       let κ = (row_at rows at).kind in
       let known = row_known ω α.head h (row_at rows at) refl in
+      let its : kind_number j ≡ κ = read_as j (rw e at jr) known in
       let only : (t : FastKinds) → fast ≡ fast_kind_bits t → is_fast_kind t κ ≡ true = λ t q. fast_kind t κ known (rw q at τ.kind) in
-      let s : space_before spaced κ ≡ cond (space_after (some prev) m.prev_minus_is_unary κ) 1 0 =
+      let s : space_before spaced κ ≡ cond (space_after (some (kind_number prev)) m.prev_minus_is_unary κ) 1 0 =
       ap (λ n. space_before n κ) y
-      ∙ space-before t m.loose prev κ known (only t q)
-      ∙ ap (λ l. spaces l prev κ) α.right.loose
-      ∙ fast_spaces t m.prev_minus_is_unary prev κ α.last known (only t q) in
-      let g = rw e at z ∙ s in
+      ∙ space-before t m.loose.0 (kind_number prev) κ known (only t q)
+      ∙ ap (λ l. spaces l (kind_number prev) κ) α.right.loose
+      ∙ fast_spaces t m.prev_minus_is_unary (kind_number prev) κ (kind_few prev) known (only t q) in
+      let g = rw its at z ∙ s in
       let far = (α.done t q).whole in
-      rw (d, e) (more τ.alone (rw s at τ.fits) (rw (g, e) at w) only (omega arith))
+      rw (d, its) (more τ.alone j its (rw s at τ.fits) (rw (g, e) at w) only (omega arith))
 
 -- What holds at the loop's end is what the call promises.
 pub ends :
-    {rows text l k : List ℕ} {from n before p at len prev fast : ℕ} {m₀ m₁ m : FastState} (t : FastKinds) → p ≡ before → m₁ ≡ m₀ → fast ≡ fast_kind_bits t
+    {rows text l k : List ℕ} {from n before p at len fast : ℕ} {prev : Kind} {m₀ m₁ m : FastState} (t : FastKinds) → p ≡ before → m₁ ≡ m₀ → fast ≡ fast_kind_bits t
     → FastTokensSoFar rows text from n p m₁ fast l at len prev m k → FastTokensLaidOut rows text from n before m₀ t l k (ended at len prev m)
 ends t e d s α = rw (e, d) at (α.done t s)
 
@@ -232,8 +235,8 @@ unfolding top_first
 none_top n stack e = rw e
 
 pub before_fast_tokens :
-    {f : code.Formatter} → MayStartFastTokens f → (stack : List ℕ) (x : Locals) → prev_of f.prev ≡ some (kind_of f.prev) → x.skip_next ≡ false → x.too_deep ≡ none
-    → BeforeFastTokens (formatter_of f stack x) (kind_of f.prev) (fast_state_of f) (fast_kinds_of f stack)
+    {f : code.Formatter} → MayStartFastTokens f → (stack : List ℕ) (x : Locals) → prev_of f.prev ≡ some (kind_number (unwrap_or f.prev kinds.Eof)) → x.skip_next ≡ false → x.too_deep ≡ none
+    → BeforeFastTokens (formatter_of f stack x) (kind_number (unwrap_or f.prev kinds.Eof)) (fast_state_of f) (fast_kinds_of f stack)
 before_fast_tokens {f} β stack x p s d =
     record {
       mid_line = β.mid_line;

@@ -16,6 +16,7 @@ use Rattle.definition.specs.Act.{Act, update, ◌⨾◌, run}
 use Rattle.definition.specs.Emit.{line_begun, indented}
 use Rattle.definition.specs.Arms.{at_signature, breaks_list, group_opened, pushed, open_list, close_signature, right_paren_arm}
 use Rattle.definition.specs.PushToken.{overflows}
+use Rattle.rows.specs.KindNumber.{kind_number}
 use Rattle.formatter.specs.declared.Formatter.{Formatter}
 use Rattle.formatter.specs.declared.TokenAt.{TokenAt}
 use Rattle.formatter.specs.CodeState.{Locals, CodeState, state_of, locals_of, fields_of, fields_on, top_first}
@@ -29,7 +30,7 @@ use Rattle.formatter.proofs.Stack.{top_length}
 
 -- An act of the token's kind and lexeme, as the code finds them.
 pub its :
-    {token : TokenAt} {rows text : List ℕ} {t : Token} {ts : List Token} → StandsFor token rows text t ts → {k : ℕ} → token.kind ≡ k
+    {token : TokenAt} {rows text : List ℕ} {t : Token} {ts : List Token} → StandsFor token rows text t ts → {k : ℕ} → kind_number token.kind ≡ k
     → (a : Token → Act) {x : Locals} {p q : CodeState} → Does (a (bare_token k (lexeme_of token rows text))) x p q
     → Does (a (bare_token t.kind t.lexeme)) x p q
 its σ e a d = rw (σ.kind, e, σ.lexeme) d

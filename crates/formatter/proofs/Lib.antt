@@ -1,3 +1,4 @@
+pub mod Numbered
 pub mod Does
 pub mod Gaps
 pub mod Looked

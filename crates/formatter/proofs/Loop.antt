@@ -10,7 +10,7 @@ use borrow.Author.Tests.{ltb-false, eq-eqb, ne_eqb}
 use Rattle.shared.specs.Numbers.{most32}
 use Rattle.shared.specs.Report.{deep, full}
 use Rattle.shared.proofs.Logic.{split}
-use Rattle.rows.specs.Kinds.{LeftBrace, RightBrace, Other}
+use Rattle.rows.specs.Kinds.{LeftBrace, RightBrace}
 use Rattle.rows.specs.Options
 use Rattle.rows.specs.Row.{rows_of, first_rows}
 use Rattle.rows.specs.Token.{Token, Trivia, trivia_of}
@@ -21,18 +21,19 @@ use Rattle.definition.specs.Emit.{is_at, track_fn_state, trailing_trivia}
 use Rattle.definition.specs.PushToken.{arm, overflows, turn}
 use Rattle.definition.specs.Layout.{stopped}
 use Rattle.definition.proofs.Growth.{depth}
-use Rattle.definition.proofs.Last
 use Rattle.sink.proofs.Sink.{nothing}
+use Rattle.rows.specs.declared.kind.Kind.TheVariants as kinds
+use Rattle.rows.specs.KindNumber.{kind_number}
+use Rattle.std.specs.Prelude.{unwrap_or}
 use Rattle.formatter.specs.declared.Formatter.{Formatter}
 use Rattle.formatter.specs.declared.Options.{Options}
 use Rattle.formatter.specs.declared.TokenAt.{TokenAt}
 use Rattle.formatter.specs.declared.Ends.{Ends}
 use Rattle.formatter.specs.declared.token.Place.{Place}
-use Rattle.std.specs.declared.option.Option.{Option}
-use Rattle.std.specs.declared.option.Option.TheVariants.{None, Some}
-use Rattle.formatter.specs.CodeState.{Locals, CodeState, code_state, state_of, locals_of, formatter_of, fields_of, fields_on, options_of, prev_of, top_first}
+use Rattle.formatter.specs.declared.FnState.{FnState}
+use Rattle.formatter.specs.CodeState.{Locals, fn_number, CodeState, code_state, state_of, locals_of, formatter_of, fields_of, fields_on, options_of, top_first}
 use Rattle.formatter.specs.Does.{Does, Arrives, Puts}
-use Rattle.formatter.specs.Token.{Ready, StackRoom, InRows, Ahead, AtToken, kind_of, depth_of}
+use Rattle.formatter.specs.Token.{Ready, StackRoom, InRows, Ahead, AtToken, depth_of}
 use Rattle.formatter.specs.Trivia.{WholeRows, trivia_in, lead_token}
 use Rattle.formatter.specs.Parts.{returns_early, took_next}
 use Rattle.formatter.specs.declared.fast_tokens.FastTokens as code
@@ -103,7 +104,7 @@ leading-room h (without_leading e d n eg em) = rw (eg, em, n) h
 leading-room h (leading-written d z eg em) = rw (eg, em) z
 
 -- The state f with another `fn_state`.
-abbrev pub with_fn_state : ℕ → Formatter → Formatter
+abbrev pub with_fn_state : FnState → Formatter → Formatter
 with_fn_state n f =
     record {
       at_line_start = f.at_line_start;
@@ -126,14 +127,14 @@ with_fn_state n f =
 
 -- What the calls of one turn say after the leading trivia: refusal 4's test, whether a one-line block's `}` stands before, the
 -- test for trailing trivia, the arm, the trailing trivia, and `fn_state`.
-pub record Calls (options : Options) (rows text : List ℕ) (token : TokenAt) (f : Formatter) (k : List ℕ) (g : Formatter) (m : List ℕ) (r close b : Bool) (g₂ : Formatter) (k₂ m₂ : List ℕ) (g₃ : Formatter) (m₃ : List ℕ) (n : ℕ) : Type 0 where
+pub record Calls (options : Options) (rows text : List ℕ) (token : TokenAt) (f : Formatter) (k : List ℕ) (g : Formatter) (m : List ℕ) (r close b : Bool) (g₂ : Formatter) (k₂ m₂ : List ℕ) (g₃ : Formatter) (m₃ : List ℕ) (n : FnState) : Type 0 where
   pub overflow : AtToken token rows text (λ t ts. r ≡ overflows (options_of options) t ts (fields_on g k))
   pub calm : r ≡ false
   pub taken : close ≡ (eqb token.lead token.own && f.just_closed_inline)
   pub trailing : AtToken token rows text (λ t ts. b ≡ (ltb (token.own + 16) token.next && not (returns_early t ts (fields_on g k))))
   pub arms : AtToken token rows text (λ t ts. (y : Locals) → y.inline_close ≡ close → overflows (options_of options) t ts (fields_on g k) ≡ false → Does (arm (options_of options) token.index t ts) y (code_state g k m) (code_state g₂ k₂ m₂))
   pub trailed : Trailed (trivia_in rows text (token.own + 16) token.next) b g₂ m₂ g₃ m₃
-  pub tracked : n ≡ (track_fn_state token.kind (fields_of g₃)).fn_state
+  pub tracked : fn_number n ≡ (track_fn_state (kind_number token.kind) (fields_of g₃)).fn_state
 
 -- A token without leading rows has no leading trivia.
 empty_is : (rows text : List ℕ) (from to : ℕ) → WholeRows rows text from to → eqb from to ≡ is_empty (trivia_in rows text from to)
@@ -143,10 +144,6 @@ empty_is rows text from to π = go ((to - from) / 16) π.whole
     go : (n : ℕ) → to ≡ from + 16 * n → eqb from to ≡ is_empty (map (trivia_of text) (first_rows n (drop from rows)))
     go zero e = eq-eqb from to (omega arith)
     go (suc n) e = ne_eqb from to (λ x. omega arith)
-
-kinds_same : (p : Option ℕ) → Last.kind_of (prev_of p) ≡ kind_of p
-kinds_same None = refl
-kinds_same (Some k) = refl
 
 module _ {options : Options} {rows text k₀ l₀ k l : List ℕ} {f : Formatter} {i at : ℕ} {token : TokenAt} (θ : Known options rows text k₀ l₀ i at f k l token) where
   abbrev ω : CheckedRows rows text
@@ -246,7 +243,6 @@ module _ {options : Options} {rows text k₀ l₀ k l : List ℕ} {f : Formatter
         let inline : g.inline_depth.0 ≡ f.inline_depth.0 = field (λ v. v.inline_depth) same.inline_depth in
         let records : g.record_depth.0 ≡ f.record_depth.0 = field (λ v. v.record_depth) same.record_depth in
         let signature : depth_of g.sig_break_depth ≡ depth_of f.sig_break_depth = sym (depth-signature g.sig_break_depth) ∙ field (λ v. depth v.sig_break_depth) (ap depth same.sig_break_depth) ∙ depth-signature f.sig_break_depth in
-        let last : kind_of g.prev ≡ kind_of f.prev = sym (kinds_same g.prev) ∙ field (λ v. Last.kind_of v.prev) (ap Last.kind_of same.prev) ∙ kinds_same f.prev in
         record {
           fits = record { within = z; width = w; indent = let a = c.indent in omega arith };
           group = let a = c.group in omega arith;
@@ -254,7 +250,6 @@ module _ {options : Options} {rows text k₀ l₀ k l : List ℕ} {f : Formatter
           records = let a = c.records in omega arith;
           signature = let a = c.signature in omega arith;
           commas = let a = c.commas in let e = commas-same in omega arith;
-          last = rw last (rw (kinds_same f.prev) at ι.going.told.last);
         }
 
     pub stack-room : StackRoom g k
@@ -279,7 +274,7 @@ module _ {options : Options} {rows text k₀ l₀ k l : List ℕ} {f : Formatter
         ∙ ap (λ y. y && f.just_closed_inline) (ap is_empty (leading_is ω ι.going.head h τ) ∙ sym (empty_is rows text token.lead token.own (leads ω ι.going.head h τ)))
         ∙ sym e
 
-    module _ {r close b : Bool} {g₂ g₃ : Formatter} {k₂ m₂ m₃ : List ℕ} {n : ℕ} (κ : Calls options rows text token f k g m r close b g₂ k₂ m₂ g₃ m₃ n) where
+    module _ {r close b : Bool} {g₂ g₃ : Formatter} {k₂ m₂ m₃ : List ℕ} {n : FnState} (κ : Calls options rows text token f k g m r close b g₂ k₂ m₂ g₃ m₃ n) where
       abbrev q : Formatter
       q = with_fn_state n g₃
 
@@ -340,7 +335,7 @@ module _ {options : Options} {rows text k₀ l₀ k l : List ℕ} {f : Formatter
         took =
             turn_skip o i t ts (state_of x p) ι.going.shallow ι.no_skip calm
             ∙ ap (λ n. eqb n LeftBrace && is_at after.formatter.prev RightBrace) σ.kind
-            ∙ ap (λ (w : State). eqb token.kind LeftBrace && is_at w.formatter.prev RightBrace) (sym (fit ω ι.going h turned fits).state)
+            ∙ ap (λ (w : State). eqb (kind_number token.kind) LeftBrace && is_at w.formatter.prev RightBrace) (sym (fit ω ι.going h turned fits).state)
 
         next_is_lem : token.next ≡ next_row rows (own_row rows at)
         next_is_lem = τ.next ∙ ap (next_row rows) τ.own
@@ -390,9 +385,6 @@ module _ {options : Options} {rows text k₀ l₀ k l : List ℕ} {f : Formatter
 -- ---- fast tokens and fast braces
 
 module _ {rows text : List ℕ} {o : Options.Options} {k₀ l₀ k l : List ℕ} {f : Formatter} {i at : ℕ} {bare : Bool} (π : Placed rows text o k₀ l₀ i at f k l bare) where
-  last-kind : kind_of f.prev ≤ Other
-  last-kind = rw (kinds_same f.prev) at π.loop.going.told.last
-
   -- A whole number of rows is left.
   pub rows_left : RowsLeft rows at
   rows_left = (π.loop.going.head.within, let a = π.checked.whole in let b = π.loop.going.head.whole in omega arith)
@@ -404,17 +396,17 @@ module _ {rows text : List ℕ} {o : Options.Options} {k₀ l₀ k l : List ℕ}
   -- ---- fast tokens
 
   module _ (ρ : MayStartFastTokens f) where
-    pub fast_tokens_room : StackRoom f k × (kind_of f.prev ≤ Other)
-    fast_tokens_room = (record { most = π.loop.going.entries; size = π.loop.going.stack }, last-kind)
+    pub fast_tokens_room : StackRoom f k
+    fast_tokens_room = record { most = π.loop.going.entries; size = π.loop.going.stack }
 
     pub past_fast_tokens :
         {m : List ℕ} {r : code.FastTokens} {g : Formatter}
-        → FastTokensLaidOut rows text at f.len (kind_of f.prev) (fast_state_of f) (fast_kinds_of f k) l m r
-        → ChangedBy (with_fast_state r.prev r.state) r.len f g
+        → FastTokensLaidOut rows text at f.len (kind_number (unwrap_or f.prev kinds.Eof)) (fast_state_of f) (fast_kinds_of f k) l m r
+        → ChangedBy (with_fast_state (kind_number r.prev) r.state) r.len f g
         → Loop rows text o k₀ l₀ (i + (r.at - at) / 16) r.at (code_state g k m)
     past_fast_tokens {r = r} σ β =
         record {
-          locals = locals_of (after_fast_tokens (ltb at r.at) r.prev r.state (formatter_of f k π.loop.locals));
+          locals = locals_of (after_fast_tokens (ltb at r.at) (kind_number r.prev) r.state (formatter_of f k π.loop.locals));
           going = goes_past_fast_tokens π.checked π.loop.going (before_fast_tokens ρ k π.loop.locals (last_known π.checked π.loop.going ρ.mid_line) π.loop.no_skip π.loop.going.shallow) σ β;
           no_skip = π.loop.no_skip;
         }
@@ -435,6 +427,6 @@ module _ {rows text : List ℕ} {o : Options.Options} {k₀ l₀ k l : List ℕ}
     past_fast_braces {r = r} σ β =
         record {
           locals = locals_of (after_fast_braces (ltb at r.at) σ.close r (formatter_of f k π.loop.locals));
-          going = goes_past_fast_braces π.checked π.loop.going (π.only ρ.bare) (before_fast_braces ρ at k π.loop.locals (last_known π.checked π.loop.going ρ.mid_line) π.loop.no_skip π.loop.going.shallow) σ last-kind β;
+          going = goes_past_fast_braces π.checked π.loop.going (π.only ρ.bare) (before_fast_braces ρ at k π.loop.locals (last_known π.checked π.loop.going ρ.mid_line) π.loop.no_skip π.loop.going.shallow) σ β;
           no_skip = π.loop.no_skip;
         }

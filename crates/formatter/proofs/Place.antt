@@ -7,13 +7,14 @@ use native.Mathlib.Omega.{arith}
 use lib.Dec.{eqb}
 use lib.ListN.{length, get_or, take, drop, length-drop}
 use lib.Seq.{drop-drop}
-use Rattle.rows.specs.Kinds.{Leading, TokenRow, Trailing}
+use Rattle.rows.specs.Kinds.{Leading, TokenRow, Trailing, Other}
 use Rattle.rows.specs.Row.{Row, row_at, first_rows, rows_of}
 use Rattle.rows.specs.Bounds.{Inside, InBounds}
 use Rattle.rows.specs.Checks.{at_start}
 use Rattle.rows.specs.Token.{Token, bytes_of, tokens_of}
 use Rattle.rows.proofs.RowList.{rows_cons, part_cons, rows_drop, rows_length, row_drop, row-index}
 use Rattle.rows.proofs.Sound.{in_bounds, known_kinds}
+use Rattle.formatter.proofs.Numbered.{read_as}
 use Rattle.formatter.specs.declared.Ends.{Ends}
 use Rattle.formatter.specs.declared.TokenAt.{TokenAt}
 use Rattle.formatter.specs.Token.{Ahead, InRows, StandsFor}
@@ -163,13 +164,21 @@ module _ {rows text : List ℕ} {at : ℕ} (ω : CheckedRows rows text) (η : To
         trails = λ b. bare-run rows (at + 16) Trailing refl (let w = η.whole in omega arith) (o b);
       }
 
+  -- The token's own row has a known kind, and lies in the text.
+
+  pub kind_here : (row_at rows (own_row rows at)).kind ≤ Other
+  kind_here = rw row_here at (known_kinds (length text) η.checked.before η.checked.number (rows_of (drop at rows)) η.checked.good n nothing first.short first.what)
+
+  pub row_in : Inside text (row_at rows (own_row rows at))
+  row_in = rw row_here at (bounds-get text n nothing (rows_of (drop at rows)) first.short bounds)
+
   -- ---- what the code's token stands for
 
   module _ {i : ℕ} {token : TokenAt} (τ : TokenRows rows at i token) where
     pub stands : StandsFor token rows text (token_here rows text at) (tokens_next rows text at)
     stands =
         record {
-          kind = rw (τ.kind, τ.own);
+          kind = sym (read_as token.kind (rw τ.own at τ.kind) kind_here);
           lexeme = rw τ.own;
           ahead = rw τ.lead tokens_here;
           after = rw τ.own;
@@ -190,8 +199,7 @@ module _ {rows text : List ℕ} {at : ℕ} (ω : CheckedRows rows text) (η : To
           lead = rw (τ.lead, τ.own) (omega arith);
           own = rw (τ.next, τ.own) (omega arith);
           next = rw (τ.next, τ.own) x;
-          inside = rw τ.own (rw row_here at (bounds-get text n nothing (rows_of (drop at rows)) first.short bounds));
-          kind = rw (τ.kind, τ.own) (rw row_here at (known_kinds (length text) η.checked.before η.checked.number (rows_of (drop at rows)) η.checked.good n nothing first.short first.what));
+          inside = rw τ.own row_in;
           index = rw τ.index few;
         }
 
@@ -212,6 +220,3 @@ module _ {rows text : List ℕ} {at : ℕ} (ω : CheckedRows rows text) (η : To
         rw (τ.next, τ.own)
         (record { ordered = omega arith; within = x; whole = rw b refl; bounds = rw (b, trails_are) (bounds-take text m (rows_of (drop (own_row rows at + 16) rows)) (in_bounds text behind.before behind.number (rows_of (drop (own_row rows at + 16) rows)) behind.good)) })
 
-  -- The token's own row lies in the rows and in the text.
-  pub row_in : InRows (record { kind = (row_at rows (own_row rows at)).kind; index = 0; lead = at; own = own_row rows at; next = next_row rows (own_row rows at) }) rows text
-  row_in = in_rows (record { kind = refl; index = refl; lead = refl; own = refl; next = refl }) (omega arith)

@@ -11,7 +11,11 @@ use Rattle.formatter.specs.declared.Formatter.{Formatter}
 use Rattle.formatter.specs.declared.Options.{Options}
 use Rattle.formatter.specs.declared.BraceStyle.{BraceStyle}
 use Rattle.formatter.specs.declared.BraceStyle.TheVariants.{SameLine, Allman}
+use Rattle.rows.specs.declared.kind.Kind.{Kind}
+use Rattle.rows.specs.KindNumber.{kind_number}
 use Rattle.formatter.specs.declared.SignatureDepth.{SignatureDepth}
+use Rattle.formatter.specs.declared.FnState.{FnState}
+use Rattle.formatter.specs.declared.FnState.TheVariants.{Outside, AfterFn, Named}
 
 -- ---- the fields that are Options
 
@@ -21,8 +25,8 @@ option_of f None = none
 option_of f (Some x) = some (f x)
 
 -- The last token's kind, if there was a token.
-abbrev pub prev_of : Prelude.Option ℕ → Option ℕ
-prev_of p = option_of (λ k. k) p
+abbrev pub prev_of : Prelude.Option Kind → Option ℕ
+prev_of p = option_of kind_number p
 
 -- The index of the Newline to swallow, if there is one.
 abbrev pub newline_of : Prelude.Option ℕ → Option ℕ
@@ -36,6 +40,12 @@ signature_of s = option_of (λ d. d.0) s
 unfoldable pub top_first : ℕ → List ℕ → List ℕ
 top_first zero stack = []
 top_first (suc n) stack = get_or stack n 0 ∷ top_first n stack
+
+-- `fn_state`, as the definition has it.
+abbrev pub fn_number : FnState → ℕ
+fn_number Outside = 0
+fn_number AfterFn = 1
+fn_number Named = 2
 
 -- ---- the options
 
@@ -77,7 +87,7 @@ formatter_of f stack x =
       prev = prev_of f.prev;
       prev_minus_is_unary = f.prev_minus_is_unary;
       inline_depth = f.inline_depth.0;
-      fn_state = f.fn_state;
+      fn_state = fn_number f.fn_state;
       sig_break_depth = signature_of f.sig_break_depth;
       record_pending = f.record_pending;
       in_record = f.in_record;

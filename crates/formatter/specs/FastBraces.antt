@@ -1,9 +1,12 @@
 -- Fast braces: the braces of a one-line block, which a tight loop lays out. It is a second form of their arms, and is proved
 -- equal: the definition's walk goes on after them as it would have from their start.
 -- Assumes nothing.
-use Rattle.std.specs.Prelude.{Bool, true, false, cond, not, ◌&&◌, List, [], ◌++◌, ◌≡◌, ℕ, ◌+◌, ◌-◌, ◌*◌, ◌/◌, ◌≤◌, eqb, ltb, length, take, drop}
+use Rattle.std.specs.Prelude.{Bool, true, false, cond, not, ◌&&◌, List, [], ◌++◌, ◌≡◌, ℕ, ◌+◌, ◌-◌, ◌*◌, ◌/◌, ◌≤◌, eqb, ltb, length, take, drop, unwrap_or}
 use Rattle.std.proofs.Math.Option.{none, some}
-use Rattle.rows.specs.Kinds.{LeftBrace, RightBrace, Other}
+use Rattle.rows.specs.Kinds.{LeftBrace}
+use Rattle.rows.specs.declared.kind.Kind.{Kind}
+use Rattle.rows.specs.declared.kind.Kind.TheVariants as kinds
+use Rattle.rows.specs.KindNumber.{kind_number}
 use Rattle.rows.specs.Options.{Options}
 use Rattle.rows.specs.Row.{row_size}
 use Rattle.rows.specs.Token.{tokens_of}
@@ -13,7 +16,7 @@ use Rattle.definition.specs.Act.{state}
 use Rattle.definition.specs.Layout.{finished, lay_from}
 use Rattle.formatter.specs.declared.Formatter as code
 use Rattle.formatter.specs.declared.fast_braces.FastBraces.{FastBraces}
-use Rattle.formatter.specs.Token.{kind_of}
+use Rattle.formatter.specs.CodeState.{fn_number}
 
 -- ---- before fast braces
 
@@ -23,7 +26,7 @@ pub record MayStartFastBraces (f : code.Formatter) (b : Bool) : Type 0 where
   pub mid_line : f.at_line_start ≡ false
   pub no_record : f.record_pending ≡ false
   pub outside : f.in_record ≡ false
-  pub no_fn : f.fn_state ≡ 0
+  pub no_fn : fn_number f.fn_state ≡ 0
 
 -- The place where they start, in the code's state f.
 abbrev pub fast_braces_at : code.Formatter → ℕ → FastBraces
@@ -31,7 +34,7 @@ fast_braces_at f at =
     record {
       at = at;
       len = f.len;
-      prev = kind_of f.prev;
+      prev = unwrap_or f.prev kinds.Eof;
       depth = f.inline_depth.0;
       closed = f.just_closed_inline;
     }
@@ -39,7 +42,7 @@ fast_braces_at f at =
 -- What is asked of the definition's formatter f at the place b.
 pub record BeforeFastBraces (f : Formatter) (b : FastBraces) : Type 0 where
   pub mid_line : f.at_line_start ≡ false
-  pub prev : f.prev ≡ some b.prev
+  pub prev : f.prev ≡ some (kind_number b.prev)
   pub no_fn : f.fn_state ≡ 0
   pub no_record : f.record_pending ≡ false
   pub outside : f.in_record ≡ false
@@ -52,7 +55,7 @@ pub record BeforeFastBraces (f : Formatter) (b : FastBraces) : Type 0 where
 
 -- The definition's formatter f with the fields of the place b.
 abbrev pub with_fast_braces : FastBraces → Formatter → Formatter
-with_fast_braces b f = set_prev (some b.prev) (set_inline_depth b.depth (set_just_closed_inline b.closed f))
+with_fast_braces b f = set_prev (some (kind_number b.prev)) (set_inline_depth b.depth (set_just_closed_inline b.closed f))
 
 -- The same with the locals: `taken` says whether there was a brace, and `close` is what the last one took.
 abbrev pub after_fast_braces : Bool → Bool → FastBraces → Formatter → Formatter
@@ -64,7 +67,6 @@ after_fast_braces taken close b f =
 pub record FastBracesLaidOut (rows : List ℕ) (b : FastBraces) (l m : List ℕ) (r : FastBraces) : Type 0 where
   pub whole : r.at ≡ b.at + row_size * ((r.at - b.at) / row_size)
   pub within : r.at ≤ length rows
-  pub last : b.prev ≤ Other → r.prev ≤ Other
   pub size : length m ≡ length l
   pub far : b.len ≤ r.len
   pub room : r.len ≤ length m
@@ -85,15 +87,15 @@ abbrev pub opener_bytes : List ℕ
 opener_bytes = space ++ left_brace
 
 -- The bytes of a `}`, with a space before it; but `{}` is tight.
-abbrev pub closer_bytes : ℕ → List ℕ
-closer_bytes prev = cond (eqb prev LeftBrace) [] space ++ right_brace
+abbrev pub closer_bytes : Kind → List ℕ
+closer_bytes prev = cond (eqb (kind_number prev) LeftBrace) [] space ++ right_brace
 
 -- The place after a `{` at b, where the text then has the length `len`.
 abbrev pub after_opener : FastBraces → ℕ → FastBraces
 after_opener b len =
-    record { at = b.at + row_size; len = len; prev = LeftBrace; depth = b.depth + 1; closed = false }
+    record { at = b.at + row_size; len = len; prev = kinds.LeftBrace; depth = b.depth + 1; closed = false }
 
 -- The place after a `}` at b, where the text then has the length `len`.
 abbrev pub after_closer : FastBraces → ℕ → FastBraces
 after_closer b len =
-    record { at = b.at + row_size; len = len; prev = RightBrace; depth = b.depth - 1; closed = true }
+    record { at = b.at + row_size; len = len; prev = kinds.RightBrace; depth = b.depth - 1; closed = true }

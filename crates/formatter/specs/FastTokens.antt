@@ -5,6 +5,7 @@ use Rattle.std.specs.Prelude.{Bool, true, false, cond, not, ◌&&◌, ◌||◌, 
 use Rattle.std.proofs.Math.Option.{none, some}
 use Rattle.rows.specs.Kinds.{Leading, Trailing, RightBrace, RightParen, RightBracket, Comma, Hash, Minus}
 use Rattle.rows.specs.Kinds.{Else, Fn, Record, Identifier, Other}
+use Rattle.rows.specs.KindNumber.{kind_number}
 use Rattle.rows.specs.Row.{row_size, row_at, rows_of}
 use Rattle.rows.specs.Options.{Options}
 use Rattle.rows.specs.Token.{tokens_of}
@@ -19,7 +20,9 @@ use Rattle.spaces.specs.Between.{loose_after, bit}
 use Rattle.formatter.specs.declared.Formatter as code
 use Rattle.formatter.specs.declared.fast_tokens.FastState.{FastState}
 use Rattle.formatter.specs.declared.fast_tokens.FastTokens as code-fast
-use Rattle.formatter.specs.CodeState.{Locals, prev_of, signature_of, fields_of, fields_on, formatter_of}
+use Rattle.formatter.specs.declared.FnState.{FnState}
+use Rattle.formatter.specs.declared.FnState.TheVariants.{Outside, AfterFn, Named}
+use Rattle.formatter.specs.CodeState.{Locals, fn_number, prev_of, signature_of, fields_of, fields_on, formatter_of}
 use Rattle.formatter.specs.Format.{TokenBoundary, run_rows}
 
 -- ---- the kinds
@@ -60,8 +63,8 @@ space_before spaced k = cond (ltb k Hash) 0 spaced
 -- ---- the fields that fast tokens change
 
 -- `fn_state` after a token of the kind k, where it was n.
-abbrev pub fn_after : ℕ → ℕ → ℕ
-fn_after k n = cond (eqb k Fn) 1 (cond (eqb k Identifier && eqb n 1) 2 0)
+abbrev pub fn_after : ℕ → FnState → FnState
+fn_after k n = cond (eqb k Fn) AfterFn (cond (eqb k Identifier && eqb (fn_number n) 1) Named Outside)
 
 -- `record_pending` after a token of the kind k, where it was b.
 abbrev pub pending_after : ℕ → Bool → Bool
@@ -76,19 +79,19 @@ abbrev pub group_after : ℕ → ℕ → ℕ
 group_after k n = cond (is_closer k) (n - 1) n
 
 -- The kinds that change one of these fields, as the bits of a number: all, where `fn` or `record` is still looked back to.
-abbrev pub changing_kinds : ℕ → Bool → ℕ
-changing_kinds fn pending = cond (pending || not (eqb fn 0)) 0x7_ffff_ffff 0x34_00a0
+abbrev pub changing_kinds : FnState → Bool → ℕ
+changing_kinds fn pending = cond (pending || not (eqb (fn_number fn) 0)) 0x7_ffff_ffff 0x34_00a0
 
 -- The fields with these values, and the sets of kinds that go with them.
-abbrev pub fast_state_for : ℕ → Bool → Bool → ℕ → FastState
+abbrev pub fast_state_for : FnState → Bool → Bool → ℕ → FastState
 fast_state_for fn pending unary group =
     record {
       fn_state = fn;
       group_depth = group;
       record_pending = pending;
-      changing = changing_kinds fn pending;
+      changing = record { 0 = changing_kinds fn pending };
       prev_minus_is_unary = unary;
-      loose = loose_after Other unary;
+      loose = record { 0 = loose_after Other unary };
     }
 
 -- These fields of the code's state f.
@@ -104,14 +107,14 @@ fast_state_after p k m =
 
 -- The two sets of kinds are those that go with the fields.
 pub record Consistent (m : FastState) : Type 0 where
-  pub changing : m.changing ≡ changing_kinds m.fn_state m.record_pending
-  pub loose : m.loose ≡ loose_after Other m.prev_minus_is_unary
+  pub changing : m.changing.0 ≡ changing_kinds m.fn_state m.record_pending
+  pub loose : m.loose.0 ≡ loose_after Other m.prev_minus_is_unary
 
 -- The definition's formatter f with the last kind k and the fields of m.
 abbrev pub with_fast_state : ℕ → FastState → Formatter → Formatter
 with_fast_state k m f =
     set_prev (some k)
-    (set_fn_state m.fn_state
+    (set_fn_state (fn_number m.fn_state)
     (set_record_pending m.record_pending
     (set_prev_minus_is_unary m.prev_minus_is_unary (set_group_depth m.group_depth f))))
 
@@ -140,7 +143,7 @@ pub record IsFastToken (rows : List ℕ) (fast at size len spaced : ℕ) : Type 
 pub record MayStartFastTokens (f : code.Formatter) : Type 0 where
   pub mid_line : f.at_line_start ≡ false
   pub not_closed : f.just_closed_inline ≡ false
-  pub no_fn : is_some (signature_of f.sig_break_depth) ≡ true → f.fn_state ≡ 0
+  pub no_fn : is_some (signature_of f.sig_break_depth) ≡ true → fn_number f.fn_state ≡ 0
 
 -- The same of the definition's formatter f, whose last kind is p and whose fields are those of m, for the fast kinds t.
 pub record BeforeFastTokens (f : Formatter) (p : ℕ) (m : FastState) (t : FastKinds) : Type 0 where
@@ -149,7 +152,7 @@ pub record BeforeFastTokens (f : Formatter) (p : ℕ) (m : FastState) (t : FastK
   pub no_skip : f.skip_next ≡ false
   pub shallow : f.too_deep ≡ none
   pub with_state : with_fast_state p m f ≡ f
-  pub no_fn : is_some f.sig_break_depth ≡ true → (t.fns ≡ false) × (m.fn_state ≡ 0)
+  pub no_fn : is_some f.sig_break_depth ≡ true → (t.fns ≡ false) × (fn_number m.fn_state ≡ 0)
   pub unbroken : t.commas ≡ true → at_record_fields f || in_broken_list f ≡ false
   pub no_brace : t.elses ≡ true → eqb p RightBrace ≡ false
   pub whole : t.closers ≡ true → (f.sig_break_depth ≡ none) × (f.break_stack ≡ [])
@@ -175,7 +178,6 @@ pub record FastTokensLaidOut
     (rows text : List ℕ) (from n prev : ℕ) (m : FastState) (t : FastKinds) (l k : List ℕ) (r : code-fast.FastTokens) : Type 0 where
   pub whole : r.at ≡ from + row_size * ((r.at - from) / row_size)
   pub head : TokenBoundary rows text r.at
-  pub last : r.prev ≤ Other
   pub group : r.state.group_depth ≤ m.group_depth
   pub size : length k ≡ length l
   pub far : n ≤ r.len
@@ -185,5 +187,5 @@ pub record FastTokensLaidOut
       (o : Options) (f : Formatter) (c i : ℕ) → BeforeFastTokens f prev m t
       → lay_from o (length l) (finished (state f (take n l) c)) i (tokens_of (drop from rows) text)
       ≡ lay_from o (length l)
-      (finished (state (after_fast_tokens (ltb from r.at) r.prev r.state f) (take r.len k) c))
+      (finished (state (after_fast_tokens (ltb from r.at) (kind_number r.prev) r.state f) (take r.len k) c))
       (i + (r.at - from) / row_size) (tokens_of (drop r.at rows) text)

@@ -2,7 +2,8 @@
 -- Assumes nothing.
 use Rattle.std.specs.Prelude.{true, List, [], ◌∷◌, ◌≡◌, ℕ, ◌+◌, ◌≤◌, ◌<◌, length, drop, Option, None, Some}
 use Rattle.shared.specs.Numbers.{most32}
-use Rattle.rows.specs.Kinds.{Comma, RightBrace, Other}
+use Rattle.rows.specs.Kinds.{Comma, RightBrace}
+use Rattle.rows.specs.KindNumber.{kind_number}
 use Rattle.rows.specs.Options.{most_indent_width}
 use Rattle.rows.specs.Row.{row_size, row_at, rows_of}
 use Rattle.rows.specs.Bounds.{Inside, InBounds}
@@ -15,11 +16,6 @@ use Rattle.formatter.specs.declared.TokenAt.{TokenAt}
 use Rattle.formatter.specs.declared.SignatureDepth.{SignatureDepth}
 
 -- ---- the state
-
--- The last token's kind; 0 where there is none.
-abbrev pub kind_of : Option ℕ → ℕ
-kind_of None = 0
-kind_of (Some k) = k
 
 -- The paren depth inside a broken signature; outside one, 0.
 abbrev pub depth_of : Option SignatureDepth → ℕ
@@ -40,12 +36,7 @@ pub record CanWrite (options : Options) (f : Formatter) (out : List ℕ) : Type 
   pub width : options.indent_width ≤ most_indent_width
   pub indent : f.indent < most32
 
--- What a lexeme asks besides: the last kind is a kind.
-pub record CanWriteLexeme (options : Options) (f : Formatter) (out : List ℕ) : Type 0 where
-  pub fits : CanWrite options f out
-  pub last : kind_of f.prev ≤ Other
-
--- What an arm asks: the text fits so far, each count may grow by one, and the last kind is a kind.
+-- What an arm asks: the text fits so far, and each count may grow by one.
 pub record Ready (options : Options) (f : Formatter) (out : List ℕ) : Type 0 where
   pub fits : CanWrite options f out
   pub group : f.group_depth.0 < most32
@@ -53,7 +44,6 @@ pub record Ready (options : Options) (f : Formatter) (out : List ℕ) : Type 0 w
   pub records : f.record_depth.0 < most32
   pub signature : depth_of f.sig_break_depth < most32
   pub commas : f.commas < most32
-  pub last : kind_of f.prev ≤ Other
 
 -- The stack holds 64 numbers, and no more of them are in use.
 pub record StackRoom (f : Formatter) (stack : List ℕ) : Type 0 where
@@ -74,7 +64,6 @@ pub record InRows (token : TokenAt) (rows text : List ℕ) : Type 0 where
   pub own : token.own + row_size ≤ token.next
   pub next : token.next ≤ length rows
   pub inside : Inside text (row_at rows token.own)
-  pub kind : token.kind ≤ Other
   pub index : token.index < most32
 
 -- What `ends` tells is true of the rows from the index `lead` on: which kinds they lack, and how wide their tokens are at most.
@@ -93,7 +82,7 @@ bare_token kind lexeme = record { kind = kind; lexeme = lexeme; leading = []; tr
 
 -- The code's token stands for the definition's token t, and the tokens ts come after it.
 pub record StandsFor (token : TokenAt) (rows text : List ℕ) (t : Token) (ts : List Token) : Type 0 where
-  pub kind : t.kind ≡ token.kind
+  pub kind : t.kind ≡ kind_number token.kind
   pub lexeme : t.lexeme ≡ lexeme_of token rows text
   pub ahead : tokens_of (drop token.lead rows) text ≡ t ∷ ts
   pub after : tokens_of (drop (token.own + row_size) rows) text ≡ ts

@@ -2,6 +2,7 @@
 ghost use Rattle.std.specs.Prelude.{cond, not, ◌&&◌, ◌||◌, List, ◌∷◌, ◌≡◌, ℕ, ◌+◌, ◌-◌, ◌≤◌, ◌<◌, length};
 ghost use Rattle.shared.specs.Numbers.{most32};
 ghost use Rattle.rows.specs.Kinds.{Comma, LeftBrace, RightBrace};
+ghost use Rattle.rows.specs.KindNumber.{kind_number};
 ghost use Rattle.rows.specs.Row.{row_size};
 ghost use Rattle.definition.specs.Act.{update};
 ghost use Rattle.definition.specs.Emit.{prev_is, open_allman, open_same_line};
@@ -20,7 +21,7 @@ ghost use Rattle.formatter.specs.Parts.{open_one_line, one_line_bytes, braced};
 use crate::{BraceStyle, Ends, Formatter, Options, RecordDepth, TokenAt};
 use lookahead::{block_is_single_line, next_is};
 use row_writers::write_lexeme;
-use rows::{ROW_BYTES, kinds};
+use rows::{Kind, ROW_BYTES};
 use sink::write::{Tail, count_comma, write_brace, write_closer, write_opener_line, write_spaces};
 
 impl Formatter {
@@ -51,7 +52,7 @@ impl Formatter {
         self.inline_depth.0 = self.inline_depth.0.saturating_sub(1);
         self.just_closed_inline = true;
         self.at_line_start = false;
-        self.prev = Some(kinds::RIGHT_BRACE);
+        self.prev = Some(Kind::RightBrace);
         self
     }
 
@@ -64,7 +65,7 @@ impl Formatter {
         if self.at_line_start {
             return self.indent_size(options);
         }
-        if self.prev_is(kinds::LEFT_BRACE) {
+        if self.prev_is(Kind::LeftBrace) {
             return 0;
         }
         1
@@ -85,7 +86,7 @@ impl Formatter {
         self.in_record = false;
         self.record_depth = RecordDepth(0);
         self.at_line_start = false;
-        self.prev = Some(kinds::RIGHT_BRACE);
+        self.prev = Some(Kind::RightBrace);
         self
     }
 
@@ -93,7 +94,7 @@ impl Formatter {
     fn wants_record_comma(self) -> bool
         ensures { result ≡ not (prev_is Comma (fields_of self) || prev_is LeftBrace (fields_of self)) }
     {
-        !self.prev_is(kinds::COMMA) && !self.prev_is(kinds::LEFT_BRACE)
+        !self.prev_is(Kind::Comma) && !self.prev_is(Kind::LeftBrace)
     }
 
     // Writes the `}` of a block over several lines.
@@ -107,7 +108,7 @@ impl Formatter {
         self.len = len;
         self.record_depth = self.record_depth_outside();
         self.at_line_start = false;
-        self.prev = Some(kinds::RIGHT_BRACE);
+        self.prev = Some(Kind::RightBrace);
         self
     }
 
@@ -133,7 +134,7 @@ impl Formatter {
     ) -> Self
         requires ready { Ready options self out.old }
         requires in_rows { InRows token rows.now text.now × Ahead ends token.lead rows.now }
-        requires kind_value { token.kind ≡ LeftBrace }
+        requires kind_value { kind_number token.kind ≡ LeftBrace }
         ensures { AtToken token rows.now text.now
             (λ t ts. Puts (left_brace_arm (options_of options) token.index t ts) self out.old
             result out.new) }
@@ -154,7 +155,7 @@ impl Formatter {
         ensures { (text : List ℕ) → AtToken token rows.now text
             (λ t ts. result ≡ self.record_pending && next_is RightBrace ts) }
     {
-        self.record_pending && next_is(&rows[token.own + ROW_BYTES..], kinds::RIGHT_BRACE)
+        self.record_pending && next_is(&rows[token.own + ROW_BYTES..], Kind::RightBrace as u32)
     }
 
     // Writes the braces of `record E {}`, which stay on one line: the `{` takes the `}` along.
@@ -172,11 +173,11 @@ impl Formatter {
             (bare_token LeftBrace (lexeme_of token rows.now text.now)))
             self out.old result out.new }
     {
-        let gap = self.gap_before(options, kinds::LEFT_BRACE);
+        let gap = self.gap_before(options, Kind::LeftBrace);
         let len = write_lexeme(out, self.len, gap, rows, text, token.own, Tail::Braces);
         self.len = len;
         self.at_line_start = false;
-        self.prev = Some(kinds::RIGHT_BRACE);
+        self.prev = Some(Kind::RightBrace);
         self.record_pending = false;
         self
     }
@@ -243,7 +244,7 @@ impl Formatter {
         self.len = len;
         self.indent += 1;
         self.at_line_start = false;
-        self.prev = Some(kinds::LEFT_BRACE);
+        self.prev = Some(Kind::LeftBrace);
         self
     }
 
@@ -260,7 +261,7 @@ impl Formatter {
         self.indent += 1;
         self.suppress_newline_at = Some(index + 1);
         self.at_line_start = true;
-        self.prev = Some(kinds::LEFT_BRACE);
+        self.prev = Some(Kind::LeftBrace);
         self
     }
 
@@ -273,7 +274,7 @@ impl Formatter {
         self.len = self.write_inline_opener(options, out);
         self.inline_depth.0 += 1;
         self.at_line_start = false;
-        self.prev = Some(kinds::LEFT_BRACE);
+        self.prev = Some(Kind::LeftBrace);
         self
     }
 

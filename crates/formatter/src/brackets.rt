@@ -3,6 +3,7 @@ ghost use Rattle.std.specs.Prelude.{false, ◌||◌, List, [], ◌∷◌, ◌≡
 ghost use Rattle.std.proofs.Math.Option.{map};
 ghost use Rattle.shared.specs.Numbers.{most32};
 ghost use Rattle.rows.specs.Kinds.{LeftParen, RightParen, LeftBracket, RightBracket, Comma};
+ghost use Rattle.rows.specs.KindNumber.{kind_number};
 ghost use Rattle.lookahead.specs.Measure.{should_break_list};
 ghost use Rattle.definition.specs.Arms.{at_record_fields, in_broken_list, at_signature, breaks_list};
 ghost use Rattle.definition.specs.Arms.{open_list, open_group, break_signature};
@@ -11,13 +12,13 @@ ghost use Rattle.definition.specs.Arms.{close_signature, close_group, right_pare
 ghost use Rattle.definition.specs.PushToken.{overflows};
 ghost use Rattle.formatter.specs.CodeState.{code_state, fields_of, fields_on, options_of, signature_of};
 ghost use Rattle.formatter.specs.Does.{Done, Puts};
-ghost use Rattle.formatter.specs.Token.{CanWrite, CanWriteLexeme, Ready, StackRoom, InRows};
+ghost use Rattle.formatter.specs.Token.{CanWrite, Ready, StackRoom, InRows};
 ghost use Rattle.formatter.specs.Token.{Ahead, AtToken, bare_token, lexeme_of, depth_of, stack_size};
 ghost use Rattle.formatter.specs.Parts.{closes_signature, close_list};
 
-use crate::{Ends, Formatter, Options, SignatureDepth, TokenAt};
+use crate::{Ends, FnState, Formatter, Options, SignatureDepth, TokenAt};
 use lookahead::{should_break_list, should_break_sig};
-use rows::kinds;
+use rows::Kind;
 use sink::write::{Tail, count_comma, write_closer, write_comma_line, write_signature_line};
 
 impl Formatter {
@@ -34,7 +35,7 @@ impl Formatter {
     ) -> Self
         requires ready { Ready options self out.old × StackRoom self stack.old }
         requires in_rows { InRows token rows.now text.now × Ahead ends token.lead rows.now }
-        requires kind_value { token.kind ≡ LeftParen }
+        requires kind_value { kind_number token.kind ≡ LeftParen }
         ensures { AtToken token rows.now text.now
             (λ t ts. overflows (options_of options) t ts (fields_on self stack.old) ≡ false
             → Done (left_paren_arm (options_of options) token.index t ts)
@@ -44,10 +45,10 @@ impl Formatter {
         if self.at_signature() {
             self.open_signature(options, out, rows, text, token)
         } else if self.breaks_list(options, ends, rows, token) {
-            self.open_list(options, out, stack, rows, text, token, kinds::LEFT_PAREN)
+            self.open_list(options, out, stack, rows, text, token, Kind::LeftParen)
         } else {
             self.sig_break_depth = deeper(self.sig_break_depth);
-            self.open_group(options, out, rows, text, token, kinds::LEFT_PAREN)
+            self.open_group(options, out, rows, text, token, Kind::LeftParen)
         }
     }
 
@@ -55,7 +56,7 @@ impl Formatter {
     pub fn at_signature(self) -> bool
         ensures { result ≡ at_signature (fields_of self) }
     {
-        !self.in_one_line_block() && (self.fn_state == 2 || self.fn_state == 1)
+        !self.in_one_line_block() && self.fn_state != FnState::Outside
     }
 
     // Whether the list that the token opens breaks: it is wide, and outside one-line blocks and records.
@@ -81,16 +82,16 @@ impl Formatter {
     ) -> Self
         requires ready { Ready options self out.old }
         requires in_rows { InRows token rows.now text.now }
-        requires kind_value { token.kind ≡ LeftParen }
+        requires kind_value { kind_number token.kind ≡ LeftParen }
         ensures { AtToken token rows.now text.now
             (λ t ts. Puts (open_signature (options_of options) token.index t ts) self out.old
             result out.new) }
     {
-        self.fn_state = 0;
+        self.fn_state = FnState::Outside;
         if should_break_sig(&rows[token.lead..], options.fn_sig_width) {
             self.break_signature(options, out, token.index)
         } else {
-            self.open_group(options, out, rows, text, token, kinds::LEFT_PAREN)
+            self.open_group(options, out, rows, text, token, Kind::LeftParen)
         }
     }
 
@@ -108,7 +109,7 @@ impl Formatter {
         self.sig_break_depth = Some(SignatureDepth(1));
         self.suppress_newline_at = Some(index + 1);
         self.at_line_start = false;
-        self.prev = Some(kinds::LEFT_PAREN);
+        self.prev = Some(Kind::LeftParen);
         self.group_depth.0 += 1;
         self
     }
@@ -122,13 +123,13 @@ impl Formatter {
         rows: &[u8],
         text: &[u8],
         token: TokenAt,
-        kind: u32,
+        kind: Kind,
     ) -> Self
         requires ready { Ready options self out.old × StackRoom self stack.old }
         requires in_rows { InRows token rows.now text.now × (kind ≡ token.kind) }
         ensures { self.break_count < stack_size
             → Done (open_list (options_of options) token.index
-            (bare_token kind (lexeme_of token rows.now text.now)))
+            (bare_token (kind_number kind) (lexeme_of token rows.now text.now)))
             (code_state self stack.old out.old)
             (code_state result stack.new out.new) }
     {
@@ -150,12 +151,12 @@ impl Formatter {
         rows: &[u8],
         text: &[u8],
         token: TokenAt,
-        kind: u32,
+        kind: Kind,
     ) -> Self
-        requires can_write_lexeme { CanWriteLexeme options self out.old × (self.group_depth.0 < most32) }
+        requires can_write_lexeme { CanWrite options self out.old × (self.group_depth.0 < most32) }
         requires in_rows { InRows token rows.now text.now × (kind ≡ token.kind) }
         ensures { Puts (open_group (options_of options)
-            (bare_token kind (lexeme_of token rows.now text.now)))
+            (bare_token (kind_number kind) (lexeme_of token rows.now text.now)))
             self out.old result out.new }
     {
         self = self.push_lexeme(options, out, rows, text, token, kind);
@@ -176,7 +177,7 @@ impl Formatter {
     ) -> Self
         requires ready { Ready options self out.old × StackRoom self stack.old }
         requires in_rows { InRows token rows.now text.now × Ahead ends token.lead rows.now }
-        requires kind_value { token.kind ≡ LeftBracket }
+        requires kind_value { kind_number token.kind ≡ LeftBracket }
         ensures { AtToken token rows.now text.now
             (λ t ts. overflows (options_of options) t ts (fields_on self stack.old) ≡ false
             → Done (left_bracket_arm (options_of options) token.index t ts)
@@ -184,9 +185,9 @@ impl Formatter {
             (code_state result stack.new out.new)) }
     {
         if self.breaks_list(options, ends, rows, token) {
-            self.open_list(options, out, stack, rows, text, token, kinds::LEFT_BRACKET)
+            self.open_list(options, out, stack, rows, text, token, Kind::LeftBracket)
         } else {
-            self.open_group(options, out, rows, text, token, kinds::LEFT_BRACKET)
+            self.open_group(options, out, rows, text, token, Kind::LeftBracket)
         }
     }
 
@@ -201,7 +202,7 @@ impl Formatter {
         token: TokenAt,
     ) -> Self
         requires ready { Ready options self out.old × StackRoom self stack.now }
-        requires in_rows { InRows token rows.now text.now × (token.kind ≡ RightParen) }
+        requires in_rows { InRows token rows.now text.now × (kind_number token.kind ≡ RightParen) }
         ensures { AtToken token rows.now text.now
             (λ t ts. Done (right_paren_arm (options_of options) t)
             (code_state self stack.now out.old)
@@ -212,9 +213,9 @@ impl Formatter {
         }
         self.sig_break_depth = shallower(self.sig_break_depth);
         if self.in_broken_list(stack) {
-            self.close_list(options, out, false, b')', kinds::RIGHT_PAREN)
+            self.close_list(options, out, false, b')', Kind::RightParen)
         } else {
-            self.close_group(options, out, rows, text, token, kinds::RIGHT_PAREN)
+            self.close_group(options, out, rows, text, token, Kind::RightParen)
         }
     }
 
@@ -247,7 +248,7 @@ impl Formatter {
         self.indent = self.indent.saturating_sub(1);
         self.group_depth.0 = self.group_depth.0.saturating_sub(1);
         self.at_line_start = false;
-        self.prev = Some(kinds::RIGHT_PAREN);
+        self.prev = Some(Kind::RightParen);
         self
     }
 
@@ -258,10 +259,10 @@ impl Formatter {
         out: &mut [u8],
         wanted: bool,
         closer: u8,
-        kind: u32,
+        kind: Kind,
     ) -> Self
         requires { CanWrite options self out.old × (self.commas < most32) }
-        ensures { Puts (close_list (options_of options) wanted (closer ∷ []) kind)
+        ensures { Puts (close_list (options_of options) wanted (closer ∷ []) (kind_number kind))
             self out.old result out.new }
     {
         self.break_count = self.break_count.saturating_sub(1);
@@ -284,12 +285,12 @@ impl Formatter {
         rows: &[u8],
         text: &[u8],
         token: TokenAt,
-        kind: u32,
+        kind: Kind,
     ) -> Self
-        requires can_write_lexeme { CanWriteLexeme options self out.old }
+        requires can_write_lexeme { CanWrite options self out.old }
         requires in_rows { InRows token rows.now text.now × (kind ≡ token.kind) }
         ensures { Puts (close_group (options_of options)
-            (bare_token kind (lexeme_of token rows.now text.now)))
+            (bare_token (kind_number kind) (lexeme_of token rows.now text.now)))
             self out.old result out.new }
     {
         self = self.push_lexeme(options, out, rows, text, token, kind);
@@ -308,17 +309,17 @@ impl Formatter {
         token: TokenAt,
     ) -> Self
         requires ready { Ready options self out.old × StackRoom self stack.now }
-        requires in_rows { InRows token rows.now text.now × (token.kind ≡ RightBracket) }
+        requires in_rows { InRows token rows.now text.now × (kind_number token.kind ≡ RightBracket) }
         ensures { AtToken token rows.now text.now
             (λ t ts. Done (right_bracket_arm (options_of options) t)
             (code_state self stack.now out.old)
             (code_state result stack.now out.new)) }
     {
         if self.in_broken_list(stack) {
-            let wanted = !self.prev_is(kinds::COMMA);
-            self.close_list(options, out, wanted, b']', kinds::RIGHT_BRACKET)
+            let wanted = !self.prev_is(Kind::Comma);
+            self.close_list(options, out, wanted, b']', Kind::RightBracket)
         } else {
-            self.close_group(options, out, rows, text, token, kinds::RIGHT_BRACKET)
+            self.close_group(options, out, rows, text, token, Kind::RightBracket)
         }
     }
 
@@ -333,7 +334,7 @@ impl Formatter {
         token: TokenAt,
     ) -> Self
         requires ready { Ready options self out.old × StackRoom self stack.now }
-        requires in_rows { InRows token rows.now text.now × (token.kind ≡ Comma) }
+        requires in_rows { InRows token rows.now text.now × (kind_number token.kind ≡ Comma) }
         ensures { AtToken token rows.now text.now
             (λ t ts. Done (comma_arm (options_of options) token.index t)
             (code_state self stack.now out.old)
@@ -343,9 +344,9 @@ impl Formatter {
             self.len = write_comma_line(out, self.len);
             self.suppress_newline_at = Some(token.index + 1);
             self.at_line_start = true;
-            self.prev = Some(kinds::COMMA);
+            self.prev = Some(Kind::Comma);
         } else {
-            self = self.push_lexeme(options, out, rows, text, token, kinds::COMMA);
+            self = self.push_lexeme(options, out, rows, text, token, Kind::Comma);
         }
         self
     }

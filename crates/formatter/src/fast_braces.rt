@@ -10,9 +10,8 @@ ghost use Rattle.formatter.specs.FastBraces.{MayStartFastBraces, FastBracesLaidO
 ghost use Rattle.formatter.specs.FastBraces.{fast_braces_at, with_fast_braces};
 ghost use Rattle.formatter.specs.FastBraces.{opener_bytes, closer_bytes, after_opener, after_closer};
 
-use crate::fast_tokens::kind_of;
-use crate::{Formatter, InlineDepth};
-use rows::{ROW_BYTES, kinds, row_at};
+use crate::{FnState, Formatter, InlineDepth};
+use rows::{Kind, ROW_BYTES, row_at};
 
 // A place among fast braces: the index of the next row, the length of the text, the last token's kind, and
 // the state's `inline_depth` and `just_closed_inline`.
@@ -20,7 +19,7 @@ use rows::{ROW_BYTES, kinds, row_at};
 pub struct FastBraces {
     pub at: usize,
     pub len: usize,
-    pub prev: u32,
+    pub prev: Kind,
     pub depth: usize,
     pub closed: bool,
 }
@@ -38,8 +37,8 @@ impl Formatter {
         if rows.len() <= at {
             return false;
         }
-        let row = row_at(rows, at);
-        if kinds::RIGHT_BRACE < row.kind {
+        let kind = row_at(rows, at).token_kind();
+        if kind != Kind::LeftBrace && kind != Kind::RightBrace {
             return false;
         }
         if !bare {
@@ -54,7 +53,7 @@ impl Formatter {
         if self.in_record {
             return false;
         }
-        self.fn_state == 0
+        self.fn_state == FnState::Outside
     }
 
     // Lays out the braces from the row at `at` on, while they stand in a one-line block and two bytes are
@@ -69,23 +68,18 @@ impl Formatter {
         let mut b = FastBraces {
             at,
             len: self.len,
-            prev: kind_of(self.prev),
+            prev: self.prev.unwrap_or(Kind::Eof),
             depth: self.inline_depth.0,
             closed: self.just_closed_inline,
         };
         while ROW_BYTES <= rows.len() - b.at {
-            let here = b.at;
-            let row = row_at(rows, here);
-            let kind = row.kind;
             if !takes_brace(b.depth, out.len() - b.len) {
                 return b;
             }
-            if kind == kinds::LEFT_BRACE {
-                b = open_fast_brace(out, b);
-            } else if kind == kinds::RIGHT_BRACE {
-                b = close_fast_brace(out, b);
-            } else {
-                return b;
+            match row_at(rows, b.at).token_kind() {
+                Kind::LeftBrace => b = open_fast_brace(out, b),
+                Kind::RightBrace => b = close_fast_brace(out, b),
+                _ => return b,
             }
         }
         b
@@ -125,7 +119,7 @@ fn open_fast_brace(out: &mut [u8], b: FastBraces) -> FastBraces
     FastBraces {
         at: b.at + ROW_BYTES,
         len,
-        prev: kinds::LEFT_BRACE,
+        prev: Kind::LeftBrace,
         depth: b.depth + 1,
         closed: false,
     }
@@ -143,18 +137,18 @@ fn close_fast_brace(out: &mut [u8], b: FastBraces) -> FastBraces
     FastBraces {
         at: b.at + ROW_BYTES,
         len,
-        prev: kinds::RIGHT_BRACE,
+        prev: Kind::RightBrace,
         depth: b.depth - 1,
         closed: true,
     }
 }
 
 // Writes a `}` after a space; but `{}` is tight. Returns the text's length after it.
-fn put_closer(out: &mut [u8], len: usize, prev: u32) -> usize
+fn put_closer(out: &mut [u8], len: usize, prev: Kind) -> usize
     requires { len + 2 ≤ length out.old }
     ensures { Writes out.old len (closer_bytes prev) out.new result }
 {
-    if prev == kinds::LEFT_BRACE {
+    if prev == Kind::LeftBrace {
         out[len] = b'}';
         let tight = len + 1;
         return tight;

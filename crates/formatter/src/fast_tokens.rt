@@ -1,11 +1,12 @@
 // Fast tokens: those that only write their lexeme, and a space before it, are laid out in a tight loop. It is
 // a second form of their arms.
-ghost use Rattle.std.specs.Prelude.{true, cond, not, ◌&&◌, ◌≡◌, ◌+◌, ◌-◌, ◌/◌, ◌*◌, ◌^◌, ◌≤◌, ◌<◌, eqb, length};
-ghost use Rattle.rows.specs.Kinds.{Other};
+ghost use Rattle.std.specs.Prelude.{true, cond, not, ◌&&◌, ◌≡◌, ◌+◌, ◌-◌, ◌/◌, ◌*◌, ◌^◌, ◌≤◌, ◌<◌, eqb, length, unwrap_or};
+ghost use Rattle.rows.specs.declared.kind.Kind.TheVariants.{Eof};
+ghost use Rattle.rows.specs.KindNumber.{kind_number};
 ghost use Rattle.rows.specs.Row.{row_size};
 ghost use Rattle.definition.specs.Emit.{is_some};
 ghost use Rattle.formatter.specs.CodeState.{signature_of};
-ghost use Rattle.formatter.specs.Token.{StackRoom, kind_of};
+ghost use Rattle.formatter.specs.Token.{StackRoom};
 ghost use Rattle.formatter.specs.Format.{CheckedRows, TokenBoundary, RowsLeft, NoTriviaIf};
 ghost use Rattle.formatter.specs.FastTokens.{MayStartFastTokens, BareRow, RowAhead, IsFastToken};
 ghost use Rattle.formatter.specs.FastTokens.{FastTokensLaidOut, Consistent, ChangedBy};
@@ -13,43 +14,41 @@ ghost use Rattle.formatter.specs.FastTokens.{fast_kinds_of, fast_kind_bits, chan
 ghost use Rattle.formatter.specs.FastTokens.{fast_state_of, fast_state_after, with_fast_state};
 ghost use Rattle.formatter.specs.FastTokens.{fn_after, pending_after, unary_after, group_after};
 
-use crate::lexeme::record_pending_after;
-use crate::{Formatter, GroupDepth};
-use rows::{ROW_BYTES, kinds, row_at};
+use crate::lexeme::{named_after, record_pending_after};
+use crate::{FnState, Formatter, GroupDepth};
+use rows::{Kind, KindSet, ROW_BYTES, What, row_at};
 use sink::put::put_token;
-use spaces::between::{loose_after, space_after};
-use spaces::is_value_kind;
+use spaces::is_value;
+use spaces::loose::{loose_after, space_after};
 
-// Sets of kinds, as the bits of a number. These are fast in every state: Colon to Minus, Record, Identifier
-// to Other.
-const FAST: u64 = 0x7_ffe7_fe00;
+// These kinds are fast in every state: Colon to Minus, Record, Identifier to Other.
+const FAST: KindSet = KindSet(0x7_ffe7_fe00);
 
 // The others are fast in some states, as `fast_kinds` tells.
-const COMMA: u64 = 0x100;
+const COMMA: KindSet = KindSet(1 << Kind::Comma as u64);
 
-const ELSE: u64 = 0x8_0000;
+const ELSE: KindSet = KindSet(1 << Kind::Else as u64);
 
-const FN: u64 = 0x10_0000;
+const FN: KindSet = KindSet(1 << Kind::Fn as u64);
 
-const CLOSERS: u64 = 0xa0;
+const CLOSERS: KindSet = KindSet(1 << Kind::RightParen as u64 | 1 << Kind::RightBracket as u64);
 
-// These change a field of `FastState` where `fn_state` is 0 and no record is pending: RightParen,
+// These change a field of `FastState` where `fn_state` is `Outside` and no record is pending: RightParen,
 // RightBracket, Minus, Fn, Record.
-const CHANGING: u64 = 0x34_00a0;
-
-// All kinds.
-const ALL: u64 = 0x7_ffff_ffff;
+const CHANGING: KindSet = KindSet(
+    CLOSERS.0 | FN.0 | 1 << Kind::Minus as u64 | 1 << Kind::Record as u64,
+);
 
 // The fields of the state that fast tokens change, but for the last kind; `changing`, the kinds that change
 // one of them; and `loose`, the kinds after which a space stands.
 #[derive(Clone, Copy)]
 pub struct FastState {
-    pub fn_state: u8,
+    pub fn_state: FnState,
     pub group_depth: usize,
     pub record_pending: bool,
-    pub changing: u64,
+    pub changing: KindSet,
     pub prev_minus_is_unary: bool,
-    pub loose: u64,
+    pub loose: KindSet,
 }
 
 // Where fast tokens end: the index of the first row after them, the last token's kind, the length of the
@@ -57,7 +56,7 @@ pub struct FastState {
 #[derive(Clone, Copy)]
 pub struct FastTokens {
     pub at: usize,
-    pub prev: u32,
+    pub prev: Kind,
     pub len: usize,
     pub state: FastState,
 }
@@ -72,11 +71,8 @@ impl Formatter {
         if rows.len() <= at {
             return false;
         }
-        let row = row_at(rows, at);
-        if row.kind < kinds::RIGHT_PAREN {
-            return false;
-        }
-        if row.kind == kinds::LEFT_BRACKET {
+        let kind = row_at(rows, at).token_kind();
+        if kind as u32 <= Kind::LeftParen as u32 || kind == Kind::LeftBracket {
             return false;
         }
         if self.at_line_start {
@@ -86,7 +82,7 @@ impl Formatter {
             return false;
         }
         if self.in_broken_signature() {
-            return self.fn_state == 0;
+            return self.fn_state == FnState::Outside;
         }
         true
     }
@@ -102,23 +98,23 @@ impl Formatter {
         from: usize,
         bare: bool,
     ) -> FastTokens
-        requires stack_room { StackRoom self stack.now × (kind_of self.prev ≤ Other) }
+        requires stack_room { StackRoom self stack.now }
         requires len_in_bounds { (self.len ≤ length out.old) × CheckedRows rows.now text.now }
         requires token_boundary { TokenBoundary rows.now text.now from }
         requires no_trivia_if { NoTriviaIf bare rows.now }
         ensures { FastTokensLaidOut rows.now text.now from self.len
-            (kind_of self.prev) (fast_state_of self) (fast_kinds_of self stack.now)
+            (kind_number (unwrap_or self.prev Eof)) (fast_state_of self) (fast_kinds_of self stack.now)
             out.old out.new result }
     {
         let fast = self.fast_kinds(stack);
         let mut state = self.fast_state();
         let mut at = from;
         let mut len = self.len;
-        let mut prev = kind_of(self.prev);
+        let mut prev = self.prev.unwrap_or(Kind::Eof);
         let mut spaced = space_after(state.loose, prev);
         while is_fast_token(fast, rows, at, bare, out.len(), len, spaced) {
             let row = row_at(rows, at);
-            let kind = row.kind;
+            let kind = row.token_kind();
             let space = space_before(spaced, kind);
             let start = row.start as usize;
             let end = row.end as usize;
@@ -138,7 +134,7 @@ impl Formatter {
 
     // The state after fast tokens that end at `ahead`.
     pub fn after_fast_tokens(mut self, ahead: FastTokens) -> Self
-        ensures { ChangedBy (with_fast_state ahead.prev ahead.state) ahead.len self result }
+        ensures { ChangedBy (with_fast_state (kind_number ahead.prev) ahead.state) ahead.len self result }
     {
         let state = ahead.state;
         self.len = ahead.len;
@@ -152,15 +148,15 @@ impl Formatter {
 
     // The kinds that are fast in this state, as bits: a Comma where it does not break its line, `else` where
     // no `}` stands before it, `fn` outside broken signatures, `)` and `]` where nothing is broken.
-    fn fast_kinds(self, stack: &[u32]) -> u64
+    fn fast_kinds(self, stack: &[u32]) -> KindSet
         requires { StackRoom self stack.now }
-        ensures { result ≡ fast_kind_bits (fast_kinds_of self stack.now) }
+        ensures { result.0 ≡ fast_kind_bits (fast_kinds_of self stack.now) }
     {
         let commas = kinds_if(!self.breaks_comma(stack), COMMA);
-        let elses = kinds_if(!self.prev_is(kinds::RIGHT_BRACE), ELSE);
+        let elses = kinds_if(!self.prev_is(Kind::RightBrace), ELSE);
         let fns = kinds_if(!self.in_broken_signature(), FN);
         let closers = kinds_if(self.nothing_is_broken(), CLOSERS);
-        FAST + commas + elses + fns + closers
+        KindSet(FAST.0 + commas.0 + elses.0 + fns.0 + closers.0)
     }
 
     // Whether the walk is in no broken signature and in no broken list.
@@ -181,7 +177,7 @@ impl Formatter {
             record_pending: self.record_pending,
             changing: changing_kinds(self.fn_state, self.record_pending),
             prev_minus_is_unary: self.prev_minus_is_unary,
-            loose: loose_after(kinds::OTHER, self.prev_minus_is_unary),
+            loose: loose_after(Kind::Other, self.prev_minus_is_unary),
         }
     }
 }
@@ -189,7 +185,7 @@ impl Formatter {
 // Whether the row at `at` is a token of the kinds `fast`, without trivia, that fits after `len` of `size`
 // bytes. `spaced` is 1 where a space may stand before it, else 0.
 fn is_fast_token(
-    fast: u64,
+    fast: KindSet,
     rows: &[u8],
     at: usize,
     bare: bool,
@@ -200,17 +196,14 @@ fn is_fast_token(
     requires row_ahead { RowAhead rows.now at }
     requires no_trivia_if { NoTriviaIf bare rows.now }
     requires len_le_size { (len ≤ size) × (size < 2 ^ 63) × (spaced < 2) }
-    ensures { result ≡ true → IsFastToken rows.now fast at size len spaced }
+    ensures { result ≡ true → IsFastToken rows.now fast.0 at size len spaced }
 {
     if rows.len() <= at {
         return false;
     }
     let row = row_at(rows, at);
-    let kind = row.kind;
-    if (fast >> kind) % 2 == 0 {
-        return false;
-    }
-    if !is_bare_row(rows, at, bare) {
+    let kind = row.token_kind();
+    if !fast.contains(kind) || !is_bare_row(rows, at, bare) {
         return false;
     }
     has_room(
@@ -224,21 +217,21 @@ fn is_fast_token(
 
 // How many spaces stand before a fast token of this kind, where `spaced` many may: the kinds before Hash
 // (closers, separators and dots) take none.
-fn space_before(spaced: usize, kind: u32) -> usize
-    ensures { result ≡ space_before spaced kind }
+fn space_before(spaced: usize, kind: Kind) -> usize
+    ensures { result ≡ space_before spaced (kind_number kind) }
 {
-    if kind < kinds::HASH {
+    if (kind as u32) < Kind::Hash as u32 {
         return 0;
     }
     spaced
 }
 
 // The fields after a token of this kind, where the one before has the kind `prev`. Most kinds change none.
-fn fast_state_after(state: FastState, prev: u32, kind: u32) -> FastState
-    requires { Consistent state × (kind ≤ Other) }
-    ensures { result ≡ fast_state_after prev kind state }
+fn fast_state_after(state: FastState, prev: Kind, kind: Kind) -> FastState
+    requires { Consistent state }
+    ensures { result ≡ fast_state_after (kind_number prev) (kind_number kind) state }
 {
-    if (state.changing >> kind) % 2 == 0 {
+    if !state.changing.contains(kind) {
         return state;
     }
     let fn_state = fn_state_after(state.fn_state, kind);
@@ -250,83 +243,69 @@ fn fast_state_after(state: FastState, prev: u32, kind: u32) -> FastState
         record_pending,
         changing: changing_kinds(fn_state, record_pending),
         prev_minus_is_unary: unary,
-        loose: loose_after(kinds::OTHER, unary),
+        loose: loose_after(Kind::Other, unary),
     }
 }
 
 // The kinds that change a field, as bits: all, where `fn` or `record` is still looked back to.
-fn changing_kinds(fn_state: u8, record_pending: bool) -> u64
-    ensures { result ≡ changing_kinds fn_state record_pending }
+fn changing_kinds(fn_state: FnState, record_pending: bool) -> KindSet
+    ensures { result.0 ≡ changing_kinds fn_state record_pending }
 {
-    if record_pending {
-        return ALL;
+    if record_pending || fn_state != FnState::Outside {
+        return KindSet::ALL;
     }
-    if fn_state == 0 {
-        return CHANGING;
-    }
-    ALL
+    CHANGING
 }
 
 // `fn_state` after a fast token of this kind.
-fn fn_state_after(state: u8, kind: u32) -> u8
-    ensures { result ≡ fn_after kind state }
+fn fn_state_after(state: FnState, kind: Kind) -> FnState
+    ensures { result ≡ fn_after (kind_number kind) state }
 {
-    if kind == kinds::FN {
-        return 1;
+    match kind {
+        Kind::Fn => FnState::AfterFn,
+        Kind::Identifier => named_after(state),
+        _ => FnState::Outside,
     }
-    if kind == kinds::IDENTIFIER {
-        if state == 1 {
-            return 2;
-        }
-        return 0;
-    }
-    0
 }
 
 // `record_pending` after a fast token of this kind: only the last arm of `push_token` sets it.
-fn pending_after(pending: bool, kind: u32) -> bool
-    ensures { result ≡ pending_after kind pending }
+fn pending_after(pending: bool, kind: Kind) -> bool
+    ensures { result ≡ pending_after (kind_number kind) pending }
 {
-    if kind <= kinds::COMMA {
-        return pending;
-    }
-    if kind == kinds::ELSE {
+    if kind as u32 <= Kind::Comma as u32 || kind == Kind::Else {
         return pending;
     }
     record_pending_after(pending, kind)
 }
 
 // `prev_minus_is_unary` after a fast token of this kind, where the one before has the kind `prev`.
-fn unary_after(unary: bool, prev: u32, kind: u32) -> bool
-    ensures { result ≡ unary_after prev kind unary }
+fn unary_after(unary: bool, prev: Kind, kind: Kind) -> bool
+    ensures { result ≡ unary_after (kind_number prev) (kind_number kind) unary }
 {
-    if kind == kinds::MINUS {
-        return !is_value_kind(prev);
+    if kind == Kind::Minus {
+        return !is_value(prev);
     }
     unary
 }
 
 // `group_depth` after a fast token of this kind.
-fn group_depth_after(depth: usize, kind: u32) -> usize
-    ensures { result ≡ group_after kind depth }
+fn group_depth_after(depth: usize, kind: Kind) -> usize
+    ensures { result ≡ group_after (kind_number kind) depth }
 {
-    if kind == kinds::RIGHT_PAREN {
-        return depth.saturating_sub(1);
+    match kind {
+        Kind::RightParen | Kind::RightBracket => depth.saturating_sub(1),
+        _ => depth,
     }
-    if kind == kinds::RIGHT_BRACKET {
-        return depth.saturating_sub(1);
-    }
-    depth
 }
 
 // The set, or no kind.
-fn kinds_if(wanted: bool, set: u64) -> u64
-    ensures { (result ≡ cond wanted set 0) × (result ≤ set) }
+fn kinds_if(wanted: bool, set: KindSet) -> KindSet
+    ensures { (result.0 ≡ cond wanted set.0 0) × (result.0 ≤ set.0) }
 {
     if wanted {
         return set;
     }
-    0
+    KindSet(0)
 }
 
 // Whether the row at `at` is a token's without trivia. Where `bare` is true, every row is.
@@ -338,16 +317,14 @@ fn is_bare_row(rows: &[u8], at: usize, bare: bool) -> bool
     if bare {
         return true;
     }
-    let row = row_at(rows, at);
-    if row.what != kinds::TOKEN {
+    if !row_at(rows, at).is_token() {
         return false;
     }
     let next = at + ROW_BYTES;
     if rows.len() - next < ROW_BYTES {
         return true;
     }
-    let after = row_at(rows, next);
-    after.what != kinds::TRAILING
+    row_at(rows, next).what != What::Trailing as u32
 }
 
 // Whether the lexeme from `start` to `end` has a byte, and fits with the space before it after `len` of
@@ -361,11 +338,4 @@ fn has_room(size: usize, len: usize, space: usize, start: usize, end: usize) -> 
         return false;
     }
     len + space + (end - start) <= size
-}
-
-// The last token's kind; 0 where there is none.
-pub fn kind_of(prev: Option<u32>) -> u32
-    ensures { result ≡ kind_of prev }
-{
-    prev.unwrap_or(0)
 }

@@ -12,7 +12,7 @@ ghost use Rattle.formatter.specs.Format.{Fresh, CheckedRows, LaidOut, NextToken,
 
 use crate::token::{Place, ends_of, place_at, token_at};
 use crate::{Ends, Finished, Formatter, Options, STACK_SIZE, TokenAt, WalkError};
-use rows::{ROW_BYTES, kinds};
+use rows::{Kind, ROW_BYTES};
 
 impl Formatter {
     // Lays out all tokens of checked rows into `out`, and tells how that ends. Where `bare` is true, no row
@@ -95,20 +95,19 @@ impl Formatter {
             (code_state self stack.old out.old)
             (code_state result stack.new out.new)) }
     {
-        let kind = token.kind;
-        match kind {
-            kinds::EOF => self.eof_arm(),
-            kinds::NEWLINE => self.newline_arm(out, rows, token),
-            kinds::RIGHT_BRACE => self.right_brace_arm(options, out),
-            kinds::LEFT_BRACE => self.left_brace_arm(options, ends, out, rows, text, token),
-            kinds::LEFT_PAREN => self.left_paren_arm(options, ends, out, stack, rows, text, token),
-            kinds::LEFT_BRACKET => self.left_bracket_arm(
+        match token.kind {
+            Kind::Eof => self.eof_arm(),
+            Kind::Newline => self.newline_arm(out, rows, token),
+            Kind::RightBrace => self.right_brace_arm(options, out),
+            Kind::LeftBrace => self.left_brace_arm(options, ends, out, rows, text, token),
+            Kind::LeftParen => self.left_paren_arm(options, ends, out, stack, rows, text, token),
+            Kind::LeftBracket => self.left_bracket_arm(
                 options, ends, out, stack, rows, text, token,
             ),
-            kinds::RIGHT_PAREN => self.right_paren_arm(options, out, stack, rows, text, token),
-            kinds::RIGHT_BRACKET => self.right_bracket_arm(options, out, stack, rows, text, token),
-            kinds::COMMA => self.comma_arm(options, out, stack, rows, text, token),
-            kinds::ELSE => self.else_arm(options, out, rows, text, token, inline_close),
+            Kind::RightParen => self.right_paren_arm(options, out, stack, rows, text, token),
+            Kind::RightBracket => self.right_bracket_arm(options, out, stack, rows, text, token),
+            Kind::Comma => self.comma_arm(options, out, stack, rows, text, token),
+            Kind::Else => self.else_arm(options, out, rows, text, token, inline_close),
             _ => self.other_arm(options, out, rows, text, token),
         }
     }
@@ -130,17 +129,13 @@ impl Formatter {
         if self.break_count < STACK_SIZE {
             return false;
         }
-        let kind = token.kind;
-        if kind == kinds::LEFT_PAREN {
-            if self.at_signature() {
-                return false;
+        match token.kind {
+            Kind::LeftParen => {
+                !self.at_signature() && self.breaks_list(options, ends, rows, token)
             }
-            return self.breaks_list(options, ends, rows, token);
+            Kind::LeftBracket => self.breaks_list(options, ends, rows, token),
+            _ => false,
         }
-        if kind == kinds::LEFT_BRACKET {
-            return self.breaks_list(options, ends, rows, token);
-        }
-        false
     }
 
     // Whether the token has trailing trivia, and its arm does not return before them.
@@ -154,11 +149,10 @@ impl Formatter {
         if token.next == token.own + ROW_BYTES {
             return false;
         }
-        let kind = token.kind;
-        match kind {
-            kinds::LEFT_BRACE => !self.empties_record(rows, token),
-            kinds::RIGHT_PAREN => !self.closes_broken(stack),
-            kinds::RIGHT_BRACKET => !self.in_broken_list(stack),
+        match token.kind {
+            Kind::LeftBrace => !self.empties_record(rows, token),
+            Kind::RightParen => !self.closes_broken(stack),
+            Kind::RightBracket => !self.in_broken_list(stack),
             _ => true,
         }
     }
@@ -172,15 +166,12 @@ impl Formatter {
     {
         let at = token.next;
         let index = token.index + 1;
-        if token.kind == kinds::LEFT_BRACE {
-            if self.prev_is(kinds::RIGHT_BRACE) {
-                let taken = token_at(rows, at, index, bare);
-                return Place {
-                    at: taken.next,
-                    index: index + 1,
-                };
-            }
-            return Place { at, index };
+        if token.kind == Kind::LeftBrace && self.prev_is(Kind::RightBrace) {
+            let taken = token_at(rows, at, index, bare);
+            return Place {
+                at: taken.next,
+                index: index + 1,
+            };
         }
         Place { at, index }
     }

@@ -1,23 +1,24 @@
 // The arms of `else` and of all other tokens, `push_lexeme`, `emit_token_text` and `track_fn_state`.
 ghost use Rattle.std.specs.Prelude.{cond, ◌&&◌, ◌||◌, List, ◌≡◌, ℕ, ◌≤◌, ◌<◌, eqb};
-ghost use Rattle.rows.specs.Kinds.{Else, Record, Identifier, Other};
+ghost use Rattle.rows.specs.Kinds.{Else, Record, Identifier};
+ghost use Rattle.rows.specs.KindNumber.{kind_number};
 ghost use Rattle.definition.specs.Emit.{is_some, track_fn_state, track_minus, push_lexeme};
 ghost use Rattle.definition.specs.Arms.{else_arm, else_on_new_line, other_arm};
 ghost use Rattle.sink.specs.Tail.{tail_bytes};
 ghost use Rattle.sink.specs.Sink.{past_gap};
-ghost use Rattle.formatter.specs.CodeState.{Locals, code_state, fields_of, formatter_of};
+ghost use Rattle.formatter.specs.CodeState.{Locals, code_state, fields_of, fn_number, formatter_of};
 ghost use Rattle.formatter.specs.CodeState.{options_of, signature_of};
 ghost use Rattle.formatter.specs.Does.{Does, Puts};
-ghost use Rattle.formatter.specs.Token.{CanWriteLexeme, Ready, InRows, Kept};
-ghost use Rattle.formatter.specs.Token.{IndentBounds, AtToken, bare_token, lexeme_of, kind_of};
+ghost use Rattle.formatter.specs.Token.{CanWrite, Ready, InRows, Kept};
+ghost use Rattle.formatter.specs.Token.{IndentBounds, AtToken, bare_token, lexeme_of};
 ghost use Rattle.formatter.specs.Parts.{gap_size, indent_or_space_size, emit_tail};
 
-use crate::{Formatter, Options, TokenAt};
+use crate::{FnState, Formatter, Options, TokenAt};
 use row_writers::write_lexeme;
-use rows::kinds;
+use rows::Kind;
 use sink::write::{Tail, write_else};
-use spaces::between::{loose_after, spaces_between};
-use spaces::is_value_kind;
+use spaces::is_value;
+use spaces::loose::{loose_after, spaces_between};
 
 impl Formatter {
     // `else` starts a line after the `}` of a block over several lines, or is a lexeme like others.
@@ -32,7 +33,7 @@ impl Formatter {
         inline_close: bool,
     ) -> Self
         requires ready { Ready options self out.old }
-        requires in_rows { InRows token rows.now text.now × (token.kind ≡ Else) }
+        requires in_rows { InRows token rows.now text.now × (kind_number token.kind ≡ Else) }
         ensures { AtToken token rows.now text.now
             (λ t ts. (s : List ℕ) (x : Locals) → x.inline_close ≡ inline_close
             → Does (else_arm (options_of options) t) x (code_state self s out.old)
@@ -42,9 +43,9 @@ impl Formatter {
             let spaces = self.indent_size(options);
             self.len = write_else(out, self.len, spaces);
             self.at_line_start = false;
-            self.prev = Some(kinds::ELSE);
+            self.prev = Some(Kind::Else);
         } else {
-            self = self.push_lexeme(options, out, rows, text, token, kinds::ELSE);
+            self = self.push_lexeme(options, out, rows, text, token, Kind::Else);
         }
         self
     }
@@ -57,7 +58,7 @@ impl Formatter {
         !self.in_one_line_block()
             && !self.in_record
             && !inline_close
-            && self.prev_is(kinds::RIGHT_BRACE)
+            && self.prev_is(Kind::RightBrace)
     }
 
     // Any other token writes its lexeme. `record` sets `record_pending`, a name leaves it, anything else
@@ -89,12 +90,12 @@ impl Formatter {
         rows: &[u8],
         text: &[u8],
         token: TokenAt,
-        kind: u32,
+        kind: Kind,
     ) -> Self
-        requires can_write_lexeme { CanWriteLexeme options self out.old }
+        requires can_write_lexeme { CanWrite options self out.old }
         requires in_rows { InRows token rows.now text.now × (kind ≡ token.kind) }
         ensures does { Puts (push_lexeme (options_of options)
-            (bare_token kind (lexeme_of token rows.now text.now)))
+            (bare_token (kind_number kind) (lexeme_of token rows.now text.now)))
             self out.old result out.new }
         ensures kept { Kept self result }
     {
@@ -113,13 +114,13 @@ impl Formatter {
         rows: &[u8],
         text: &[u8],
         token: TokenAt,
-        kind: u32,
+        kind: Kind,
         tail: Tail,
     ) -> Self
-        requires can_write_lexeme { CanWriteLexeme options self out.old }
+        requires can_write_lexeme { CanWrite options self out.old }
         requires in_rows { InRows token rows.now text.now × (kind ≡ token.kind) }
         ensures does { Puts (emit_tail (options_of options)
-            (bare_token kind (lexeme_of token rows.now text.now)) (tail_bytes tail))
+            (bare_token (kind_number kind) (lexeme_of token rows.now text.now)) (tail_bytes tail))
             self out.old result out.new }
         ensures kept { Kept self result }
     {
@@ -131,10 +132,10 @@ impl Formatter {
     }
 
     // How many spaces stand before a token of this kind: the indent at a line's start, else one or none.
-    pub fn gap_before(self, options: Options, kind: u32) -> usize
-        requires indent_bounds { IndentBounds options self }
-        requires kind_bound { (kind_of self.prev ≤ Other) × (kind ≤ Other) }
-        ensures { (result ≡ gap_size (options_of options) kind (fields_of self)) × (result < past_gap) }
+    pub fn gap_before(self, options: Options, kind: Kind) -> usize
+        requires { IndentBounds options self }
+        ensures { (result ≡ gap_size (options_of options) (kind_number kind) (fields_of self))
+            × (result < past_gap) }
     {
         if self.at_line_start {
             return self.indent_size(options);
@@ -160,35 +161,33 @@ impl Formatter {
     }
 
     // `prev_minus_is_unary` after a token of this kind.
-    fn minus_is_unary_after(self, kind: u32) -> bool
-        ensures { result ≡ (track_minus kind (fields_of self)).prev_minus_is_unary }
+    fn minus_is_unary_after(self, kind: Kind) -> bool
+        ensures { result ≡ (track_minus (kind_number kind) (fields_of self)).prev_minus_is_unary }
     {
-        if kind == kinds::MINUS {
-            !self.prev.is_some_and(|prev| is_value_kind(prev))
+        if kind == Kind::Minus {
+            !self.prev.is_some_and(|prev| is_value(prev))
         } else {
             self.prev_minus_is_unary
         }
     }
 
-    // `fn_state` after a token of this kind, which tracks `fn name (`. The state 0, which is most frequent,
-    // is asked for first.
-    pub fn track_fn_state(self, kind: u32) -> u8
-        ensures { result ≡ (track_fn_state kind (fields_of self)).fn_state }
+    // `fn_state` after a token of this kind, which tracks `fn name (`. `Outside`, which is most frequent, is
+    // asked for first.
+    pub fn track_fn_state(self, kind: Kind) -> FnState
+        ensures { fn_number result ≡ (track_fn_state (kind_number kind) (fields_of self)).fn_state }
     {
         let state = self.fn_state;
-        if kind != kinds::FN {
-            if state == 0 {
-                return 0;
-            }
+        if kind != Kind::Fn && state == FnState::Outside {
+            return FnState::Outside;
         }
         if self.in_broken_signature() {
             return state;
         }
         match kind {
-            kinds::FN => 1,
-            kinds::IDENTIFIER => named_after(state),
-            kinds::NEWLINE => state,
-            _ => 0,
+            Kind::Fn => FnState::AfterFn,
+            Kind::Identifier => named_after(state),
+            Kind::Newline => state,
+            _ => FnState::Outside,
         }
     }
 
@@ -200,26 +199,21 @@ impl Formatter {
     }
 }
 
-// `fn_state` after a name: 2 where `fn` stands before it.
-fn named_after(state: u8) -> u8
-    ensures { result ≡ cond (eqb state 1) 2 0 }
+// `fn_state` after a name, by whether `fn` stands before it.
+pub fn named_after(state: FnState) -> FnState
+    ensures { fn_number result ≡ cond (eqb (fn_number state) 1) 2 0 }
 {
-    if state == 1 {
-        return 2;
+    match state {
+        FnState::AfterFn => FnState::Named,
+        _ => FnState::Outside,
     }
-    0
 }
 
 // Answers whether a record is pending after a token of the kind: `record` arms the record layout, a name
 // leaves it armed, anything else disarms it.
-pub fn record_pending_after(pending: bool, kind: u32) -> bool
-    ensures { result ≡ eqb kind Record || (eqb kind Identifier && pending) }
+pub fn record_pending_after(pending: bool, kind: Kind) -> bool
+    ensures { result ≡ eqb (kind_number kind) Record
+        || (eqb (kind_number kind) Identifier && pending) }
 {
-    if kind == kinds::RECORD {
-        return true;
-    }
-    if kind == kinds::IDENTIFIER {
-        return pending;
-    }
-    false
+    kind == Kind::Record || kind == Kind::Identifier && pending
 }

@@ -5,6 +5,7 @@
 
 ghost use Rattle.std.specs.Prelude.{List, ◌≡◌, ℕ, ◌+◌, ◌*◌, ◌≤◌, ◌<◌, length};
 ghost use Rattle.shared.specs.Numbers.{most32};
+ghost use Rattle.rows.specs.KindNumber.{kind_number};
 ghost use Rattle.definition.specs.Emit.{is_at};
 ghost use Rattle.definition.specs.Arms.{at_record_fields, in_broken_list, in_one_line_block};
 ghost use Rattle.sink.specs.Sink.{past_gap};
@@ -21,6 +22,19 @@ pub mod lexeme;
 pub mod lines;
 pub mod token;
 pub mod trivia;
+
+use rows::Kind;
+
+// How far the walk has come in `fn name (`: `fn_state`, a number in format.rs.
+#[derive(Clone, Copy, Debug, PartialEq, Eq)]
+pub enum FnState {
+    // 0: it is in no such place.
+    Outside,
+    // 1: `fn` stands before.
+    AfterFn,
+    // 2: `fn` and a name stand before.
+    Named,
+}
 
 // Four counts have a type of their own each, so that none is taken for another. This one says how many parens
 // are open in a broken signature.
@@ -61,7 +75,7 @@ pub struct Options {
 // where its trailing rows end.
 #[derive(Clone, Copy)]
 pub struct TokenAt {
-    pub kind: u32,
+    pub kind: Kind,
     pub index: u32,
     pub lead: usize,
     pub own: usize,
@@ -85,7 +99,7 @@ pub struct Ends {
 // (docs/BENCHMARKS.md); the order of format.rs takes a tenth more.
 #[derive(Clone, Copy)]
 pub struct Formatter {
-    pub fn_state: u8,
+    pub fn_state: FnState,
     pub inline_depth: InlineDepth,
     pub in_record: bool,
     pub just_closed_inline: bool,
@@ -100,7 +114,7 @@ pub struct Formatter {
     pub suppress_newline_at: Option<u32>,
     pub group_depth: GroupDepth,
     pub break_count: usize,
-    pub prev: Option<u32>,
+    pub prev: Option<Kind>,
 }
 
 // How many numbers the broken-group stack holds.
@@ -128,7 +142,7 @@ impl Formatter {
         ensures { (stack : List ℕ) → stack_size ≤ length stack → Fresh result stack }
     {
         Formatter {
-            fn_state: 0,
+            fn_state: FnState::Outside,
             inline_depth: InlineDepth(0),
             in_record: false,
             just_closed_inline: false,
@@ -150,8 +164,8 @@ impl Formatter {
     // ---- tests that several arms make
 
     // Whether the last token has this kind.
-    pub fn prev_is(self, kind: u32) -> bool
-        ensures { result ≡ is_at (prev_of self.prev) kind }
+    pub fn prev_is(self, kind: Kind) -> bool
+        ensures { result ≡ is_at (prev_of self.prev) (kind_number kind) }
     {
         self.prev == Some(kind)
     }

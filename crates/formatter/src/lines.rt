@@ -12,7 +12,7 @@ ghost use Rattle.formatter.specs.Parts.{feeds_line};
 
 use crate::{Formatter, TokenAt};
 use lookahead::next_has_comment;
-use rows::{ROW_BYTES, kinds};
+use rows::{Kind, ROW_BYTES};
 use sink::write::write_byte;
 
 impl Formatter {
@@ -34,7 +34,7 @@ impl Formatter {
         } else if self.feeds(out, &rows[token.own + ROW_BYTES..]) {
             self.len = write_byte(out, self.len, b'\n');
             self.at_line_start = true;
-            self.prev = Some(kinds::NEWLINE);
+            self.prev = Some(Kind::Newline);
         }
         self
     }

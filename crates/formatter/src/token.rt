@@ -1,12 +1,13 @@
 // Which rows are a token's, and what all rows tell.
 ghost use Rattle.std.specs.Prelude.{◌≡◌, ◌+◌, ◌-◌, ◌*◌, ◌/◌, ◌≤◌, length, drop};
 ghost use Rattle.rows.specs.Checks.{most_rows, most_row_bytes};
+ghost use Rattle.rows.specs.KindNumber.{what_number};
 ghost use Rattle.rows.specs.Row.{row_size, rows_of};
 ghost use Rattle.formatter.specs.Format.{Ending, NextToken, TokenRows, run_rows, own_row, next_row};
 
 use crate::{Ends, TokenAt};
 use lookahead::{after_last, total_width};
-use rows::{ROW_BYTES, kinds, number_at, row_at};
+use rows::{Kind, ROW_BYTES, What, row_at};
 
 // Where a token's rows start, and its index among the tokens.
 #[derive(Clone, Copy)]
@@ -31,8 +32,8 @@ pub fn token_at(rows: &[u8], lead: usize, index: u32, bare: bool) -> TokenAt
     if bare {
         return token_of(rows, lead, lead, lead + ROW_BYTES, index);
     }
-    let own = rows_end(rows, lead, kinds::LEADING);
-    let next = rows_end(rows, own + ROW_BYTES, kinds::TRAILING);
+    let own = rows_end(rows, lead, What::Leading);
+    let next = rows_end(rows, own + ROW_BYTES, What::Trailing);
     token_of(rows, lead, own, next, index)
 }
 
@@ -43,7 +44,7 @@ fn token_of(rows: &[u8], lead: usize, own: usize, next: usize, index: u32) -> To
     ensures { TokenRows rows.now lead index result }
 {
     TokenAt {
-        kind: number_at(rows, own + 4),
+        kind: row_at(rows, own).token_kind(),
         index,
         lead,
         own,
@@ -52,14 +53,13 @@ fn token_of(rows: &[u8], lead: usize, own: usize, next: usize, index: u32) -> To
 }
 
 // Returns the index after the rows of this what that start at `at`.
-fn rows_end(rows: &[u8], at: usize, what: u32) -> usize
+fn rows_end(rows: &[u8], at: usize, what: What) -> usize
     requires { at ≤ length rows.now }
-    ensures { result ≡ at + row_size * run_rows what (rows_of (drop at rows.now)) }
+    ensures { result ≡ at + row_size * run_rows (what_number what) (rows_of (drop at rows.now)) }
 {
     let mut end = at;
     while ROW_BYTES <= rows.len() - end {
-        let row = row_at(rows, end);
-        if row.what != what {
+        if row_at(rows, end).what != what as u32 {
             return end;
         }
         end += ROW_BYTES;
@@ -80,8 +80,8 @@ pub fn ends_of(rows: &[u8], list_width: u32) -> Ends
             width: 0,
         };
     }
-    let commas = after_last(rows, kinds::COMMA);
-    let braces = after_last(rows, kinds::RIGHT_BRACE);
+    let commas = after_last(rows, Kind::Comma as u32);
+    let braces = after_last(rows, Kind::RightBrace as u32);
     if list_width < WIDE {
         return Ends {
             commas,

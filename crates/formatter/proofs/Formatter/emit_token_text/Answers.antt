@@ -1,6 +1,7 @@
 -- `formatter::Formatter::emit_token_text` meets its contract. Assumes nothing.
 use mathlib.Core.Path.{refl}
 use Rattle.sink.specs.Tail.{tail_bytes}
+use Rattle.rows.specs.KindNumber.{kind_number}
 use Rattle.formatter.specs.CodeState.{options_of}
 use Rattle.formatter.specs.Token.{bare_token, lexeme_of}
 use Rattle.formatter.proofs.Lexemes.{emitted}
@@ -9,7 +10,7 @@ use Rattle.formatter.proofs.Formatter.emit_token_text.Goals as goal
 pub returns : goal.returns
 returns c =
     let a = c.args in
-    let t = bare_token a.kind (lexeme_of a.token a.rows.now a.text.now) in
+    let t = bare_token (kind_number a.kind) (lexeme_of a.token a.rows.now a.text.now) in
     record {
       does = λ s x. emitted (options_of a.options) t (tail_bytes a.tail) refl refl c.gap_before-gap.ensures.0 c.write_lexeme.ensures;
       kept = record { indent = refl; group = refl; count = refl };

@@ -11,7 +11,7 @@ use Rattle.formatter.proofs.Place.{next_token}
 use Rattle.formatter.specs.CodeState.{options_of}
 use Rattle.shared.specs.Report.{deep, full}
 use Rattle.formatter.proofs.Formatter.format.Goals as goal
-use Rattle.formatter.proofs.Formatter.format.Goals.{After-next_place-place, After-token_at-token, After-track_fn_state, Joined-token, then-token, else-token+else-out-self, then-trails, else-trails}
+use Rattle.formatter.proofs.Formatter.format.Goals.{After-next_place-place, After-token_at-token, After-track_fn_state-self, Joined-token, then-token, else-token+else-out-self, then-trails, else-trails}
 
 -- What is known of the token, from the loop's head and from its call of `token_at`.
 abbrev KnownAt : After-token_at-token → Type 0
@@ -35,16 +35,16 @@ leading c =
     ]
 
 -- What the calls of the turn say, after the leading trivia.
-abbrev CallsAt : After-track_fn_state → Type 0
+abbrev CallsAt : After-track_fn_state-self → Type 0
 CallsAt c =
     let a = c.args in
     let l = c.loop-place in
     let p = c.push_token-self in
     Calls a.options a.rows.now a.text.now c.token_at-token.result l.self l.stack c.if-token.self c.if-token.out
     c.overflows.result c.takes_inline_close-inline_close.result c.writes_trailing-trails.result
-    p.result p.new.stack p.new.out c.if-trails.self c.if-trails.out c.track_fn_state.result
+    p.result p.new.stack p.new.out c.if-trails.self c.if-trails.out c.track_fn_state-self.result
 
-calls : (c : After-track_fn_state) → CallsAt c
+calls : (c : After-track_fn_state-self) → CallsAt c
 calls c =
     record {
       overflow = c.overflows.ensures _ _;
@@ -56,7 +56,7 @@ calls c =
         | then-trails w ↦ written w.if-trails.true w.push_trailing-self.ensures w.self-is w.out-is
         | else-trails w ↦ left_out w.if-trails.false w.self-is w.out-is
       ];
-      tracked = c.track_fn_state.ensures;
+      tracked = c.track_fn_state-self.ensures;
     }
 
 -- The invariant holds at the next place.
@@ -65,14 +65,14 @@ PlacedAt c =
     let a = c.args in
     let n = c.next_place-place.result in
     Placed a.rows.now a.text.now (options_of a.options) a.stack.now a.out.now n.index n.at
-    (with_fn_state c.track_fn_state.result c.if-trails.self) c.push_token-self.new.stack c.if-trails.out a.bare
+    (with_fn_state c.track_fn_state-self.result c.if-trails.self) c.push_token-self.new.stack c.if-trails.out a.bare
 
 at_place : (c : After-next_place-place) → PlacedAt c
 at_place c =
     let a = goal.at.may_start_fast_tokens-requires c in
     record {
       checked = c.requires.checked_rows;
-      loop = placed (known a.After-token_at-token) (leading a.Joined-token) (calls a.After-track_fn_state) c.if-out-self-2.false c.push_token-self.auto.stack c.next_place-place.ensures;
+      loop = placed (known a.After-token_at-token) (leading a.Joined-token) (calls a.After-track_fn_state-self) c.if-out-self-2.false c.push_token-self.auto.stack c.next_place-place.ensures;
       only = c.requires.no_trivia_if;
     }
 
@@ -80,7 +80,7 @@ at_place c =
 is_further : (c : After-next_place-place) → c.loop-place.place.at < c.next_place-place.result.at
 is_further c =
     let a = goal.at.may_start_fast_tokens-requires c in
-    further (known a.After-token_at-token) (leading a.Joined-token) (calls a.After-track_fn_state) c.if-out-self-2.false c.push_token-self.auto.stack c.next_place-place.ensures
+    further (known a.After-token_at-token) (leading a.Joined-token) (calls a.After-track_fn_state-self) c.if-out-self-2.false c.push_token-self.auto.stack c.next_place-place.ensures
 
 -- ---- the answers
 
@@ -166,7 +166,7 @@ push_trailing-self-requires c = trail_rows (known (goal.at.push_trailing-self-re
 pub shape_of-out-then-out-self-2 : goal.shape_of-out-then-out-self-2
 shape_of-out-then-out-self-2 c =
     let a = goal.at.shape_of-out-then-out-self-2 c in
-    turn-size (known a.After-token_at-token) (leading a.Joined-token) (calls a.After-track_fn_state)
+    turn-size (known a.After-token_at-token) (leading a.Joined-token) (calls a.After-track_fn_state-self)
 
 pub shape_of-stack-then-out-self-2 : goal.shape_of-stack-then-out-self-2
 shape_of-stack-then-out-self-2 c = c.push_token-self.auto.stack ∙ c.loop-place.invariant.going.lent
@@ -176,7 +176,7 @@ returns-then-out-self-2 c =
     let a = goal.at.returns-then-out-self-2 c in
     let θ = known a.After-token_at-token in
     let ν = leading a.Joined-token in
-    let κ = calls a.After-track_fn_state in
+    let κ = calls a.After-track_fn_state-self in
     (laid_stopped full (full-turn θ ν κ c.if-out-self-2.true) (turn-size θ ν κ))
 
 pub next_place-place-requires : goal.next_place-place-requires
@@ -184,7 +184,7 @@ next_place-place-requires c =
     let a = goal.at.next_place-place-requires c in
     let θ = known a.After-token_at-token in
     let ν = leading a.Joined-token in
-    let κ = calls a.After-track_fn_state in
+    let κ = calls a.After-track_fn_state-self in
     record {
       next_in_bounds = next-bounds θ ν κ c.if-out-self-2.false c.push_token-self.auto.stack;
       next_token = next_there_too θ ν κ c.if-out-self-2.false c.push_token-self.auto.stack c.requires.no_trivia_if;

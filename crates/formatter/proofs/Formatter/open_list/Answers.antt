@@ -4,6 +4,7 @@ use Prim.Native.Nat.{◌<◌}
 use native.Mathlib.Omega.{arith}
 use lib.ListN.{length}
 use Rattle.sink.proofs.Sink.{nothing}
+use Rattle.rows.specs.KindNumber.{kind_number}
 use Rattle.formatter.specs.CodeState.{options_of}
 use Rattle.formatter.specs.Token.{bare_token, lexeme_of}
 use Rattle.formatter.proofs.Does.{updated}
@@ -25,7 +26,7 @@ returns c = λ few x.
     let k = e.ensures.kept.count in
     let room : e.result.break_count < length a.stack.now = omega arith in
     list_opens (options_of a.options) a.token.index
-    (bare_token a.kind (lexeme_of a.token a.rows.now a.text.now)) (e.ensures.does _ x)
+    (bare_token (kind_number a.kind) (lexeme_of a.token a.rows.now a.text.now)) (e.ensures.does _ x)
     (updated
     (sym
     (rw

@@ -7,20 +7,20 @@ use Rattle.formatter.proofs.Formatter.writes_trailing.Goals as goal
 pub returns-then-token : goal.returns-then-token
 returns-then-token c = λ text t ts σ. let e = c.if-token.true in rw (le-ltb (c.args.token.own + 16) c.args.token.next (omega arith))
 
-pub returns-in-2 : goal.returns-in-2
-returns-in-2 c = λ text t ts σ.
+pub returns-in-LeftBrace : goal.returns-in-LeftBrace
+returns-in-LeftBrace c = λ text t ts σ.
     let n = c.if-token.false in
     rw
-    (lt-ltb (c.args.token.own + 16) c.args.token.next (omega (arith, n, c.requires.row_size_bound.0)), σ.kind, c.in-2.is, c.empties_record.ensures text t ts σ)
+    (lt-ltb (c.args.token.own + 16) c.args.token.next (omega (arith, n, c.requires.row_size_bound.0)), σ.kind, c.in-LeftBrace.is, c.empties_record.ensures text t ts σ)
 
-pub returns-in-5 : goal.returns-in-5
-returns-in-5 c = λ text t ts σ.
+pub returns-in-RightParen : goal.returns-in-RightParen
+returns-in-RightParen c = λ text t ts σ.
     let n = c.if-token.false in
     rw
-    (lt-ltb (c.args.token.own + 16) c.args.token.next (omega (arith, n, c.requires.row_size_bound.0)), σ.kind, c.in-5.is, c.closes_broken.ensures)
+    (lt-ltb (c.args.token.own + 16) c.args.token.next (omega (arith, n, c.requires.row_size_bound.0)), σ.kind, c.in-RightParen.is, c.closes_broken.ensures)
 
-pub returns-in-7 : goal.returns-in-7
-returns-in-7 c = λ text t ts σ.
+pub returns-in-RightBracket : goal.returns-in-RightBracket
+returns-in-RightBracket c = λ text t ts σ.
     let n = c.if-token.false in
     rw
-    (lt-ltb (c.args.token.own + 16) c.args.token.next (omega (arith, n, c.requires.row_size_bound.0)), σ.kind, c.in-7.is, c.in_broken_list.ensures)
+    (lt-ltb (c.args.token.own + 16) c.args.token.next (omega (arith, n, c.requires.row_size_bound.0)), σ.kind, c.in-RightBracket.is, c.in_broken_list.ensures)
