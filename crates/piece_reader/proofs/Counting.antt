@@ -1,19 +1,24 @@
 -- The loop of `count_pieces`; and the number it counts is what `read_pieces` reads, where there is room. Assumes nothing.
 use mathlib.Core.List.{List}
-use mathlib.Core.Path.{◌≡◌, refl, sym, ap, subst, ◌∙◌}
-use Prim.Native.Nat.{ℕ, suc, ◌+◌, ◌*◌, ◌≤◌, ◌<◌}
+use mathlib.Core.Path.{◌≡◌, refl, sym, ap, ◌∙◌}
+use Prim.Native.Nat.{ℕ, suc, ◌+◌, ◌*◌, ◌≤◌}
 use native.Mathlib.Numerals.{add-one}
 use native.Mathlib.Omega.{arith}
 use lib.ListN.{length}
+use Rattle.std.specs.Prelude.{None, Some, Result, Ok, Err}
+use Rattle.std.specs.Result.{IsErrAnd}
 use borrow.Author.Tests.{le-leb}
 use Rattle.shared.specs.Numbers.{most32}
 use Rattle.shared.specs.Report.{success}
 use Rattle.pieces.specs.Answer.{reported, answer_from, read_answer}
 use Rattle.pieces.specs.Reading.{Reading, done, refused, piece, reading, read_from}
 use Rattle.pieces.specs.Next.{next}
-use Rattle.pieces.proofs.Resume.{first}
-use Rattle.piece_reader.specs.Reader.{end_of, count_from, count_answer}
-use Rattle.piece_reader.specs.Steps.{piece_end, counted}
+use Rattle.pieces.specs.declared.Piece.{Piece}
+use Rattle.pieces.specs.declared.ReadError.{ReadError}
+use Rattle.pieces.specs.declared.ReadError.TheVariants as error
+use Rattle.pieces.specs.declared.Unreadable.{Unreadable}
+use Rattle.pieces.proofs.Resume.{First, first, next-first, next-done, next-refused}
+use Rattle.piece_reader.specs.Reader.{count_from, count_answer}
 
 -- n pieces were counted, and the text is read from `at` on
 pub record Counts (text : List ℕ) (at n : ℕ) : Type 0 where
@@ -25,38 +30,25 @@ pub start : (text : List ℕ) → Counts text 0 0
 unfolding count_answer
 start text = record { answer = refl; few = omega arith; within = omega arith }
 
-module _ (text : List ℕ) (at n : ℕ) (σ : Counts text at n) where
-  abbrev ending : Reading → ℕ
-  ending r = end_of at (next r)
-
-  pub end-within : piece_end text at ≤ length text
-  end-within = go (read_from text at) refl
-    where
-      go : (r : Reading) → read_from text at ≡ r → piece_end text at ≤ length text
-      go done h = omega (arith, σ.within, ap ending h)
-      go (refused i) h = omega (arith, σ.within, ap ending h)
-      go (piece s e r) h = omega (arith, (first text at h).within, ap ending h)
-
-  pub more : at < piece_end text at → Counts text (piece_end text at) (n + 1)
+module _ {text : List ℕ} {at n : ℕ} (σ : Counts text at n) where
+  pub finished : Ok None ≡ next (read_from text at) → reported (Ok n) ≡ count_answer text
   unfolding count_from
-  more less = go (read_from text at) refl
-    where
-      go : (r : Reading) → read_from text at ≡ r → Counts text (piece_end text at) (n + 1)
-      go done h = absurd (omega (arith, less, ap ending h))
-      go (refused i) h = absurd (omega (arith, less, ap ending h))
-      go (piece s e r) h =
-          let φ = first text at h in
-          subst (λ i. Counts text i (n + 1)) (sym (ap ending h))
-          (record { answer = σ.answer ∙ rw (φ.reads, add-one); few = omega (arith, σ.few, φ.after, φ.some); within = φ.within })
+  finished h = sym (σ.answer ∙ rw (next-done (read_from text at) h))
 
-  pub over : (at < piece_end text at → ⊥) → reported (counted n (next (read_from text at))) ≡ count_answer text
+  pub unread : {u : Unreadable} (a : Result ℕ ReadError) → IsErrAnd a (λ e. e ≡ error.Unreadable u.index) → Err u ≡ next (read_from text at) → reported a ≡ count_answer text
   unfolding count_from
-  over none = sym (σ.answer ∙ go (read_from text at) refl)
-    where
-      go : (r : Reading) → read_from text at ≡ r → count_from n (read_from text at) ≡ reported (counted n (next (read_from text at)))
-      go done h = rw h
-      go (refused i) h = rw h
-      go (piece s e r) h = let φ = first text at h in absurd (none (omega (arith, φ.after, φ.some, ap ending h)))
+  unread (Ok m) k h = absurd k
+  unread (Err e) k h = rw k (sym (σ.answer ∙ rw (next-refused (read_from text at) h)))
+
+  module _ {p : Piece} (h : Ok (Some p) ≡ next (read_from text at)) where
+    pub head : First text at p.start p.end
+    head = next-first text at h
+
+    pub more : Counts text p.end (n + 1)
+    unfolding count_from
+    more = record { answer = σ.answer ∙ rw (head.reads, add-one); few = omega (arith, σ.few, head.after, head.some); within = head.within }
+
+pub ruleset counting = (start, finished)
 
 -- n is at least what was counted already
 least : (r : Reading) (k n : ℕ) → count_from k r ≡ success n 0 0 → k ≤ n

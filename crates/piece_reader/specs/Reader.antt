@@ -1,22 +1,22 @@
 -- The reader of pieces, step by step, and the number of a text's pieces.
 -- Assumes nothing.
-use Rattle.std.specs.Prelude.{List, ℕ, suc}
+use Rattle.std.specs.Prelude.{List, ℕ, suc, Option, None, Some, Result, Ok, Err}
 use Rattle.shared.specs.Report.{Report, success, refuse, unreadable}
-use Rattle.pieces.specs.declared.Next.{Next}
-use Rattle.pieces.specs.declared.Next.TheVariants.{Piece, End, Unreadable}
+use Rattle.pieces.specs.declared.Piece.{Piece}
+use Rattle.pieces.specs.declared.Unreadable.{Unreadable}
 use Rattle.pieces.specs.Reading.{Reading, done, refused, piece, reading, read_from}
 use Rattle.pieces.specs.Next.{next}
 use Rattle.piece_reader.specs.declared.PieceReader.{PieceReader}
 
 -- What stands next in the reader's text.
-abbrev pub found : PieceReader → Next
+abbrev pub found : PieceReader → Result (Option Piece) Unreadable
 found r = next (read_from r.text.now r.at)
 
 -- The end of the piece, where a piece is next, or the index itself.
-abbrev pub end_of : ℕ → Next → ℕ
-end_of at (Piece s e) = e
-end_of at End = at
-end_of at (Unreadable i) = at
+abbrev pub end_of : ℕ → Result (Option Piece) Unreadable → ℕ
+end_of at (Ok (Some p)) = p.end
+end_of at (Ok None) = at
+end_of at (Err u) = at
 
 -- The reader after the piece that is next, or the same reader.
 abbrev pub advanced : PieceReader → PieceReader

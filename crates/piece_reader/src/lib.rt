@@ -5,27 +5,25 @@
 ghost use Rattle.std.specs.Prelude.{◌≡◌};
 ghost use Rattle.pieces.specs.Answer.{reported};
 ghost use Rattle.piece_reader.specs.Reader.{found, advanced, count_answer};
-ghost use Rattle.piece_reader.specs.Steps.{piece_end, counted};
 
-use pieces::{Answer, Next, next_piece};
+use pieces::{Piece, ReadError, Unreadable, next_piece};
 
 // Counts the pieces of `text`, or says where it is unreadable.
-pub fn count_pieces(text: &[u8]) -> Answer
+#[tactic(auto, using(crate::proofs::Counting::counting))]
+pub fn count_pieces(text: &[u8]) -> Result<usize, ReadError>
     ensures { reported result ≡ count_answer text.now }
 {
     let mut reader = PieceReader { text, at: 0 };
-    let mut after = reader.advance();
     let mut n = 0;
-    while reader.at < after.at {
-        reader = after;
+    while let Some(piece) = reader.peek()? {
+        reader.at = piece.end;
         n += 1;
-        after = reader.advance();
     }
-    counted(n, reader.peek())
+    Ok(n)
 }
 
 // A text, and the index of the byte from which it is read on.
-#[derive(Clone, Copy)]
+#[derive(Clone, Copy, Debug, PartialEq, Eq)]
 pub struct PieceReader<'a> {
     pub text: &'a [u8],
     pub at: usize,
@@ -33,7 +31,7 @@ pub struct PieceReader<'a> {
 
 impl<'a> PieceReader<'a> {
     // What stands next: a piece, the text's end, or what cannot be read. The reader stays.
-    pub fn peek(self) -> Next
+    pub fn peek(self) -> Result<Option<Piece>, Unreadable>
         ensures { result ≡ found self.entry }
     {
         next_piece(self.text, self.at)
@@ -43,31 +41,12 @@ impl<'a> PieceReader<'a> {
     pub fn advance(self) -> PieceReader<'a>
         ensures { result ≡ advanced self.entry }
     {
-        PieceReader {
-            text: self.text,
-            at: piece_end(self.text, self.at),
+        match self.peek() {
+            Ok(Some(piece)) => PieceReader {
+                at: piece.end,
+                ..self
+            },
+            Ok(None) | Err(_) => self,
         }
-    }
-}
-
-// The index where the next piece ends, or `at` where no piece is next.
-fn piece_end(text: &[u8], at: usize) -> usize
-    ensures { result ≡ piece_end text.now at }
-{
-    match next_piece(text, at) {
-        Next::Piece { start: _, end } => end,
-        Next::End => at,
-        Next::Unreadable { index: _ } => at,
-    }
-}
-
-// The answer where `n` pieces were read and no further one is next.
-fn counted(n: usize, next: Next) -> Answer
-    ensures { result ≡ counted n next }
-{
-    match next {
-        Next::Piece { start: _, end: _ } => Answer::Pieces { count: n },
-        Next::End => Answer::Pieces { count: n },
-        Next::Unreadable { index } => Answer::Unreadable { index },
     }
 }

@@ -1,5 +1,5 @@
--- The loop of `read_pieces`: the pieces so far stand first in the slice, and what is left to read completes the answer. Assumes nothing.
-use mathlib.Core.Bool.{Bool, true, false, cond}
+-- The loop of `read_into`: the pieces so far stand first in the slice, and what is left to read completes the answer. Assumes nothing.
+use mathlib.Core.Bool.{true, false}
 use mathlib.Core.List.{List, [], ◌∷◌, ◌++◌, append_assoc, append-nil}
 use mathlib.Core.Path.{◌≡◌, refl, sym, ap, ◌∙◌}
 use Prim.Native.Nat.{ℕ, suc, ◌+◌, ◌*◌, ◌≤◌}
@@ -7,14 +7,16 @@ use native.Mathlib.Numerals.{add-one}
 use native.Mathlib.Omega.{arith}
 use lib.ListN.{length, get_or, drop, set, length-append, length-drop}
 use lib.Seq.{drop-cons, set_at}
-use Rattle.shared.specs.Report.{Report, success, refuse, accepted, zeroed, unreadable, pieces_full}
+use Rattle.shared.specs.Report.{zeroed}
 use Rattle.shared.proofs.Logic.{and_left}
 use borrow.Author.Tests.{leb-true}
 use lib.Dec.{leb}
-use Rattle.pieces.specs.declared.Answer.{Answer}
-use Rattle.pieces.specs.declared.Answer.TheVariants.{Pieces, Unreadable, PiecesFull}
-use Rattle.pieces.specs.declared.Next.TheVariants.{Piece, End}
-use Rattle.pieces.specs.declared.Next.TheVariants
+use Rattle.std.specs.Prelude.{None, Some, Result, Ok, Err, is_err}
+use Rattle.std.specs.Result.{IsErrAnd}
+use Rattle.pieces.specs.declared.Piece.{Piece}
+use Rattle.pieces.specs.declared.ReadError.{ReadError}
+use Rattle.pieces.specs.declared.ReadError.TheVariants as error
+use Rattle.pieces.specs.declared.Unreadable.{Unreadable}
 use Rattle.pieces.specs.Reading.{reading, read_from}
 use Rattle.pieces.specs.Next.{next}
 use Rattle.pieces.specs.Answer.{reported, fits, answer_from, numbers, read_answer, read_slots}
@@ -34,14 +36,12 @@ pub start : (text xs : List ℕ) → State text xs xs 0 0
 unfolding read_answer
 start text xs = record { stored = []; size = refl; room = omega arith; slots = refl; answer = refl; left = refl }
 
--- the answer a and the slice ys at the end
-pub record Answered (text xs₀ : List ℕ) (a : Answer) (ys : List ℕ) : Type 0 where
-  pub report : reported a ≡ read_answer text (length xs₀)
-  pub slice : ys ≡ read_slots text xs₀
-
-refused_slots : (text xs₀ : List ℕ) (r : Report) → read_answer text (length xs₀) ≡ r → accepted r ≡ false → zeroed xs₀ ≡ read_slots text xs₀
+-- after a refusal the slice is zeroed
+pub refused_slots : (text xs₀ : List ℕ) (a : Result ℕ ReadError) {ys : List ℕ} → reported a ≡ read_answer text (length xs₀) → is_err a ≡ true → ys ≡ zeroed xs₀ → ys ≡ read_slots text xs₀
 unfolding read_slots
-refused_slots text xs₀ r e f = rw (e, f)
+refused_slots text xs₀ (Ok n) h e z = cc
+refused_slots text xs₀ (Err (error.Unreadable i)) h e z = z ∙ rw (← h)
+refused_slots text xs₀ (Err (error.PiecesFull s)) h e z = z ∙ rw (← h)
 
 -- one more piece after those stored
 put-at : (p : List ℕ) (x y : ℕ) (zs : List ℕ) (n s e : ℕ) → length p ≡ 2 * n → put (p ++ x ∷ y ∷ zs) n s e ≡ p ++ (s ∷ e ∷ []) ++ zs
@@ -59,45 +59,42 @@ module _ {text xs₀ xs : List ℕ} {at n : ℕ} (σ : State text xs₀ xs at n)
   pub sized : length xs ≡ length xs₀
   sized = omega (arith, ap length σ.slots, length-append σ.stored (drop (2 * n) xs₀), length-drop (2 * n) xs₀, σ.size, σ.room)
 
-  pub finished : End ≡ next (read_from text at) → Answered text xs₀ (Pieces n) xs
-  unfolding answer_from numbers read_slots
-  finished h =
-      let d = next-done (read_from text at) h in
-      let a : read_answer text (length xs₀) ≡ success n 0 0 = σ.answer ∙ rw d in
-      let l : numbers (reading text) ≡ σ.stored = σ.left ∙ rw (d, append-nil) in
-      record { report = sym a; slice = σ.slots ∙ rw (a, l, σ.size) }
-
-  -- a refusal that zeroes the slice
-  zeroes : {ys : List ℕ} → ys ≡ zeroed xs → ys ≡ zeroed xs₀
-  zeroes e = e ∙ rw sized
-
-  pub unread : {i : ℕ} {ys : List ℕ} → TheVariants.Unreadable i ≡ next (read_from text at) → ys ≡ zeroed xs → Answered text xs₀ (Unreadable i) ys
+  pub finished : Ok None ≡ next (read_from text at) → reported (Ok n) ≡ read_answer text (length xs₀)
   unfolding answer_from
-  unread {i} h z =
-      let a : read_answer text (length xs₀) ≡ refuse unreadable i = σ.answer ∙ rw (next-refused (read_from text at) h) in
-      record { report = sym a; slice = zeroes z ∙ refused_slots text xs₀ _ a refl }
+  finished h = sym (σ.answer ∙ rw (next-done (read_from text at) h))
 
-  module _ {s e : ℕ} (h : Piece s e ≡ next (read_from text at)) where
-    pub first : First text at s e
+  pub finished_slots : Ok None ≡ next (read_from text at) → xs ≡ read_slots text xs₀
+  unfolding numbers read_slots
+  finished_slots h =
+      let l : numbers (reading text) ≡ σ.stored = σ.left ∙ rw (next-done (read_from text at) h, append-nil) in
+      σ.slots ∙ rw (← finished h, l, σ.size)
+
+  pub unread : {u : Unreadable} (a : Result ℕ ReadError) → IsErrAnd a (λ e. e ≡ error.Unreadable u.index) → Err u ≡ next (read_from text at) → reported a ≡ read_answer text (length xs₀)
+  unfolding answer_from
+  unread (Ok m) k h = absurd k
+  unread (Err e) k h = rw k (sym (σ.answer ∙ rw (next-refused (read_from text at) h)))
+
+  module _ {p : Piece} (h : Ok (Some p) ≡ next (read_from text at)) where
+    pub first : First text at p.start p.end
     first = next-first text at h
 
-    pub full : {b : Bool} {zs ys : List ℕ} → b ≡ fits (length xs) n e → b ≡ false → zs ≡ cond b (put xs n s e) xs → ys ≡ zeroed zs → Answered text xs₀ (PiecesFull s) ys
+    pub full : (a : Result ℕ ReadError) → fits (length xs) n p.end ≡ false → IsErrAnd a (λ e. e ≡ error.PiecesFull p.start) → reported a ≡ read_answer text (length xs₀)
     unfolding answer_from
-    full f g k z =
-        let no : fits (length xs₀) n e ≡ false = rw (← sized) (sym f ∙ g) in
-        let a : read_answer text (length xs₀) ≡ refuse pieces_full s = σ.answer ∙ rw (first.reads, no) in
-        record { report = sym a; slice = zeroes (z ∙ rw (k, g)) ∙ refused_slots text xs₀ _ a refl }
+    full (Ok m) f k = absurd k
+    full (Err e) f k =
+        let no : fits (length xs₀) n p.end ≡ false = rw (← sized) f in
+        rw k (sym (σ.answer ∙ rw (first.reads, no)))
 
-    pub more : {b : Bool} {ys : List ℕ} → b ≡ fits (length xs) n e → b ≡ true → ys ≡ cond b (put xs n s e) xs → State text xs₀ ys e (n + 1)
+    pub more : {ys : List ℕ} → fits (length xs) n p.end ≡ true → ys ≡ put xs n p.start p.end → State text xs₀ ys p.end (n + 1)
     unfolding answer_from numbers
-    more {ys = ys} f g k =
-        let yes : fits (length xs₀) n e ≡ true = rw (← sized) (sym f ∙ g) in
-        let roomy : 2 * n + 2 ≤ length xs₀ = leb-true (2 * n + 2) (length xs₀) (and_left (leb (2 * n + 2) (length xs₀)) (leb e 4294967295) yes) in
+    more f k =
+        let yes : fits (length xs₀) n p.end ≡ true = rw (← sized) f in
+        let roomy : 2 * n + 2 ≤ length xs₀ = leb-true (2 * n + 2) (length xs₀) (and_left (leb (2 * n + 2) (length xs₀)) (leb p.end 4294967295) yes) in
         record {
-          stored = σ.stored ++ (s ∷ e ∷ []);
-          size = omega (arith, length-append σ.stored (s ∷ e ∷ []), σ.size);
+          stored = σ.stored ++ (p.start ∷ p.end ∷ []);
+          size = omega (arith, length-append σ.stored (p.start ∷ p.end ∷ []), σ.size);
           room = omega arith;
-          slots = k ∙ rw (g, σ.slots, two_more xs₀ n roomy) (put-at σ.stored _ _ _ n s e σ.size);
+          slots = k ∙ rw (σ.slots, two_more xs₀ n roomy) (put-at σ.stored _ _ _ n p.start p.end σ.size);
           answer = σ.answer ∙ rw (first.reads, yes, add-one);
-          left = σ.left ∙ rw first.reads (sym (append_assoc σ.stored (s ∷ e ∷ []) (numbers (read_from text e))));
+          left = σ.left ∙ rw first.reads (sym (append_assoc σ.stored (p.start ∷ p.end ∷ []) (numbers (read_from text p.end))));
         }

@@ -4,6 +4,7 @@ use mathlib.Core.List.{List, [], ◌∷◌}
 use mathlib.Core.Path.{◌≡◌, refl, sym, ◌∙◌}
 use Prim.Native.Nat.{ℕ, suc, ◌+◌, ◌≤◌, ◌<◌}
 use native.Mathlib.Nat.{add-zero, add-suc, suc-add}
+use native.Mathlib.Numerals.{one-add}
 use native.Mathlib.Omega.{arith}
 use lib.Dec.{eqb, ltb}
 use lib.ListN.{length, get_or, drop}
@@ -27,7 +28,7 @@ unfolding read
 ordinary-run q [] s i = refl
 ordinary-run q (b ∷ t) s i =
     split (eqb b q) (λ e. rw (e, add-zero) (rw e))
-    (λ e. split (eqb b 92) (λ f. rw (e, f, add-zero) (rw (e, f))) (λ f. rw (e, f, add-suc, ← suc-add) (ordinary-run q t s (suc i))))
+    (λ e. split (eqb b 92) (λ f. rw (e, f, add-zero) (rw (e, f))) (λ f. rw (e, f, one-add, add-suc, ← suc-add) (ordinary-run q t s (suc i))))
 
 module _ {text : List ℕ} {q from i : ℕ} (ρ : Reaches text (quoted q) from (quoted q) i) where
   -- after the ordinary bytes
@@ -62,3 +63,6 @@ module _ {text : List ℕ} {q from i : ℕ} (σ : Stops text q from i) where
 
   pub quote_never : length text ≤ i → (s : ℕ) → read (drop from text) (inside (quoted q)) s from ≡ refused s
   quote_never h s = ρ.reads s ∙ at-end text (inside (quoted q)) s i h
+
+-- what `quote_end` goes by
+pub ruleset quote_stops = (quote_closed, quote_never)

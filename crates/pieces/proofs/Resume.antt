@@ -5,7 +5,9 @@ use Prim.Native.Nat.{ℕ, suc, ◌+◌, ◌≤◌, ◌<◌}
 use native.Mathlib.Omega.{arith}
 use lib.ListN.{length, drop, length-drop}
 use lib.Seq.{drop-drop}
-use Rattle.pieces.specs.declared.Next.TheVariants.{Piece, End, Unreadable}
+use Rattle.std.specs.Prelude.{None, Some, Ok, Err}
+use Rattle.pieces.specs.declared.Piece.{Piece}
+use Rattle.pieces.specs.declared.Unreadable.{Unreadable}
 use Rattle.pieces.specs.Class.{class}
 use Rattle.pieces.specs.Reading.{Reading, done, refused, piece, Kind, closed, word, number, operator, quoted, escaped, between, inside, Joined, ends, takes, join, Begun, nothing, blank, opens, begin, flush, peek, read, read_from}
 use Rattle.pieces.specs.Next.{next}
@@ -71,20 +73,20 @@ first text at {s} {e} {r} h =
     record { reads = h ∙ ap (piece s e) same; after = m.0; some = m.1; within = omega (arith, m.0, m.1, ρ.index, ρ.within, length-drop at text) }
 
 -- what the answer of `next_piece` tells
-pub next-first : (text : List ℕ) (at : ℕ) {s e : ℕ} → Piece s e ≡ next (read_from text at) → First text at s e
-next-first text at {s} {e} h = go (read_from text at) refl
+pub next-first : (text : List ℕ) (at : ℕ) {p : Piece} → Ok (Some p) ≡ next (read_from text at) → First text at p.start p.end
+next-first text at {p} h = go (read_from text at) refl
   where
-    go : (r : Reading) → read_from text at ≡ r → First text at s e
+    go : (r : Reading) → read_from text at ≡ r → First text at p.start p.end
     go done q = let z : ◌≡◌ {A = ℕ} 0 1 = cc (rw q at h) in absurd (omega arith)
     go (refused i) q = let z : ◌≡◌ {A = ℕ} 0 1 = cc (rw q at h) in absurd (omega arith)
-    go (piece s' e' r) q = let same : piece s' e' r ≡ piece s e r = cc (rw q at h) in first text at (q ∙ same)
+    go (piece s e r) q = let same : piece s e r ≡ piece p.start p.end r = cc (rw q at h) in first text at (q ∙ same)
 
-pub next-done : (r : Reading) → End ≡ next r → r ≡ done
+pub next-done : (r : Reading) → Ok None ≡ next r → r ≡ done
 next-done done h = refl
 next-done (refused i) h = cc
 next-done (piece s e r) h = cc
 
-pub next-refused : (r : Reading) {i : ℕ} → Unreadable i ≡ next r → r ≡ refused i
+pub next-refused : (r : Reading) {u : Unreadable} → Err u ≡ next r → r ≡ refused u.index
 next-refused done h = cc
 next-refused (refused i) h = cc
 next-refused (piece s e r) h = cc

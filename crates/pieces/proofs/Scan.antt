@@ -4,12 +4,13 @@ use mathlib.Core.List.{List, [], ◌∷◌}
 use mathlib.Core.Path.{◌≡◌, refl, ◌∙◌}
 use Prim.Native.Nat.{ℕ, zero, suc, ◌+◌, ◌≤◌, ◌<◌}
 use native.Mathlib.Nat.{add-zero, add-suc, suc-add}
-use native.Mathlib.Numerals.{add-one}
+use native.Mathlib.Numerals.{add-one, one-add}
 use native.Mathlib.Omega.{arith}
 use lib.Dec.{ltb}
 use borrow.Author.Tests.{ltb-true, ltb-false}
 use lib.ListN.{length, get_or, take, drop, drop_of_length-le, length-drop}
 use lib.Seq.{drop-cons, drop-drop, get_or-drop}
+use Rattle.std.proofs.lemmas.List.Sums.{prefix_len-drop_yes, prefix_len-drop_no, prefix_len_stops}
 use Rattle.shared.proofs.Logic.{split, and_left, and_right}
 use Rattle.pieces.specs.Class.{class}
 use Rattle.pieces.specs.Reading.{Reading, done, refused, piece, Kind, Mode, between, inside, ends, takes, join, nothing, opens, begin, flush, peek, read, read_from}
@@ -64,7 +65,7 @@ gap-run : (t : List ℕ) (s i : ℕ) → let n = run_length (λ b. is_gap (class
 unfolding read
 gap-run [] s i = refl
 gap-run (b ∷ t) s i =
-    split (is_gap (class b)) (λ e. rw (e, gap_of (class b) e, add-suc, ← suc-add) (gap-run t i (suc i))) (λ e. rw (e, add-zero))
+    split (is_gap (class b)) (λ e. rw (e, gap_of (class b) e, one-add, add-suc, ← suc-add) (gap-run t i (suc i))) (λ e. rw (e, add-zero))
 
 pub gaps_passed : (text : List ℕ) (i : ℕ) → read_from text i ≡ read_from text (i + run_length (λ b. is_gap (class b)) (drop i text))
 gaps_passed text i = gap-run (drop i text) i i ∙ rw drop-drop
@@ -74,7 +75,7 @@ module _ (k : Kind) (f : ℕ → Bool) (joins : (b p : ℕ) → join (inside k) 
   set-run : (t : List ℕ) (s i : ℕ) → let n = run_length f t in read t (inside k) s i ≡ piece s (i + n) (read (drop n t) between (i + n) (i + n))
   unfolding read
   set-run [] s i = ended s i done ∙ rw add-zero
-  set-run (b ∷ t) s i = split (f b) (λ e. rw (joins, e, add-suc, ← suc-add) (set-run t s (suc i))) (λ e. rw (joins, e, ended, add-zero))
+  set-run (b ∷ t) s i = split (f b) (λ e. rw (joins, e, one-add, add-suc, ← suc-add) (set-run t s (suc i))) (λ e. rw (joins, e, ended, add-zero))
 
   pub run_ends : (text : List ℕ) (i : ℕ) → EndsAt text k i (i + run_length f (drop i text))
   run_ends text i = record { reads = λ s. set-run (drop i text) s i ∙ rw drop-drop }
@@ -83,13 +84,10 @@ module _ (k : Kind) (f : ℕ → Bool) (joins : (b p : ℕ) → join (inside k) 
 
 module _ (f : ℕ → Bool) (text : List ℕ) (i : ℕ) where
   pub run_more : i < length text → f (get_or text i 0) ≡ true → (i + 1) + run_length f (drop (i + 1) text) ≡ i + run_length f (drop i text)
-  run_more h e = rw (here text i h, e) (omega arith)
+  run_more h e = rw (prefix_len-drop_yes f text i 0 h e) (omega arith)
 
   pub run-stop : i < length text → f (get_or text i 0) ≡ false → i ≡ i + run_length f (drop i text)
-  run-stop h e = rw (here text i h, e) (omega arith)
-
-  pub run_out : length text ≤ i → i ≡ i + run_length f (drop i text)
-  run_out h = rw (drop_of_length-le text h) (omega arith)
+  run-stop h e = rw (prefix_len-drop_no f text i 0 h e) (omega arith)
 
 -- several bytes of the run at once
 pub run-all : (f : ℕ → Bool) (n : ℕ) (text : List ℕ) (i : ℕ) → i + n ≤ length text → all f (take n (drop i text)) ≡ true → (i + n) + run_length f (drop (i + n) text) ≡ i + run_length f (drop i text)
@@ -134,9 +132,5 @@ module _ (text : List ℕ) (k : Kind) (i : ℕ) (whole : (s : ℕ) (r : Reading)
       (λ h. ends-out (ltb-false _ _ h))
 
 -- after a run no byte of the set stands
-run-over : (f : ℕ → Bool) (t : List ℕ) → run_length f t < length t → f (get_or t (run_length f t) 0) ≡ false
-run-over f [] h = absurd (omega arith)
-run-over f (b ∷ t) h = split (f b) (λ e. rw e (run-over f t (let k : suc (run_length f t) < suc (length t) = rw e at h in omega arith))) (λ e. rw (e, e))
-
 pub run_stops : (f : ℕ → Bool) (text : List ℕ) (i : ℕ) → i + run_length f (drop i text) < length text → f (get_or text (i + run_length f (drop i text)) 0) ≡ false
-run_stops f text i h = rw (← get_or-drop) (run-over f (drop i text) (omega (arith, length-drop i text)))
+run_stops f text i h = rw (← get_or-drop) (prefix_len_stops f (drop i text) 0 (omega (arith, length-drop i text)))

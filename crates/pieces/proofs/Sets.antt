@@ -95,3 +95,5 @@ unclassed_of Quote w o s g q = cc
 unclassed_of Word w o s g q = cc
 unclassed_of Operator w o s g q = cc
 unclassed_of Unclassed w o s g q = refl
+
+pub ruleset class_by_tests = (gap_of, single_of, quote_of, word_of, operator_of, unclassed_of)

@@ -1,18 +1,25 @@
 -- What reading a text into a lent slice answers, and the slice after it (specification, 'Reading back').
 -- Assumes nothing.
-use Rattle.std.specs.Prelude.{Bool, cond, ◌&&◌, List, [], ◌∷◌, ℕ, zero, suc, ◌+◌, ◌*◌, leb, length}
+use Rattle.std.specs.Prelude.{Bool, cond, ◌&&◌, List, [], ◌∷◌, ℕ, zero, suc, ◌+◌, ◌*◌, leb, length, Result, Ok, Err}
 use Rattle.std.proofs.Math.Seq.{slice}
 use Rattle.shared.specs.Numbers.{most32}
 use Rattle.shared.specs.Report.{Report, success, refuse, accepted, zeroed, put_first, unreadable, pieces_full}
-use Rattle.pieces.specs.declared.Answer.{Answer}
-use Rattle.pieces.specs.declared.Answer.TheVariants.{Pieces, Unreadable, PiecesFull}
+use Rattle.shared.specs.declared.refusal.Refused.{Refused}
+use Rattle.shared.specs.declared.refusal.Refusal.TheVariants as refusal
+use Rattle.pieces.specs.declared.ReadError.{ReadError}
+use Rattle.pieces.specs.declared.ReadError.TheVariants.{Unreadable, PiecesFull}
 use Rattle.pieces.specs.Reading.{Reading, done, refused, piece, reading}
 
+-- The refusal that each error is, and its place.
+abbrev pub refusal_of : ReadError → Refused
+refusal_of (Unreadable i) = record { refusal = refusal.Unreadable; place = i }
+refusal_of (PiecesFull s) = record { refusal = refusal.PiecesFull; place = s }
+
 -- The number and values of the report for each answer of `read_pieces`.
-abbrev pub reported : Answer → Report
-reported (Pieces n) = success n 0 0
-reported (Unreadable i) = refuse unreadable i
-reported (PiecesFull s) = refuse pieces_full s
+abbrev pub reported : Result ℕ ReadError → Report
+reported (Ok n) = success n 0 0
+reported (Err (Unreadable i)) = refuse unreadable i
+reported (Err (PiecesFull s)) = refuse pieces_full s
 
 -- One more piece than n has room in a slice of that many numbers, and its end e is a 32-bit number.
 abbrev pub fits : ℕ → ℕ → ℕ → Bool

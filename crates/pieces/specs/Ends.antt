@@ -1,9 +1,7 @@
 -- Where an open piece ends: what the scanning functions promise to `next_piece`.
 -- Assumes nothing.
-use Rattle.std.specs.Prelude.{Bool, true, false, not, ◌&&◌, ◌≡◌, List, ℕ, ◌+◌, eqb, drop, get_or}
+use Rattle.std.specs.Prelude.{Bool, true, false, not, ◌&&◌, ◌≡◌, List, ℕ, ◌+◌, eqb, drop, get_or, Option, None, Some}
 use Rattle.shared.specs.Bytes.{byte}
-use Rattle.pieces.specs.declared.runs.QuoteEnd.{QuoteEnd}
-use Rattle.pieces.specs.declared.runs.QuoteEnd.TheVariants.{At, Never}
 use Rattle.pieces.specs.Reading.{Kind, quoted, inside, Joined, ends, takes, join, piece, refused, read, read_from}
 
 -- A piece of the kind k that is open at an index ends at e, wherever it began.
@@ -11,9 +9,9 @@ pub record EndsAt (text : List ℕ) (k : Kind) (from e : ℕ) : Type 0 where
   pub reads : (s : ℕ) → read (drop from text) (inside k) s from ≡ piece s e (read_from text e)
 
 -- A quote opened by the byte q, and open at an index, ends there, or is never closed.
-abbrev pub QuoteEnds : List ℕ → ℕ → ℕ → QuoteEnd → Type 0
-QuoteEnds text q from (At e) = EndsAt text (quoted q) from e
-QuoteEnds text q from Never = (s : ℕ) → read (drop from text) (inside (quoted q)) s from ≡ refused s
+abbrev pub QuoteEnds : List ℕ → ℕ → ℕ → Option ℕ → Type 0
+QuoteEnds text q from (Some e) = EndsAt text (quoted q) from e
+QuoteEnds text q from None = (s : ℕ) → read (drop from text) (inside (quoted q)) s from ≡ refused s
 
 -- A byte that a quote opened by q passes over alone: neither q nor a backslash.
 abbrev pub ordinary : ℕ → ℕ → Bool

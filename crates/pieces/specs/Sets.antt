@@ -1,6 +1,8 @@
 -- Sets of bytes, and runs of bytes in a set: what the code's loops count.
 -- Assumes nothing.
-use Rattle.std.specs.Prelude.{Bool, true, false, cond, ◌&&◌, List, [], ◌∷◌, ℕ, zero, suc, ◌-◌, ◌/◌, ◌%◌, ◌^◌, eqb, ltb}
+use Rattle.std.specs.Prelude.{Bool, true, false, cond, List, ℕ, ◌-◌, ◌/◌, ◌%◌, ◌^◌, eqb, ltb}
+use Rattle.std.specs.List.{prefix_len, list_all}
+use Rattle.pieces.specs.declared.bytes.ByteSet.{ByteSet}
 use Rattle.pieces.specs.declared.bytes.Class.{Class}
 use Rattle.pieces.specs.declared.bytes.Class.TheVariants.{Gap, Single, Quote, Word, Operator, Unclassed}
 
@@ -12,15 +14,17 @@ bit n k = eqb (n / 2 ^ k % 2) 1
 abbrev pub member : ℕ → ℕ → Bool → ℕ → Bool
 member low high upper b = cond (ltb b 64) (bit low b) (cond (ltb b 128) (bit high (b - 64)) upper)
 
+-- The byte is in the set, as the code has it.
+abbrev pub contains : ByteSet → ℕ → Bool
+contains s b = member s.low s.high s.upper b
+
 -- How many bytes of the set f stand first, before one that is not in it.
 abbrev pub run_length : (ℕ → Bool) → List ℕ → ℕ
-run_length f [] = zero
-run_length f (b ∷ t) = cond (f b) (suc (run_length f t)) zero
+run_length f w = prefix_len f w
 
 -- All bytes are in the set f.
 abbrev pub all : (ℕ → Bool) → List ℕ → Bool
-all f [] = true
-all f (b ∷ w) = f b && all f w
+all f w = list_all f w
 
 -- ---- the classes whose tests only the code cites
 

@@ -1,10 +1,6 @@
 -- What the steps of `next_piece` and `read_pieces` promise to each other.
 -- Assumes nothing.
 use Rattle.std.specs.Prelude.{false, List, ◌≡◌, ℕ, ◌+◌, ◌*◌, ◌<◌, length, get_or, set}
-use Rattle.pieces.specs.declared.Next.{Next}
-use Rattle.pieces.specs.declared.Next.TheVariants.{Piece, Unreadable}
-use Rattle.pieces.specs.declared.runs.QuoteEnd.{QuoteEnd}
-use Rattle.pieces.specs.declared.runs.QuoteEnd.TheVariants.{At, Never}
 use Rattle.pieces.specs.Class.{class}
 use Rattle.pieces.specs.Sets.{is_gap}
 
@@ -12,11 +8,6 @@ use Rattle.pieces.specs.Sets.{is_gap}
 pub record Begins (text : List ℕ) (i : ℕ) : Type 0 where
   pub inside : i < length text
   pub solid : is_gap (class (get_or text i 0)) ≡ false
-
--- What stands at s, where a quote is opened, by where it ends.
-abbrev pub quoted_next : ℕ → QuoteEnd → Next
-quoted_next s (At e) = Piece s e
-quoted_next s Never = Unreadable s
 
 -- The slice with the piece from s to e put after n others.
 abbrev pub put : List ℕ → ℕ → ℕ → ℕ → List ℕ

@@ -1,9 +1,9 @@
-// The classes of bytes (specification, 'Reading back'), and a test for each.
+// The classes of bytes (specification, 'Reading back'), and the sets of bytes by which they are told.
 ghost use Rattle.std.specs.Prelude.{◌≡◌};
 ghost use Rattle.pieces.specs.Class.{class, is_word, is_operator};
 ghost use Rattle.pieces.specs.Sets.{member, is_gap, is_single, is_quote};
 
-#[derive(Clone, Copy)]
+#[derive(Clone, Copy, Debug, PartialEq, Eq)]
 pub enum Class {
     // A line feed or a space.
     Gap,
@@ -20,85 +20,115 @@ pub enum Class {
 }
 
 // The class of the byte.
+#[tactic(auto, using(crate::proofs::Sets::class_by_tests))]
 pub fn class_of(b: u8) -> Class
     ensures { result ≡ class b }
 {
     if is_word(b) {
-        return Class::Word;
+        Class::Word
+    } else if is_operator(b) {
+        Class::Operator
+    } else if is_single(b) {
+        Class::Single
+    } else if is_gap(b) {
+        Class::Gap
+    } else if is_quote(b) {
+        Class::Quote
+    } else {
+        Class::Unclassed
     }
-    if is_operator(b) {
-        return Class::Operator;
-    }
-    if is_single(b) {
-        return Class::Single;
-    }
-    if is_gap(b) {
-        return Class::Gap;
-    }
-    if is_quote(b) {
-        return Class::Quote;
-    }
-    Class::Unclassed
 }
 
 // Whether the byte is of the class Word.
+#[tactic(auto, using(crate::proofs::Sets::words))]
 pub fn is_word(b: u8) -> bool
     ensures { result ≡ is_word (class b) }
 {
-    member(WORD_LOW, WORD_HIGH, true, b)
+    WORDS.contains(b)
 }
 
 // Whether the byte is of the class Operator.
+#[tactic(auto, using(crate::proofs::Sets::operators))]
 pub fn is_operator(b: u8) -> bool
     ensures { result ≡ is_operator (class b) }
 {
-    member(OPERATOR_LOW, OPERATOR_HIGH, false, b)
+    OPERATORS.contains(b)
 }
 
 // Whether the byte is of the class Quote.
+#[tactic(auto, using(crate::proofs::Sets::quotes))]
 pub fn is_quote(b: u8) -> bool
     ensures { result ≡ is_quote (class b) }
 {
-    member(0x84_0000_0000, 0, false, b)
+    QUOTES.contains(b)
 }
 
 // Whether the byte is of the class Single.
+#[tactic(auto, using(crate::proofs::Sets::singles))]
 pub fn is_single(b: u8) -> bool
     ensures { result ≡ is_single (class b) }
 {
-    member(0x8800_1300_0000_0000, 0x2800_0000_2800_0000, false, b)
+    SINGLES.contains(b)
 }
 
 // Whether the byte is of the class Gap.
+#[tactic(auto, using(crate::proofs::Sets::gaps))]
 pub fn is_gap(b: u8) -> bool
     ensures { result ≡ is_gap (class b) }
 {
-    member(GAP_LOW, 0, false, b)
+    GAPS.contains(b)
 }
 
-// ---- sets of bytes: the bits of 0–63, those of 64–127, and whether 128–255 are in it
-
-pub const GAP_LOW: u64 = 0x1_0000_0400;
-
-pub const WORD_LOW: u64 = 0x03ff_0000_0000_0000;
-
-pub const WORD_HIGH: u64 = 0x07ff_fffe_87ff_fffe;
-
-pub const OPERATOR_LOW: u64 = 0x7400_ec7a_0000_0000;
-
-pub const OPERATOR_HIGH: u64 = 0x5000_0001_5000_0001;
-
-// Whether the byte is in the set.
-pub fn member(low: u64, high: u64, upper: bool, b: u8) -> bool
-    ensures { result ≡ member low high upper b }
-{
-    let k = b as u32;
-    if k < 64 {
-        return (low >> k) % 2 == 1;
-    }
-    if k < 128 {
-        let j = k - 64;
-        return (high >> j) % 2 == 1;
-    }
-    upper
+// A set of bytes: the bits of those below 64, the bits of those from 64 to 127, and whether all others are in
+// it.
+#[derive(Clone, Copy, Debug, PartialEq, Eq)]
+pub struct ByteSet {
+    low: u64,
+    high: u64,
+    upper: bool,
 }
+
+impl ByteSet {
+    // Whether the byte is in the set.
+    pub fn contains(self, b: u8) -> bool
+        ensures { result ≡ member self.low self.high self.upper b }
+    {
+        if b < 64 {
+            return (self.low >> b) % 2 == 1;
+        }
+        if b < 128 {
+            return (self.high >> (b - 64)) % 2 == 1;
+        }
+        self.upper
+    }
+}
+
+pub const GAPS: ByteSet = ByteSet {
+    low: 0x1_0000_0400,
+    high: 0,
+    upper: false,
+};
+
+pub const SINGLES: ByteSet = ByteSet {
+    low: 0x8800_1300_0000_0000,
+    high: 0x2800_0000_2800_0000,
+    upper: false,
+};
+
+pub const QUOTES: ByteSet = ByteSet {
+    low: 0x84_0000_0000,
+    high: 0,
+    upper: false,
+};
+
+pub const WORDS: ByteSet = ByteSet {
+    low: 0x03ff_0000_0000_0000,
+    high: 0x07ff_fffe_87ff_fffe,
+    upper: true,
+};
+
+pub const OPERATORS: ByteSet = ByteSet {
+    low: 0x7400_ec7a_0000_0000,
+    high: 0x5000_0001_5000_0001,
+    upper: false,
+};

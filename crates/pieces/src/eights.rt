@@ -9,22 +9,21 @@ pub const LOW: u64 = 0x7f7f_7f7f_7f7f_7f7f;
 
 pub const ONES: u64 = 0x0101_0101_0101_0101;
 
-// The eight bytes from `at` on as one number, the first of them lowest. The sum compiles to one load.
+// The eight bytes from `at` on as one number, the first of them lowest.
 pub fn eight_bytes(s: &[u8], at: usize) -> u64
     requires { at + 8 ≤ length s.now }
     ensures { result ≡ eight_at s.now at }
 {
-    let a = wide(s[at]);
-    let b = wide(s[at + 1]);
-    let c = wide(s[at + 2]);
-    let d = wide(s[at + 3]);
-    let e = wide(s[at + 4]);
-    let f = wide(s[at + 5]);
-    let g = wide(s[at + 6]);
-    let h = wide(s[at + 7]);
-    let low = a + b * 0x100 + c * 0x1_0000 + d * 0x100_0000;
-    let high = e + f * 0x100 + g * 0x1_0000 + h * 0x100_0000;
-    low + high * 0x1_0000_0000
+    u64::from_le_bytes([
+        s[at],
+        s[at + 1],
+        s[at + 2],
+        s[at + 3],
+        s[at + 4],
+        s[at + 5],
+        s[at + 6],
+        s[at + 7],
+    ])
 }
 
 // Answers in the high bit of each byte of `x` whether the byte is another than `b`; the other bits are 0.
@@ -32,13 +31,6 @@ pub fn eight_bytes(s: &[u8], at: usize) -> u64
 pub fn bytes_other(x: u64, b: u8) -> u64
     ensures { result ≡ bytes_other eight_ones x b }
 {
-    let v = x ^ (b as u64 * ONES);
+    let v = x ^ (u64::from(b) * ONES);
     (((v & LOW) + LOW) | v) & HIGH
-}
-
-// The byte as a 64-bit number.
-fn wide(b: u8) -> u64
-    ensures { (result ≡ b) × (result < 256) }
-{
-    b as u64
 }

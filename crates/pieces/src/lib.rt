@@ -1,130 +1,142 @@
 // Reading back (specification, 'Reading back'): a text read into pieces, each with its start and its end.
 #![tactic(auto)]
 
-ghost use Rattle.std.specs.Prelude.{◌≡◌, cond, ◌*◌, ◌≤◌, length};
+ghost use Rattle.std.specs.Prelude.{◌≡◌, cond, ◌*◌, ◌≤◌, length, OnOk, IfErr, is_ok};
 ghost use Rattle.pieces.specs.Reading.{read_from};
 ghost use Rattle.pieces.specs.Next.{next};
-ghost use Rattle.pieces.specs.Answer.{reported, read_answer, read_slots, fits};
-ghost use Rattle.pieces.specs.Steps.{Begins, quoted_next, put};
+ghost use Rattle.pieces.specs.Answer.{refusal_of, reported, read_answer, read_slots, fits};
+ghost use Rattle.pieces.specs.Steps.{Begins, put};
+ghost use Rattle.pieces.specs.declared.ReadError.TheVariants.{Unreadable, PiecesFull};
 
-use shared::clear_numbers;
-use shared::numbers::MOST_32;
+use crate::bytes::Class;
+use shared::refusal::{Refusal, Refused};
 
 pub mod bytes;
 pub mod eights;
 pub mod runs;
 
-// What reading a text answers.
-#[derive(Clone, Copy)]
-pub enum Answer {
-    // The text was read, and has so many pieces.
-    Pieces { count: usize },
+// Why a text is not read into pieces.
+#[derive(Clone, Copy, Debug, PartialEq, Eq)]
+pub enum ReadError {
     // Refusal 9: at the index stands a byte of no class, or a quote that is never closed.
     Unreadable { index: usize },
     // Refusal 10: the piece that starts there has no room in the slice, or ends past the 32-bit numbers.
     PiecesFull { start: usize },
 }
 
-// Reads `text` into pieces, and puts the start and the end of each into `pieces`, in order. What lies past
-// them is unchanged. After a refusal every number of `pieces` is 0.
-pub fn read_pieces(text: &[u8], pieces: &mut [u32]) -> Answer
-    ensures answer { reported result ≡ read_answer text.now (length pieces.old) }
-    ensures slice { pieces.new ≡ read_slots text.now pieces.old }
-{
-    let mut at = 0;
-    let mut n = 0;
-    loop {
-        match next_piece(text, at) {
-            Next::End => {
-                return Answer::Pieces { count: n };
-            }
-            Next::Unreadable { index } => {
-                clear_numbers(pieces);
-                return Answer::Unreadable { index };
-            }
-            Next::Piece { start, end } => {
-                if !store(pieces, n, start, end) {
-                    clear_numbers(pieces);
-                    return Answer::PiecesFull { start };
-                }
-                n += 1;
-                at = end;
-            }
+impl From<Unreadable> for ReadError {
+    ghost from_gives = { λ u e. e ≡ Unreadable u.index };
+
+    fn from(at: Unreadable) -> ReadError {
+        ReadError::Unreadable { index: at.index }
+    }
+}
+
+impl From<ReadError> for Refused {
+    ghost from_gives = { λ e r. r ≡ refusal_of e };
+
+    fn from(error: ReadError) -> Refused {
+        match error {
+            ReadError::Unreadable { index } => Refused {
+                refusal: Refusal::Unreadable,
+                place: index,
+            },
+            ReadError::PiecesFull { start } => Refused {
+                refusal: Refusal::PiecesFull,
+                place: start,
+            },
         }
     }
 }
 
-// What stands in a text from an index on.
-#[derive(Clone, Copy)]
-pub enum Next {
-    // A piece, from the index of its first byte to the index after its last.
-    Piece { start: usize, end: usize },
-    // No more than gaps, up to the text's end.
-    End,
-    // At the index, after gaps if there are any, a byte of no class, or a quote that is never closed.
-    Unreadable { index: usize },
+// Reads `text` into pieces, puts the start and the end of each into `pieces`, in order, and answers how many
+// there are. What lies past them is unchanged. After a refusal every number of `pieces` is 0.
+pub fn read_pieces(text: &[u8], pieces: &mut [u32]) -> Result<usize, ReadError>
+    ensures answer { reported result ≡ read_answer text.now (length pieces.old) }
+    ensures slice { pieces.new ≡ read_slots text.now pieces.old }
+{
+    let read = read_into(text, pieces);
+    if read.is_err() {
+        pieces.fill(0);
+    }
+    read
 }
 
-// Finds what stands in `text` from `at` on, where a piece may begin.
-pub fn next_piece(text: &[u8], at: usize) -> Next
+// The same, but after a refusal `pieces` holds the pieces before it.
+#[tactic(auto, using(crate::proofs::Filling::start, crate::proofs::Filling::more))]
+fn read_into(text: &[u8], pieces: &mut [u32]) -> Result<usize, ReadError>
+    ensures answer { reported result ≡ read_answer text.now (length pieces.old) }
+    ensures len { length pieces.new ≡ length pieces.old }
+    ensures slice { OnOk result (pieces.new ≡ read_slots text.now pieces.old) }
+{
+    let mut at = 0;
+    let mut n = 0;
+    while let Some(piece) = next_piece(text, at)? {
+        store(pieces, n, piece)?;
+        n += 1;
+        at = piece.end;
+    }
+    Ok(n)
+}
+
+// A piece of a text: the index of its first byte, and the index after its last.
+#[derive(Clone, Copy, Debug, PartialEq, Eq)]
+pub struct Piece {
+    pub start: usize,
+    pub end: usize,
+}
+
+// At the index stands a byte of no class, or a quote that is never closed.
+#[derive(Clone, Copy, Debug, PartialEq, Eq)]
+pub struct Unreadable {
+    pub index: usize,
+}
+
+// Finds the next piece of `text` from `at` on, where one may begin; None where no more than gaps are left.
+#[tactic(auto, using(crate::proofs::Begin::after_gaps))]
+pub fn next_piece(text: &[u8], at: usize) -> Result<Option<Piece>, Unreadable>
     ensures { result ≡ next (read_from text.now at) }
 {
     let start = runs::gap_end(text, at);
     if start < text.len() {
-        return piece_at(text, start);
+        piece_at(text, start)
+    } else {
+        Ok(None)
     }
-    Next::End
 }
 
 // Finds the piece that begins at `start`, where no gap stands.
-fn piece_at(text: &[u8], start: usize) -> Next
+#[tactic(auto, using(crate::proofs::Begin::by_class))]
+fn piece_at(text: &[u8], start: usize) -> Result<Option<Piece>, Unreadable>
     requires { Begins text.now start }
     ensures { result ≡ next (read_from text.now start) }
 {
     let b = text[start];
     let after = start + 1;
-    let class = bytes::class_of(b);
-    match class {
-        bytes::Class::Gap => Next::End,
-        bytes::Class::Single => Next::Piece { start, end: after },
-        bytes::Class::Quote => quoted(start, runs::quote_end(text, after, b)),
-        bytes::Class::Word => Next::Piece {
-            start,
-            end: runs::word_end(text, after, b),
-        },
-        bytes::Class::Operator => Next::Piece {
-            start,
-            end: runs::operator_end(text, after),
-        },
-        bytes::Class::Unclassed => Next::Unreadable { index: start },
-    }
+    let end = match bytes::class_of(b) {
+        Class::Gap => unreachable!(),
+        Class::Single => after,
+        Class::Quote => runs::quote_end(text, after, b).ok_or(Unreadable { index: start })?,
+        Class::Word => runs::word_end(text, after, b),
+        Class::Operator => runs::operator_end(text, after),
+        Class::Unclassed => return Err(Unreadable { index: start }),
+    };
+    Ok(Some(Piece { start, end }))
 }
 
-// The piece that a quote opened at `start` is, by where it ends.
-fn quoted(start: usize, end: runs::QuoteEnd) -> Next
-    ensures { result ≡ quoted_next start end }
-{
-    match end {
-        runs::QuoteEnd::At { end: e } => Next::Piece { start, end: e },
-        runs::QuoteEnd::Never => Next::Unreadable { index: start },
-    }
-}
-
-// Puts the piece after the `n` that stand in `pieces` already, and says whether it fits.
-fn store(pieces: &mut [u32], n: usize, start: usize, end: usize) -> bool
-    requires { (start ≤ end) × (2 * n ≤ length pieces.old) }
-    ensures fits { result ≡ fits (length pieces.old) n end }
+// Puts the piece after the `n` that stand in `pieces` already, where it fits.
+fn store(pieces: &mut [u32], n: usize, piece: Piece) -> Result<(), ReadError>
+    requires { (piece.start ≤ piece.end) × (2 * n ≤ length pieces.old) }
+    ensures fits { is_ok result ≡ fits (length pieces.old) n piece.end }
+    ensures full { IfErr result (λ e. e ≡ PiecesFull piece.start) }
     ensures put { pieces.new
-        ≡ cond result (put pieces.old n start end) pieces.old }
+        ≡ cond (is_ok result) (put pieces.old n piece.start piece.end) pieces.old }
 {
-    if MOST_32 < end {
-        return false;
-    }
     let at = 2 * n;
-    if pieces.len() - at < 2 {
-        return false;
+    if piece.end > u32::MAX as usize || pieces.len() - at < 2 {
+        return Err(ReadError::PiecesFull { start: piece.start });
     }
-    pieces[at] = start as u32;
-    pieces[at + 1] = end as u32;
-    true
+    pieces[at] = piece.start as u32;
+    pieces[at + 1] = piece.end as u32;
+    Ok(())
 }

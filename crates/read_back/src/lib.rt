@@ -10,14 +10,14 @@ ghost use Rattle.read_back.specs.ReadBack.{seen, read_back_answer, read_back_slo
 ghost use Rattle.read_back.specs.Steps.{Fits};
 
 use format_tokens::format_tokens_with;
-use pieces::read_pieces;
+use pieces::{ReadError, read_pieces};
 
 // What the layout answers, and what reading its text answers. After a refusal nothing is read, and `read`
 // tells of 0 pieces.
 #[derive(Clone, Copy)]
 pub struct ReadBack {
     pub laid: format_tokens::Answer,
-    pub read: pieces::Answer,
+    pub read: Result<usize, ReadError>,
 }
 
 // Lays out the tokens that `rows` name in `text`, then reads the text that was laid out: the start and the
@@ -62,7 +62,7 @@ pub fn format_and_read_back(
 }
 
 // Reads the text that a layout left in `out` into `pieces`. After a refusal it reads nothing.
-fn read_laid(laid: format_tokens::Answer, out: &[u8], pieces: &mut [u32]) -> pieces::Answer
+fn read_laid(laid: format_tokens::Answer, out: &[u8], pieces: &mut [u32]) -> Result<usize, ReadError>
     requires { Fits (seen laid out.now) }
     ensures answer { Read.reported result
         ≡ read_back_answer (seen laid out.now) (length pieces.old) }
@@ -70,7 +70,7 @@ fn read_laid(laid: format_tokens::Answer, out: &[u8], pieces: &mut [u32]) -> pie
         ≡ read_back_slots (seen laid out.now) pieces.old }
 {
     let format_tokens::Answer::Text { length, .. } = laid else {
-        return pieces::Answer::Pieces { count: 0 };
+        return Ok(0);
     };
     read_pieces(&out[..length], pieces)
 }

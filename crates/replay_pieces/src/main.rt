@@ -4,7 +4,9 @@
 
 ghost use Rattle.std.specs.Prelude.{◌<◌, ◌≤◌, length, IfOk};
 
-use shared::refusals;
+use piece_reader::count_pieces;
+use pieces::{ReadError, read_pieces};
+use shared::refusal::Refused;
 use std::io;
 use std::io::Read;
 
@@ -91,43 +93,26 @@ fn read_back(rt: &impl Print, text: &[u8], slots: usize) -> io::Result<()> {
 
 // Writes a line: the answer of `read_pieces`, that of `count_pieces`, and the slice after the call.
 fn read_into(rt: &impl Print, text: &[u8], numbers: &mut [u32]) -> io::Result<()> {
-    print_answer(rt, pieces::read_pieces(text, numbers))?;
+    print_answer(rt, read_pieces(text, numbers))?;
     print!(rt; ", ")?;
-    print_answer(rt, piece_reader::count_pieces(text))?;
+    print_answer(rt, count_pieces(text))?;
     print!(rt; ":")?;
     print_slots(rt, numbers)?;
     println!(rt)
 }
 
-// Writes an answer as its refusal, or 0, and its number.
-fn print_answer(rt: &impl Print, answer: pieces::Answer) -> io::Result<()> {
-    match answer {
-        pieces::Answer::Pieces { count } => print_pair(rt, 0, count as u64),
-        pieces::Answer::Unreadable { index } => print_pair(rt, refusals::UNREADABLE, index as u64),
-        pieces::Answer::PiecesFull { start } => print_pair(rt, refusals::PIECES_FULL, start as u64),
+// Writes an answer: 0 and the number of pieces, or the refusal and its place.
+fn print_answer(rt: &impl Print, answer: Result<usize, ReadError>) -> io::Result<()> {
+    match answer.map_err(Refused::from) {
+        Ok(count) => print!(rt; "0 {count}"),
+        Err(refused) => print!(rt; "{refused}"),
     }
-}
-
-// Writes two numbers with a space between.
-fn print_pair(rt: &impl Print, refusal: u32, value: u64) -> io::Result<()> {
-    print!(rt; "{refusal}")?;
-    print_number(rt, value)
 }
 
 // Writes each number of the slice after a space.
 fn print_slots(rt: &impl Print, numbers: &[u32]) -> io::Result<()> {
     for n in numbers {
-        print_number(rt, wide(*n))?;
+        print!(rt; " {n}")?;
     }
     Ok(())
-}
-
-// Writes a space and the number.
-fn print_number(rt: &impl Print, n: u64) -> io::Result<()> {
-    print!(rt; " {n}")
-}
-
-// The same number in 64 bits.
-fn wide(n: u32) -> u64 {
-    n as u64
 }
