@@ -5,7 +5,6 @@ use mathlib.Core.Path.{◌≡◌, refl, sym, ap, ◌∙◌}
 use Prim.Native.Nat.{ℕ, ◌+◌, ◌-◌, ◌≤◌, ◌<◌}
 use native.Mathlib.Omega.{arith}
 use lib.Dec.{eqb, ltb}
-use lib.ListN.{drop}
 use borrow.Author.Tests.{lt-ltb}
 use Rattle.shared.proofs.Logic.{split}
 use Rattle.rows.specs.Kinds.{TokenRow, LeftParen, RightParen, LeftBracket, RightBracket, Comma, Other}
@@ -67,20 +66,20 @@ module _ (span : Span) (own other : Measure → ℕ) (o c o' c' : ℕ) (lo : o �
 
 -- ---- the decision
 
--- the measure m is what `until_wide` reached, at the index `at`
-module _ (rows : List ℕ) (limit : ℕ) (m : Measure.Measure) (at : ℕ) where
+-- the measure m is what `until_wide` reached, with the rows rs left
+module _ (rows : List ℕ) (limit : ℕ) (m : Measure.Measure) (rs : List Row) where
   pub narrow : (span : Span) {x : Bool} → measure_rows span start (rows_of rows) ≡ measure_of m → x ≡ breaks span limit m.commas m.width → x ≡ breaks_at span limit (measure_rows span start (rows_of rows))
   narrow span w e = e ∙ sym (ap (breaks_at span limit) w)
 
   module _ (h : limit < m.width) where
-    pub wide_signature : measure_rows Signature start (rows_of rows) ≡ measure_rows Signature (measure_of m) (rows_of (drop at rows)) → true ≡ breaks_at Signature limit (measure_rows Signature start (rows_of rows))
+    pub wide_signature : measure_rows Signature start (rows_of rows) ≡ measure_rows Signature (measure_of m) rs → true ≡ breaks_at Signature limit (measure_rows Signature start (rows_of rows))
     wide_signature left =
-        let γ = grows Signature (measure_of m) (rows_of (drop at rows)) in
-        rw (left, lt-ltb limit (measure_rows Signature (measure_of m) (rows_of (drop at rows))).width (omega (arith, γ.width)), or-true)
+        let γ = grows Signature (measure_of m) rs in
+        rw (left, lt-ltb limit (measure_rows Signature (measure_of m) rs).width (omega (arith, γ.width)), or-true)
 
-    module _ (span : Span) (left : measure_rows span start (rows_of rows) ≡ measure_rows span (measure_of m) (rows_of (drop at rows))) where
+    module _ (span : Span) (left : measure_rows span start (rows_of rows) ≡ measure_rows span (measure_of m) rs) where
       pub wide_comma : 0 < m.commas → true ≡ breaks_at span limit (measure_rows span start (rows_of rows))
-      wide_comma c = let γ = grows span (measure_of m) (rows_of (drop at rows)) in rw left (sym (go span _ _ (omega (arith, γ.commas)) (omega (arith, γ.width))))
+      wide_comma c = let γ = grows span (measure_of m) rs in rw left (sym (go span _ _ (omega (arith, γ.commas)) (omega (arith, γ.width))))
         where
           go : (span : Span) (c w : ℕ) → 0 < c → limit < w → breaks span limit c w ≡ true
           go Signature c w g h = rw (lt-ltb limit w h) (or-true (ltb 2 c))
@@ -88,20 +87,20 @@ module _ (rows : List ℕ) (limit : ℕ) (m : Measure.Measure) (at : ℕ) where
           go Bracket c w g h = rw (lt-ltb 0 c g, lt-ltb limit w h)
 
       -- a wide list breaks exactly if it has a comma
-      wide_list : ltb 0 (measure_rows span (measure_of m) (rows_of (drop at rows))).commas ≡ ltb 0 (measure_rows span start (rows_of rows)).commas && ltb limit (measure_rows span start (rows_of rows)).width
+      wide_list : ltb 0 (measure_rows span (measure_of m) rs).commas ≡ ltb 0 (measure_rows span start (rows_of rows)).commas && ltb limit (measure_rows span start (rows_of rows)).width
       wide_list =
-          let γ = grows span (measure_of m) (rows_of (drop at rows)) in
-          rw (left, lt-ltb limit (measure_rows span (measure_of m) (rows_of (drop at rows))).width (omega (arith, γ.width)), and-true)
+          let γ = grows span (measure_of m) rs in
+          rw (left, lt-ltb limit (measure_rows span (measure_of m) rs).width (omega (arith, γ.width)), and-true)
 
     module _ (z : m.commas ≤ 0) where
-      pub wide_paren : measure_rows Paren start (rows_of rows) ≡ measure_rows Paren (measure_of m) (rows_of (drop at rows)) → comma_ahead LeftParen RightParen LeftBracket RightBracket m.parens m.brackets (rows_of (drop at rows)) ≡ breaks_at Paren limit (measure_rows Paren start (rows_of rows))
+      pub wide_paren : measure_rows Paren start (rows_of rows) ≡ measure_rows Paren (measure_of m) rs → comma_ahead LeftParen RightParen LeftBracket RightBracket m.parens m.brackets rs ≡ breaks_at Paren limit (measure_rows Paren start (rows_of rows))
       wide_paren left =
           comma_rows Paren (λ x. x.paren_depth) (λ x. x.bracket_depth) LeftParen RightParen LeftBracket RightBracket (omega arith) (omega arith) (omega arith) (omega arith)
-          (λ x k. refl) (λ x. refl) (λ x k n. refl) (λ x k n. refl) (measure_of m) (rows_of (drop at rows)) (omega arith)
+          (λ x k. refl) (λ x. refl) (λ x k n. refl) (λ x k n. refl) (measure_of m) rs (omega arith)
           ∙ wide_list Paren left
 
-      pub wide_bracket : measure_rows Bracket start (rows_of rows) ≡ measure_rows Bracket (measure_of m) (rows_of (drop at rows)) → comma_ahead LeftBracket RightBracket LeftParen RightParen m.brackets m.parens (rows_of (drop at rows)) ≡ breaks_at Bracket limit (measure_rows Bracket start (rows_of rows))
+      pub wide_bracket : measure_rows Bracket start (rows_of rows) ≡ measure_rows Bracket (measure_of m) rs → comma_ahead LeftBracket RightBracket LeftParen RightParen m.brackets m.parens rs ≡ breaks_at Bracket limit (measure_rows Bracket start (rows_of rows))
       wide_bracket left =
           comma_rows Bracket (λ x. x.bracket_depth) (λ x. x.paren_depth) LeftBracket RightBracket LeftParen RightParen (omega arith) (omega arith) (omega arith) (omega arith)
-          (λ x k. refl) (λ x. refl) (λ x k n. refl) (λ x k n. refl) (measure_of m) (rows_of (drop at rows)) (omega arith)
+          (λ x k. refl) (λ x. refl) (λ x k n. refl) (λ x k n. refl) (measure_of m) rs (omega arith)
           ∙ wide_list Bracket left

@@ -1,82 +1,91 @@
--- The loops of `measure_rows` and `until_wide`: the rows that are left complete the measure. Assumes nothing.
+-- The loop of `until_wide`: the rows that are left complete the measure. Assumes nothing.
 use mathlib.Core.Bool.{Bool, true, false, ◌&&◌}
-use mathlib.Core.List.{List}
+use mathlib.Core.List.{List, [], ◌∷◌}
 use mathlib.Core.Path.{◌≡◌, sym, ap, ◌∙◌}
-use Prim.Native.Nat.{ℕ, ◌+◌, ◌-◌, ◌≤◌, ◌<◌}
+use Prim.Native.Nat.{ℕ, ◌+◌, ◌-◌, ◌<◌}
 use native.Mathlib.Omega.{arith}
 use lib.Dec.{eqb}
-use lib.ListN.{length, drop}
-use borrow.Author.Tests.{eq-eqb, ne_eqb}
-use Rattle.rows.specs.Kinds.{TokenRow, LeftParen, RightParen, LeftBracket, RightBracket, Comma}
-use Rattle.rows.specs.Row.{Row, row_at, rows_of}
+use lib.ListN.{length}
+use Rattle.std.specs.Prelude.{min}
+use Rattle.rows.specs.Kinds.{TokenRow, Eof, LeftParen, RightParen, LeftBracket, RightBracket, Comma, Other}
+use Rattle.rows.specs.Row.{Row, rows_of}
+use Rattle.rows.proofs.KindNumbers.{min_kind}
+use Rattle.rows.proofs.RowList.{rows_length}
 use Rattle.lookahead.specs.declared.measure.Span.{Span}
-use Rattle.lookahead.specs.Measure.{start}
-use Rattle.lookahead.specs.Scan.{stops_at, top_in, counts, measure_rows, measure_of, Room}
+use Rattle.lookahead.specs.declared.measure.Span.TheVariants.{Signature, Paren, Bracket}
+use Rattle.lookahead.specs.Measure.{Measure, start}
+use Rattle.lookahead.specs.Scan.{stops_at, top_in, counts, measure_rows, measure_of, Room, FewIn}
 use Rattle.lookahead.proofs.Steps.{depth_after-most, more-most}
-use Rattle.lookahead.proofs.Rests.{here, over}
-use Rattle.lookahead.specs.declared.measure.Measure
+use Rattle.lookahead.specs.declared.measure.Measure.{Measure as CodeMeasure}
 
--- the code's numbers m, behind `at` bytes of the rows
-pub record Measuring (rows : List ℕ) (span : Span) (m : Measure.Measure) (at : ℕ) : Type 0 where
-  pub within : at ≤ length rows
-  pub parens : m.parens ≤ at
-  pub brackets : m.brackets ≤ at
-  pub commas : m.commas ≤ at
-  pub left : measure_rows span start (rows_of rows) ≡ measure_rows span (measure_of m) (rows_of (drop at rows))
+-- ---- a kind above 34 counts as one of 34
 
-pub measuring_start : (rows : List ℕ) (span : Span) (m : Measure.Measure) → m.parens ≡ 0 → m.brackets ≡ 0 → m.commas ≡ 0 → m.width ≡ 0 → Measuring rows span m 0
-measuring_start rows span m p b c w = record { within = omega arith; parens = omega arith; brackets = omega arith; commas = omega arith; left = rw (p, b, c, w) }
+stops_min : (span : Span) (p b k : ℕ) → stops_at span p b (min k Other) ≡ stops_at span p b k
+stops_min Signature p b k = rw (min_kind k RightParen (omega arith), min_kind k Eof (omega arith))
+stops_min Paren p b k = rw (min_kind k RightParen (omega arith), min_kind k Eof (omega arith))
+stops_min Bracket p b k = rw (min_kind k RightBracket (omega arith), min_kind k Eof (omega arith))
 
--- what `until_wide` answers: the measure m, and the index from which it goes on
-abbrev pub Reaches : List ℕ → Span → ℕ → Measure.Measure → ℕ → Type 0
-Reaches rows span limit m at =
-    (measure_rows span start (rows_of rows) ≡ measure_rows span (measure_of m) (rows_of (drop at rows)))
-    × ((m.width ≤ limit → measure_rows span start (rows_of rows) ≡ measure_of m) × ((m.parens ≤ at) × (m.brackets ≤ at) × (at ≤ length rows)))
+counts_min : (span : Span) (m : Measure) (k n : ℕ) → counts span m (min k Other) n ≡ counts span m k n
+counts_min span m k n =
+    rw (min_kind k LeftParen (omega arith), min_kind k RightParen (omega arith), min_kind k LeftBracket (omega arith), min_kind k RightBracket (omega arith), min_kind k Comma (omega arith))
 
-module _ {rows : List ℕ} {span : Span} {m : Measure.Measure} {at : ℕ} (σ : Measuring rows span m at) where
+-- ---- the loop
+
+-- the code's numbers m, where the rows `left` are left
+pub record Measuring (rows : List ℕ) (span : Span) (m : CodeMeasure) (left : List Row) : Type 0 where
+  pub few : FewIn m left (rows_of rows)
+  pub said : measure_rows span start (rows_of rows) ≡ measure_rows span (measure_of m) left
+
+pub measuring_start : (rows : List ℕ) (span : Span) (m : CodeMeasure) → m.parens ≡ 0 → m.brackets ≡ 0 → m.commas ≡ 0 → m.width ≡ 0 → {left : List Row} → left ≡ rows_of rows → Measuring rows span m left
+measuring_start rows span m p b c w e = rw e (record {
+  few = record { parens = omega arith; brackets = omega arith; commas = omega arith; width = omega arith };
+  said = rw (p, b, c, w);
+})
+
+module _ {rows : List ℕ} {span : Span} {m : CodeMeasure} {left : List Row} (σ : Measuring rows span m left) where
   pub room : (n : ℕ) → length rows < 9223372036854775808 → m.width + n < 9223372036854775808 → Room m n
-  room n h l = record { parens = omega (arith, σ.parens, σ.within); brackets = omega (arith, σ.brackets, σ.within); commas = omega (arith, σ.commas, σ.within); width = l }
+  room n h l =
+      let f = σ.few in
+      let k = rows_length rows in
+      record { parens = omega (arith, f.parens); brackets = omega (arith, f.brackets); commas = omega (arith, f.commas); width = l }
 
-  module _ {r : Row} (h : 16 ≤ length rows - at) (e : r ≡ row_at rows at) where
-    pub passed_over : (r.what ≡ TokenRow → ⊥) → Measuring rows span m (at + 16)
-    unfolding measure_rows
-    passed_over n = record {
-      within = omega (arith, σ.within);
-      parens = omega (arith, σ.parens);
-      brackets = omega (arith, σ.brackets);
-      commas = omega (arith, σ.commas);
-      left = σ.left ∙ rw (here rows at σ.within h e, ne_eqb r.what TokenRow n);
-    }
-
-    module _ (t : r.what ≡ TokenRow) {stops : Bool} (s : stops ≡ stops_at span m.parens m.brackets r.kind) where
-      pub stopped : stops ≡ true → measure_of m ≡ measure_rows span start (rows_of rows)
-      unfolding measure_rows
-      stopped y = sym (σ.left ∙ rw (here rows at σ.within h e, eq-eqb r.what TokenRow t, sym s ∙ y))
-
-      pub reached_stop : (limit : ℕ) → stops ≡ true → Reaches rows span limit m (length rows)
-      unfolding measure_rows
-      reached_stop limit y =
-          (sym (stopped y) ∙ rw (over rows (length rows) (omega arith) (omega arith)), ((λ w. sym (stopped y)), (omega (arith, σ.parens, σ.within), omega (arith, σ.brackets, σ.within), omega arith)))
-
-      pub counted : stops ≡ false → {n : ℕ} {m' : Measure.Measure} → n ≡ r.end - r.start → measure_of m' ≡ counts span (measure_of m) r.kind n → Measuring rows span m' (at + 16)
-      unfolding measure_rows
-      counted y {n} {m'} q k = record {
-        within = omega (arith, σ.within);
-        parens = omega (arith, σ.parens, ap (λ x. x.paren_depth) k, depth_after-most LeftParen RightParen r.kind m.parens);
-        brackets = omega (arith, σ.brackets, ap (λ x. x.bracket_depth) k, depth_after-most LeftBracket RightBracket r.kind m.brackets);
-        commas = omega (arith, σ.commas, ap (λ x. x.commas) k, more-most (eqb r.kind Comma && top_in span m.parens m.brackets) m.commas);
-        left = σ.left ∙ rw (here rows at σ.within h e, eq-eqb r.what TokenRow t, sym s ∙ y, k, q);
-      }
-
-  pub ended : length rows - at < 16 → measure_of m ≡ measure_rows span start (rows_of rows)
+  pub ended : left ≡ [] → measure_rows span start (rows_of rows) ≡ measure_of m
   unfolding measure_rows
-  ended h = sym (σ.left ∙ rw (over rows at σ.within h))
+  ended e = σ.said ∙ rw e
 
-  pub reached_wide : (limit : ℕ) → limit < m.width → Reaches rows span limit m at
-  reached_wide limit h = (σ.left, ((λ w. absurd (omega arith)), (σ.parens, σ.brackets, σ.within)))
+  module _ {r : Row} {rs : List Row} (e : left ≡ r ∷ rs) where
+    one_less : length left ≡ length rs + 1
+    one_less = rw e (omega arith)
 
-  pub reached_end : (limit : ℕ) → length rows - at < 16 → Reaches rows span limit m at
-  reached_end limit h = (σ.left, ((λ w. sym (ended h)), (σ.parens, σ.brackets, σ.within)))
+    pub fewer : FewIn m rs (rows_of rows)
+    fewer =
+        let f = σ.few in
+        let l = one_less in
+        record { parens = omega (arith, f.parens); brackets = omega (arith, f.brackets); commas = omega (arith, f.commas); width = omega (arith, f.width) }
 
-  pub few : m.commas ≤ length rows
-  few = omega (arith, σ.commas, σ.within)
+    pub passed_over : eqb r.what TokenRow ≡ false → Measuring rows span m rs
+    unfolding measure_rows
+    passed_over n = record { few = fewer; said = σ.said ∙ rw (e, n) }
+
+    module _ (t : eqb r.what TokenRow ≡ true) {k : ℕ} (q : k ≡ min r.kind Other) {stops : Bool} (s : stops ≡ stops_at span m.parens m.brackets k) where
+      stops_is : stops_at span m.parens m.brackets r.kind ≡ stops
+      stops_is = sym (s ∙ rw q (stops_min span m.parens m.brackets r.kind))
+
+      pub stopped : stops ≡ true → measure_rows span start (rows_of rows) ≡ measure_of m
+      unfolding measure_rows
+      stopped y = σ.said ∙ rw (e, t, stops_is ∙ y)
+
+      pub counted : stops ≡ false → {n : ℕ} {m' : CodeMeasure} → n ≡ r.end - r.start → n < 4294967296 → measure_of m' ≡ counts span (measure_of m) k n → Measuring rows span m' rs
+      unfolding measure_rows
+      counted y {n} {m'} z small c =
+          let f = σ.few in
+          let l = one_less in
+          record {
+            few = record {
+              parens = omega (arith, f.parens, ap (λ x. x.paren_depth) c, depth_after-most LeftParen RightParen k m.parens);
+              brackets = omega (arith, f.brackets, ap (λ x. x.bracket_depth) c, depth_after-most LeftBracket RightBracket k m.brackets);
+              commas = omega (arith, f.commas, ap (λ x. x.commas) c, more-most (eqb k Comma && top_in span m.parens m.brackets) m.commas);
+              width = omega (arith, f.width, ap (λ x. x.width) c);
+            };
+            said = σ.said ∙ rw (e, t, stops_is ∙ y, ← z, ← counts_min span (measure_of m) r.kind n, ← q, c);
+          }

@@ -1,12 +1,12 @@
 -- The width of all tokens together: no list is wider; the loop of `total_width`. Assumes nothing.
-use mathlib.Core.Bool.{false, and-false}
+use mathlib.Core.Bool.{true, false, and-false}
 use mathlib.Core.List.{List, [], ◌∷◌}
 use mathlib.Core.Path.{◌≡◌}
-use Prim.Native.Nat.{ℕ, zero, suc, ◌+◌, ◌-◌, ◌*◌, ◌≤◌, ◌<◌}
+use Prim.Native.Nat.{ℕ, zero, suc, ◌+◌, ◌-◌, ◌*◌, ◌≤◌}
 use native.Mathlib.Omega.{arith}
 use lib.Dec.{eqb, ltb}
 use lib.ListN.{length, drop}
-use borrow.Author.Tests.{eq-eqb, ne_eqb, le-ltb, ltb-true, ltb-false}
+use borrow.Author.Tests.{le-ltb, ltb-true, ltb-false}
 use Rattle.shared.proofs.Logic.{split}
 use Rattle.rows.specs.Kinds.{TokenRow}
 use Rattle.rows.specs.Row.{Row, row_at, rows_of}
@@ -17,7 +17,6 @@ use Rattle.lookahead.specs.declared.measure.Span.{Span}
 use Rattle.lookahead.specs.Measure.{Measure, start, row_sizes, opens_paren, should_break_list}
 use Rattle.lookahead.specs.Scan.{group_of, stops_at, counts, measure_rows, width_rows}
 use Rattle.lookahead.proofs.Sizes.{sizes_in_bounds, group_is}
-use Rattle.lookahead.proofs.Rests.{here, over}
 
 -- ---- no list is wider than all tokens
 
@@ -61,31 +60,18 @@ width_part (suc j) rows =
 
 -- ---- the loop of `total_width`
 
--- the rows before `at` have the width w; it fits, as each row adds at most 2 ^ 32
-pub record Widening (rows : List ℕ) (w at : ℕ) : Type 0 where
-  pub within : at ≤ length rows
-  pub fits : w ≤ 4294967296 * at
-  pub left : width_rows (rows_of rows) ≡ w + width_rows (rows_of (drop at rows))
-
-pub widening_start : (rows : List ℕ) → Widening rows 0 0
-widening_start rows = record { within = omega arith; fits = omega arith; left = omega arith }
-
-module _ {rows : List ℕ} {w at : ℕ} (σ : Widening rows w at) where
-  module _ {r : Row} (h : 16 ≤ length rows - at) (e : r ≡ row_at rows at) where
-    pub widened : r.what ≡ TokenRow → {n : ℕ} → n ≡ r.end - r.start → n < 4294967296 → Widening rows (w + (n + 1)) (at + 16)
-    unfolding width_rows
-    widened t {n} q l =
-        let z : width_rows (rows_of (drop at rows)) ≡ r.end - r.start + 1 + width_rows (rows_of (drop (at + 16) rows)) = rw (here rows at σ.within h e, eq-eqb r.what TokenRow t) in
-        record { within = omega (arith, σ.within); fits = omega (arith, σ.fits); left = omega (arith, σ.left) }
-
-    pub passed_row : (r.what ≡ TokenRow → ⊥) → Widening rows w (at + 16)
-    unfolding width_rows
-    passed_row n =
-        let z : width_rows (rows_of (drop at rows)) ≡ width_rows (rows_of (drop (at + 16) rows)) = rw (here rows at σ.within h e, ne_eqb r.what TokenRow n) in
-        record { within = omega (arith, σ.within); fits = omega (arith, σ.fits); left = omega (arith, σ.left) }
-
-  pub all_widths : length rows - at < 16 → w ≡ width_rows (rows_of rows)
+module _ {left : List Row} {r : Row} {rs : List Row} (e : left ≡ r ∷ rs) where
+  pub wider : eqb r.what TokenRow ≡ true → {n : ℕ} → n ≡ r.end - r.start → width_rows left ≡ n + 1 + width_rows rs
   unfolding width_rows
-  all_widths h =
-      let z : width_rows (rows_of (drop at rows)) ≡ 0 = rw (over rows at σ.within h) in
-      omega (arith, σ.left)
+  wider t q = rw (e, t, q)
+
+  pub no_wider : eqb r.what TokenRow ≡ false → width_rows left ≡ width_rows rs
+  unfolding width_rows
+  no_wider t = rw (e, t)
+
+  pub one_less : length left ≡ length rs + 1
+  one_less = rw e (omega arith)
+
+pub no_width : {left : List Row} → left ≡ [] → width_rows left ≡ 0
+unfolding width_rows
+no_width e = rw e

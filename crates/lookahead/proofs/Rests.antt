@@ -1,11 +1,11 @@
 -- The rows from an index on: the row that the code reads there and those behind it, or none. Assumes nothing.
 use mathlib.Core.List.{List, [], ◌∷◌}
 use mathlib.Core.Path.{◌≡◌, sym, ap, ◌∙◌}
-use Prim.Native.Nat.{ℕ, ◌+◌, ◌-◌, ◌/◌, ◌≤◌, ◌<◌}
+use Prim.Native.Nat.{ℕ, ◌+◌, ◌-◌, ◌≤◌, ◌<◌}
 use native.Mathlib.Omega.{arith}
-use lib.ListN.{length, drop, length-drop}
+use lib.ListN.{length, drop}
 use Rattle.rows.specs.Row.{Row, row_at, rows_of}
-use Rattle.rows.proofs.RowList.{part_cons, part_none, rows_length}
+use Rattle.rows.proofs.RowList.{part_cons, part_none}
 
 module _ (rows : List ℕ) (at : ℕ) (within : at ≤ length rows) where
   pub here : {r : Row} → 16 ≤ length rows - at → r ≡ row_at rows at → rows_of (drop at rows) ≡ r ∷ rows_of (drop (at + 16) rows)
@@ -13,7 +13,3 @@ module _ (rows : List ℕ) (at : ℕ) (within : at ≤ length rows) where
 
   pub over : length rows - at < 16 → rows_of (drop at rows) ≡ []
   over h = part_none rows at (omega arith)
-
--- how many they are, as the code counts them
-pub rows_left : (rows : List ℕ) (at : ℕ) {left : ℕ} → left ≡ (length rows - at) / 16 → length (rows_of (drop at rows)) ≡ left
-rows_left rows at l = rows_length (drop at rows) ∙ ap (λ n. n / 16) (length-drop at rows) ∙ sym l

@@ -1,6 +1,6 @@
 -- What the code computes over rows. The measures here say the same as those of Measure.antt (proofs/Sizes.antt).
 -- Assumes nothing.
-use Rattle.std.specs.Prelude.{Bool, true, false, cond, not, ◌&&◌, ◌||◌, List, [], ◌∷◌, ◌≡◌, ℕ, ◌+◌, ◌-◌, ◌*◌, ◌^◌, ◌<◌, eqb, ltb}
+use Rattle.std.specs.Prelude.{Bool, true, false, cond, not, ◌&&◌, ◌||◌, List, [], ◌∷◌, ◌≡◌, ℕ, ◌+◌, ◌-◌, ◌*◌, ◌^◌, ◌≤◌, ◌<◌, eqb, ltb, length}
 use Rattle.rows.specs.Kinds.{Leading, TokenRow, Trailing, BlankLine, Eof, Newline, RightParen, RightBracket, Comma, Other}
 use Rattle.rows.specs.Row.{Row, row_size, rows_of}
 use Rattle.lookahead.specs.declared.measure.Span.{Span}
@@ -162,3 +162,10 @@ pub record Room (m : Measure.Measure) (n : ℕ) : Type 0 where
   pub brackets : m.brackets < 2 ^ 63
   pub commas : m.commas < 2 ^ 63
   pub width : m.width + n < 2 ^ 63
+
+-- so many rows of `all` are left behind the measure m that its numbers are few
+pub record FewIn (m : Measure.Measure) (left all : List Row) : Type 0 where
+  pub parens : m.parens + length left ≤ length all
+  pub brackets : m.brackets + length left ≤ length all
+  pub commas : m.commas + length left ≤ length all
+  pub width : m.width + 2 ^ 32 * length left ≤ 2 ^ 32 * length all

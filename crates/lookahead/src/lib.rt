@@ -1,7 +1,7 @@
 // The lookaheads of format.rs over rows.
 #![tactic(auto)]
 
-ghost use Rattle.std.specs.Prelude.{List, ◌≡◌, ℕ, ◌^◌, ◌≤◌, ◌<◌, length, drop};
+ghost use Rattle.std.specs.Prelude.{List, ◌≡◌, ℕ, ◌+◌, ◌^◌, ◌≤◌, ◌<◌, eqb, length, find, min, option_map};
 ghost use Rattle.rows.specs.Row.{rows_of};
 ghost use Rattle.rows.specs.Checks.{most_row_bytes};
 ghost use Rattle.rows.specs.Token.{tokens_of};
@@ -11,15 +11,21 @@ ghost use Rattle.lookahead.specs.Measure.{start, row_sizes, opens_paren, sig_mea
 ghost use Rattle.lookahead.specs.Measure.{sig_breaks, list_breaks, block_is_single_line, next_has_comment, next_is};
 ghost use Rattle.lookahead.specs.Scan.{after_last, width_rows, is_comment, is_trivia, trails, ends_line, group_of};
 ghost use Rattle.lookahead.specs.Scan.{measure_rows, measure_of, least_rows, token_kind, GroupKinds, comma_ahead};
-ghost use Rattle.lookahead.specs.Scan.{breaks_at};
+ghost use Rattle.lookahead.specs.Scan.{breaks_at, FewIn};
+ghost use Rattle.rows.specs.Kinds.{TokenRow, Other};
+ghost use Rattle.rows.specs.KindNumber.{kind_number};
+ghost use Rattle.rows.specs.RowsLeft.{rows_left};
 
-use crate::measure::{Measure, Span, depth_after, is_last, is_top_comma, size_of};
-use rows::{MOST_ROWS, ROW_BYTES, Row, kinds, row_at};
+use crate::measure::{BRACKETS, Measure, PARENS, Pair, Span, is_last, is_top_comma, size_of};
+use rows::{Kind, MOST_ROWS, ROW_BYTES, Row, Rows, Trivia, What, row_at};
 
 mod measure;
 
 // The bytes of as many rows as a layout takes at most.
 const MOST_ROW_BYTES: usize = MOST_ROWS * ROW_BYTES;
+
+// No measure of as many rows is wider.
+const NO_LIMIT: usize = 0xf_ffff_ffff_ffff;
 
 // The lookaheads take the part of the rows that starts at the opener, its own leading rows included, and goes
 // to the end. The first four go by the rows' own numbers. Where the rows lie in a text, the tokens that they
@@ -56,7 +62,7 @@ pub fn sig_measure(rows: &[u8]) -> SigMeasure
             width: 0,
         };
     }
-    let m = measure_rows(rows, Span::Signature);
+    let (m, _) = until_wide(rows, Span::Signature, NO_LIMIT);
     if m.width == 0 {
         return SigMeasure {
             params: 0,
@@ -86,7 +92,7 @@ pub fn group_measure(rows: &[u8]) -> GroupMeasure
             width: 0,
         };
     }
-    let m = measure_rows(rows, group(rows));
+    let (m, _) = until_wide(rows, group(rows), NO_LIMIT);
     GroupMeasure {
         commas: m.commas,
         width: m.width,
@@ -97,52 +103,44 @@ pub fn group_measure(rows: &[u8]) -> GroupMeasure
 pub fn block_is_single_line(rows: &[u8]) -> bool
     ensures { (text : List ℕ) → result ≡ block_is_single_line (tokens_of rows.now text) }
 {
+    let mut left = Rows::of(rows);
     let mut depth = 0;
     let mut follows = false; // a token's row
-    let mut at = 0;
-    while least_rows(depth) <= (rows.len() - at) / ROW_BYTES {
-        let row = row_at(rows, at);
-        at += ROW_BYTES;
-        if row.what != kinds::TOKEN {
-            if is_trivia(row.what, follows) {
+    while least_rows(depth) <= left.len() {
+        let Some(row) = left.next() else {
+            return false;
+        };
+        if !row.is_token() {
+            if is_trivia(row, follows) {
                 return false;
             }
             follows = false;
-        } else if row.kind == kinds::LEFT_BRACE {
-            depth += 1;
-            follows = true;
-        } else if row.kind <= kinds::RIGHT_BRACE {
-            if ends_line(row.kind) {
-                return false;
-            }
-            if depth <= 1 {
-                return !trails(rows, at);
-            }
-            depth -= 1;
-            follows = true;
-        } else {
-            follows = true;
+            continue;
         }
+        match row.token_kind() {
+            Kind::LeftBrace => depth += 1,
+            Kind::RightBrace if depth <= 1 => return !trails(left),
+            Kind::RightBrace => depth -= 1,
+            Kind::Newline | Kind::Eof => return false,
+            _ => {}
+        }
+        follows = true;
     }
     false
 }
 
 // Whether the next token has a comment among its leading rows. The rows start right after a token's row, so
 // that token's trailing rows come first.
+#[tactic(auto, unfolding(crate::proofs::Tokens::comment_ahead), using(crate::proofs::Looking::comment_said))]
 pub fn next_has_comment(rows: &[u8]) -> bool
     ensures { (text : List ℕ) → result ≡ next_has_comment (tokens_of rows.now text) }
 {
     let mut seen = false;
-    let mut at = 0;
-    while ROW_BYTES <= rows.len() - at {
-        let row = row_at(rows, at);
-        at += ROW_BYTES;
-        if row.what == kinds::TOKEN {
+    for row in Rows::of(rows) {
+        if row.is_token() {
             return seen;
         }
-        if is_comment(row) {
-            seen = true;
-        }
+        seen = seen || is_comment(row);
     }
     false
 }
@@ -152,15 +150,17 @@ pub fn next_has_comment(rows: &[u8]) -> bool
 pub fn next_is(rows: &[u8], kind: u32) -> bool
     ensures { (text : List ℕ) → result ≡ next_is kind (tokens_of rows.now text) }
 {
-    let mut at = 0;
-    while ROW_BYTES <= rows.len() - at {
-        let row = row_at(rows, at);
-        if row.what == kinds::TOKEN {
-            return row.kind == kind;
-        }
-        at += ROW_BYTES;
+    match first_token(rows) {
+        Some(row) => row.kind == kind,
+        None => false,
     }
-    false
+}
+
+// Answers the first row that is a token's.
+fn first_token(rows: &[u8]) -> Option<Row>
+    ensures { option_map row_of result ≡ find (λ r. eqb r.what TokenRow) (rows_of rows.now) }
+{
+    Rows::of(rows).find(|row| row.is_token())
 }
 
 // Answers the index after the last row of the kind, or 0. No token of the kind stands from there on
@@ -185,11 +185,8 @@ pub fn total_width(rows: &[u8]) -> usize
     ensures { result ≡ width_rows (rows_of rows.now) }
 {
     let mut width = 0;
-    let mut at = 0;
-    while ROW_BYTES <= rows.len() - at {
-        let row = row_at(rows, at);
-        at += ROW_BYTES;
-        if row.what == kinds::TOKEN {
+    for row in Rows::of(rows) {
+        if row.is_token() {
             width += size_of(row) + 1;
         }
     }
@@ -202,8 +199,7 @@ fn decide(rows: &[u8], span: Span, limit: usize) -> bool
     requires { limit < 2 ^ 32 }
     ensures { result ≡ breaks_at span limit (measure_rows span start (rows_of rows.now)) }
 {
-    let reached = until_wide(rows, span, limit);
-    let m = reached.m;
+    let (m, left) = until_wide(rows, span, limit);
     if m.width <= limit {
         return m.breaks(span, limit);
     }
@@ -212,123 +208,87 @@ fn decide(rows: &[u8], span: Span, limit: usize) -> bool
     }
     match span {
         Span::Signature => true,
-        Span::Paren => comma_ahead(
-            rows,
-            reached.at,
-            m.parens,
-            m.brackets,
-            kinds::LEFT_PAREN,
-            kinds::RIGHT_PAREN,
-            kinds::LEFT_BRACKET,
-            kinds::RIGHT_BRACKET,
-        ),
-        Span::Bracket => comma_ahead(
-            rows,
-            reached.at,
-            m.brackets,
-            m.parens,
-            kinds::LEFT_BRACKET,
-            kinds::RIGHT_BRACKET,
-            kinds::LEFT_PAREN,
-            kinds::RIGHT_PAREN,
-        ),
+        Span::Paren => comma_ahead(left, m.parens, m.brackets, PARENS, BRACKETS),
+        Span::Bracket => comma_ahead(left, m.brackets, m.parens, BRACKETS, PARENS),
     }
 }
 
-// A measure, and the index from which it goes on.
-#[derive(Clone, Copy)]
-struct Reached {
-    m: Measure,
-    at: usize,
-}
-
-// Measures until the width is above the limit. A measure that stays below it is whole, and goes on from the
-// end of the rows.
-fn until_wide(rows: &[u8], span: Span, limit: usize) -> Reached
-    requires { limit < 2 ^ 32 }
-    ensures left { measure_rows span start (rows_of rows.now)
-        ≡ measure_rows span (measure_of result.m) (rows_of (drop result.at rows.now)) }
-    ensures whole { result.m.width ≤ limit
-        → measure_rows span start (rows_of rows.now) ≡ measure_of result.m }
-    ensures few { (result.m.parens ≤ result.at) × (result.m.brackets ≤ result.at)
-        × (result.at ≤ length rows.now) }
+// Measures until the width is above the limit, and answers the rows that are left too. A measure that stays
+// below it is whole.
+fn until_wide<'a>(rows: &'a [u8], span: Span, limit: usize) -> (Measure, Rows<'a>)
+    requires { limit < 2 ^ 62 }
+    ensures left { limit < result.0.width → measure_rows span start (rows_of rows.now)
+        ≡ measure_rows span (measure_of result.0) (rows_left result.1) }
+    ensures whole { result.0.width ≤ limit
+        → measure_rows span start (rows_of rows.now) ≡ measure_of result.0 }
+    ensures few { FewIn result.0 (rows_left result.1) (rows_of rows.now) }
 {
     let mut m = Measure::new();
-    let mut at = 0;
-    if rows.len() < ROW_BYTES {
-        return Reached { m, at };
-    }
-    let last = rows.len() - ROW_BYTES;
-    while at <= last {
-        let row = row_at(rows, at);
-        at += ROW_BYTES;
-        if row.what == kinds::TOKEN {
-            if m.stops(span, row.kind) {
-                return Reached { m, at: rows.len() };
-            }
-            m = m.counts(span, row.kind, size_of(row));
-            if limit < m.width {
-                return Reached { m, at };
-            }
+    let mut left = Rows::of(rows);
+    while let Some(row) = left.next() {
+        if !row.is_token() {
+            continue;
+        }
+        let kind = row.token_kind();
+        if m.stops(span, kind) {
+            return (m, left);
+        }
+        m = m.counts(span, kind, size_of(row));
+        if limit < m.width {
+            return (m, left);
         }
     }
-    Reached { m, at }
+    (m, left)
 }
 
-// Whether a comma stands at the top of a group, from an index on, before the group closes. `own` and `other`
-// are the depths there: of the group's own kinds, and of the others. Its own kinds are tested first: a
-// hostile list nests them.
-fn comma_ahead(
-    rows: &[u8],
-    from: usize,
-    own: usize,
-    other: usize,
-    opener: u32,
-    closer: u32,
-    other_opener: u32,
-    other_closer: u32,
-) -> bool
-    requires depths { (own ≤ from) × (other ≤ from) × (from ≤ length rows.now) }
-    requires kinds { GroupKinds opener closer other_opener other_closer }
-    ensures { result ≡ comma_ahead opener closer other_opener other_closer own other
-        (rows_of (drop from rows.now)) }
+// Whether a comma stands at the top of a group, in the rows that are left, before the group closes. `own` and
+// `other` are the depths there: of the group's own kinds, and of the others. Its own kinds are tested first:
+// a hostile list nests them.
+fn comma_ahead(left: Rows, own: usize, other: usize, pair: Pair, other_pair: Pair) -> bool
+    requires depths { (own + length (rows_left left) < 2 ^ 62) × (other + length (rows_left left) < 2 ^ 62) }
+    requires kinds { GroupKinds (kind_number pair.opener) (kind_number pair.closer)
+        (kind_number other_pair.opener) (kind_number other_pair.closer) }
+    ensures { result ≡ comma_ahead (kind_number pair.opener) (kind_number pair.closer)
+        (kind_number other_pair.opener) (kind_number other_pair.closer) own other
+        (rows_left left.entry) }
 {
+    let mut left = left;
     let mut own = own;
     let mut other = other;
-    let mut at = from;
-    let mut left = (rows.len() - from) / ROW_BYTES;
-    while least_rows(own + other) <= left {
-        let kind = token_kind(row_at(rows, at));
-        at += ROW_BYTES;
-        left -= 1;
-        if kind == opener {
+    while least_rows(own + other) <= left.len() {
+        let Some(row) = left.next() else {
+            return false;
+        };
+        let kind = token_kind(row);
+        if kind == pair.opener {
             own += 1;
-        } else if kind == closer {
+        } else if kind == pair.closer {
             if is_last(own, other) {
                 return false;
             }
-            own = depth_after(opener, closer, kind, own);
-        } else if kind <= kinds::COMMA {
-            if kind == kinds::EOF {
+            own = own.saturating_sub(1);
+        } else if kind as u32 <= Kind::Comma as u32 {
+            if kind == Kind::Eof {
                 return false;
             }
             if is_top_comma(kind, own, other) {
                 return true;
             }
-            other = depth_after(other_opener, other_closer, kind, other);
+            other = other_pair.depth_after(kind, other);
         }
     }
     false
 }
 
 // Answers the kind of a token. A row that is no token's counts as a token that matters to no depth.
-fn token_kind(row: Row) -> u32
-    ensures { result ≡ token_kind (row_of row) }
+fn token_kind(row: Row) -> Kind
+    ensures { kind_number result ≡ min (token_kind (row_of row)) Other }
 {
-    if row.what != kinds::TOKEN {
-        return kinds::OTHER;
+    if row.is_token() {
+        row.token_kind()
+    } else {
+        Kind::Other
     }
-    row.kind
 }
 
 // Answers how many rows a scan needs at least: one for each level that is open, since a token closes one at
@@ -336,104 +296,43 @@ fn token_kind(row: Row) -> u32
 fn least_rows(depth: usize) -> usize
     ensures { result ≡ least_rows depth }
 {
-    if depth == 0 {
-        return 1;
-    }
-    depth
-}
-
-// Measures to the end of what the rows begin with.
-fn measure_rows(rows: &[u8], span: Span) -> Measure
-    requires { length rows.now ≤ most_row_bytes }
-    ensures exact { measure_of result ≡ measure_rows span start (rows_of rows.now) }
-    ensures few { result.commas ≤ length rows.now }
-{
-    let mut m = Measure::new();
-    let mut at = 0;
-    while ROW_BYTES <= rows.len() - at {
-        let row = row_at(rows, at);
-        at += ROW_BYTES;
-        if row.what == kinds::TOKEN {
-            if m.stops(span, row.kind) {
-                return m;
-            }
-            m = m.counts(span, row.kind, size_of(row));
-        }
-    }
-    m
+    depth.max(1)
 }
 
 // Answers which group the first token opens.
 fn group(rows: &[u8]) -> Span
     ensures { result ≡ group_of (opens_paren (row_sizes (rows_of rows.now))) }
 {
-    if opens_paren(rows) {
-        return Span::Paren;
+    match first_token(rows) {
+        Some(row) if row.kind == Kind::LeftParen as u32 => Span::Paren,
+        _ => Span::Bracket,
     }
-    Span::Bracket
-}
-
-// Whether the first token is a `(`.
-fn opens_paren(rows: &[u8]) -> bool
-    ensures { result ≡ opens_paren (row_sizes (rows_of rows.now)) }
-{
-    let mut at = 0;
-    while ROW_BYTES <= rows.len() - at {
-        let row = row_at(rows, at);
-        if row.what == kinds::TOKEN {
-            return row.kind == kinds::LEFT_PAREN;
-        }
-        at += ROW_BYTES;
-    }
-    false
 }
 
 // Whether a row that is no token's is trivia of a token: a leading row, or a trailing row that follows a
 // token's row.
-fn is_trivia(what: u32, follows: bool) -> bool
-    ensures { result ≡ is_trivia what follows }
+fn is_trivia(row: Row, follows: bool) -> bool
+    ensures { result ≡ is_trivia (row_of row).what follows }
 {
-    if what == kinds::LEADING {
-        return true;
-    }
-    if what != kinds::TRAILING {
-        return false;
-    }
-    follows
-}
-
-// Whether a trailing row stands at `at`.
-fn trails(rows: &[u8], at: usize) -> bool
-    requires { at ≤ length rows.now }
-    ensures { result ≡ trails (rows_of (drop at rows.now)) }
-{
-    if rows.len() - at < ROW_BYTES {
-        return false;
-    }
-    let row = row_at(rows, at);
-    row.what == kinds::TRAILING
-}
-
-// Whether a token of the kind ends a line.
-fn ends_line(kind: u32) -> bool
-    ensures { result ≡ ends_line kind }
-{
-    match kind {
-        kinds::NEWLINE | kinds::EOF => true,
+    match row.what() {
+        Some(What::Leading) => true,
+        Some(What::Trailing) => follows,
         _ => false,
     }
+}
+
+// Whether the first of the rows that are left is a trailing row.
+fn trails(left: Rows) -> bool
+    ensures { result ≡ trails (rows_left left.entry) }
+{
+    let mut left = left;
+    left.next()
+        .is_some_and(|row| row.what() == Some(What::Trailing))
 }
 
 // Whether a row is a leading comment.
 fn is_comment(row: Row) -> bool
     ensures { result ≡ is_comment (row_of row) }
 {
-    if row.what != kinds::LEADING {
-        return false;
-    }
-    let kind = row.kind;
-    match kind {
-        kinds::LINE_COMMENT | kinds::DOC_COMMENT | kinds::BLOCK_COMMENT => true,
-        _ => false,
-    }
+    row.what() == Some(What::Leading) && row.trivia() != Trivia::BlankLine
 }

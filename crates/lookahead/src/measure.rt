@@ -1,11 +1,12 @@
 // The step that the measures and the decisions share: paren depth, bracket depth, commas and width.
 ghost use Rattle.std.specs.Prelude.{◌≡◌, ◌&&◌, ◌-◌, ◌^◌, ◌<◌, eqb};
 ghost use Rattle.rows.specs.Kinds.{Comma};
+ghost use Rattle.rows.specs.KindNumber.{kind_number};
 ghost use Rattle.lookahead.specs.Measure.{depth_after};
-ghost use Rattle.lookahead.specs.Scan.{more, is_last, is_top, stops_at, top_in, measure_of, counts, ends_group, Room};
+ghost use Rattle.lookahead.specs.Scan.{is_last, is_top, stops_at, top_in, measure_of, counts, Room};
 ghost use Rattle.lookahead.specs.Scan.{breaks, breaks_signature, breaks_list};
 
-use rows::{Row, kinds};
+use rows::{Kind, Row};
 
 // What is measured.
 #[derive(Clone, Copy)]
@@ -41,46 +42,35 @@ impl Measure {
     }
 
     // Whether the measure stops before a token of this kind: the closer that matches, or Eof. A signature
-    // does not look at brackets; no kind from Comma on stops a measure.
-    pub fn stops(self, span: Span, kind: u32) -> bool
-        ensures { result ≡ stops_at span self.parens self.brackets kind }
+    // does not look at brackets.
+    pub fn stops(self, span: Span, kind: Kind) -> bool
+        ensures { result ≡ stops_at span self.parens self.brackets (kind_number kind) }
     {
-        if kinds::COMMA <= kind {
-            return false;
-        }
-        match span {
-            Span::Signature => ends_group(kinds::RIGHT_PAREN, kind, self.parens, 0),
-            Span::Paren => ends_group(kinds::RIGHT_PAREN, kind, self.parens, self.brackets),
-            Span::Bracket => ends_group(kinds::RIGHT_BRACKET, kind, self.brackets, self.parens),
+        match (span, kind) {
+            (_, Kind::Eof) => true,
+            (Span::Signature, Kind::RightParen) => is_last(self.parens, 0),
+            (Span::Paren, Kind::RightParen) => is_last(self.parens, self.brackets),
+            (Span::Bracket, Kind::RightBracket) => is_last(self.brackets, self.parens),
+            _ => false,
         }
     }
 
-    // Counts a token of this kind and of `size` bytes. Kinds from Comma on change no depth, and those before
-    // it count no comma.
-    pub fn counts(self, span: Span, kind: u32, size: usize) -> Measure
+    // Counts a token of this kind and of `size` bytes.
+    pub fn counts(self, span: Span, kind: Kind, size: usize) -> Measure
         requires { Room self size }
-        ensures { measure_of result ≡ counts span (measure_of self) kind size }
+        ensures { measure_of result ≡ counts span (measure_of self) (kind_number kind) size }
     {
-        let width = self.width + (size + 1);
-        if kinds::COMMA <= kind {
-            return Measure {
-                parens: self.parens,
-                brackets: self.brackets,
-                commas: self.commas_after(span, kind),
-                width,
-            };
+        let mut m = self;
+        m.width += size + 1;
+        match kind {
+            Kind::LeftParen => m.parens += 1,
+            Kind::RightParen => m.parens = m.parens.saturating_sub(1),
+            Kind::LeftBracket => m.brackets += 1,
+            Kind::RightBracket => m.brackets = m.brackets.saturating_sub(1),
+            Kind::Comma if self.top_in(span) => m.commas += 1,
+            _ => {}
         }
-        Measure {
-            parens: depth_after(kinds::LEFT_PAREN, kinds::RIGHT_PAREN, kind, self.parens),
-            brackets: depth_after(
-                kinds::LEFT_BRACKET,
-                kinds::RIGHT_BRACKET,
-                kind,
-                self.brackets,
-            ),
-            commas: self.commas,
-            width,
-        }
+        m
     }
 
     // Whether the commas and the width are enough to break.
@@ -98,34 +88,14 @@ impl Measure {
     fn breaks_signature(self, limit: usize) -> bool
         ensures { result ≡ breaks_signature limit self.commas self.width }
     {
-        if 2 < self.commas {
-            return true;
-        }
-        limit < self.width // a signature
+        2 < self.commas || limit < self.width
     }
 
     // Whether a list breaks: a comma, and wider than the limit.
     fn breaks_list(self, limit: usize) -> bool
         ensures { result ≡ breaks_list limit self.commas self.width }
     {
-        if 0 < self.commas {
-            return limit < self.width; // a list
-        }
-        false
-    }
-
-    // Answers the number of commas after a token of this kind.
-    fn commas_after(self, span: Span, kind: u32) -> usize
-        requires { self.commas < 2 ^ 63 }
-        ensures { result ≡ more (eqb kind Comma && top_in span self.parens self.brackets) self.commas }
-    {
-        if kind != kinds::COMMA {
-            return self.commas;
-        }
-        if self.top_in(span) {
-            return self.commas + 1;
-        }
-        self.commas
+        0 < self.commas && limit < self.width // a list
     }
 
     // Whether the measure stands directly inside what is measured.
@@ -140,72 +110,64 @@ impl Measure {
     }
 }
 
-// Whether a group ends before a token of this kind, at these depths: its last closer, or Eof.
-fn ends_group(closer: u32, kind: u32, own: usize, other: usize) -> bool
-    ensures { result ≡ ends_group closer kind own other }
-{
-    if kind == kinds::EOF {
-        return true;
+// The kinds that open and close a group.
+#[derive(Clone, Copy, Debug, PartialEq, Eq)]
+pub struct Pair {
+    pub opener: Kind,
+    pub closer: Kind,
+}
+
+pub const PARENS: Pair = Pair {
+    opener: Kind::LeftParen,
+    closer: Kind::RightParen,
+};
+
+pub const BRACKETS: Pair = Pair {
+    opener: Kind::LeftBracket,
+    closer: Kind::RightBracket,
+};
+
+impl Pair {
+    // Answers how many such groups are open after a token of this kind.
+    pub fn depth_after(self, kind: Kind, depth: usize) -> usize
+        requires { depth < 2 ^ 63 }
+        ensures { result
+            ≡ depth_after (kind_number self.opener) (kind_number self.closer) (kind_number kind) depth }
+    {
+        if kind == self.opener {
+            return depth + 1;
+        }
+        if kind == self.closer {
+            return depth.saturating_sub(1);
+        }
+        depth
     }
-    if kind != closer {
-        return false;
-    }
-    is_last(own, other)
 }
 
 // Whether a token of this kind, at these depths, is a comma of the group itself.
-pub fn is_top_comma(kind: u32, own: usize, other: usize) -> bool
-    ensures { result ≡ eqb kind Comma && is_top own other }
+pub fn is_top_comma(kind: Kind, own: usize, other: usize) -> bool
+    ensures { result ≡ eqb (kind_number kind) Comma && is_top own other }
 {
-    if kind != kinds::COMMA {
-        return false;
-    }
-    is_top(own, other)
+    kind == Kind::Comma && is_top(own, other)
 }
 
 // Whether no more than one of the opening kind is open, and none of the other.
 pub fn is_last(own: usize, other: usize) -> bool
     ensures { result ≡ is_last own other }
 {
-    if 0 < other {
-        return false;
-    }
-    own <= 1 // of its own kind
+    other == 0 && own <= 1 // of its own kind
 }
 
 // Whether one of the opening kind is open, and none of the other.
 fn is_top(own: usize, other: usize) -> bool
     ensures { result ≡ is_top own other }
 {
-    if own == 1 {
-        return other == 0;
-    }
-    false
-}
-
-// Answers a depth after a token of this kind.
-pub fn depth_after(opener: u32, closer: u32, kind: u32, depth: usize) -> usize
-    requires { depth < 2 ^ 63 }
-    ensures { result ≡ depth_after opener closer kind depth }
-{
-    if kind == opener {
-        return depth + 1;
-    }
-    if kind != closer {
-        return depth;
-    }
-    if depth == 0 {
-        return 0;
-    }
-    depth - 1
+    own == 1 && other == 0
 }
 
 // Answers how many bytes a row names.
 pub fn size_of(row: Row) -> usize
     ensures { (result ≡ row.end - row.start) × (result < 2 ^ 32) }
 {
-    if row.end < row.start {
-        return 0;
-    }
-    (row.end - row.start) as usize
+    row.end.saturating_sub(row.start) as usize
 }

@@ -3,9 +3,11 @@
 // is expected.
 #![tactic(auto)]
 
-ghost use Rattle.std.specs.Prelude.{◌≡◌, ◌≤◌, length, IfOk};
+ghost use Rattle.std.specs.Prelude.{◌≡◌, ◌≤◌, ◌<◌, length, IfOk, IfSome};
 
-use shared::refusals;
+use rows::{ROW_BYTES, number_at};
+use shared::refusal::Refused;
+use spaces::UnknownKind;
 use std::io;
 use std::io::Read;
 
@@ -52,21 +54,17 @@ fn print_row_of_spaces(rt: &impl Print, first: u32) -> io::Result<()> {
     end_line(rt)
 }
 
-fn print_space(rt: &impl Print, space: spaces::Space) -> io::Result<()> {
+fn print_space(rt: &impl Print, space: Result<bool, UnknownKind>) -> io::Result<()> {
     match space {
-        spaces::Space::Needed { needed } => print_pair(rt, 0, flag(needed)),
-        spaces::Space::BadRow { position } => print_pair(rt, refusals::BAD_ROW, position as u64),
+        Ok(needed) => print_pair(rt, 0, needed as u64),
+        Err(e) => print_refused(rt, e.into()),
     }
 }
 
 fn replay(rt: &impl Print, input: &[u8]) -> io::Result<()> {
-    let mut at = 0;
-    while at < input.len() {
-        let next = replay_case(rt, input, at)?;
-        if next <= at {
-            break;
-        }
-        at = next;
+    let mut rest = input;
+    while let Some(next) = replay_case(rt, rest)? {
+        rest = next;
     }
     Ok(())
 }
@@ -75,101 +73,62 @@ fn replay(rt: &impl Print, input: &[u8]) -> io::Result<()> {
 // lookaheads.
 const HEADER: usize = 28;
 
-// Replays the case at `at`, and returns where the next case stands, or 0 where no whole case stands at
-// `at`. A case is its numbers, the rows, and two numbers for each lookahead.
-fn replay_case(rt: &impl Print, input: &[u8], at: usize) -> io::Result<usize> {
-    if input.len() < at {
-        return Ok(0);
-    }
-    let rest = &input[at..];
-    if rest.len() < HEADER {
-        return Ok(0);
-    }
-    let size = rows::number_at(rest, 20) as usize;
-    let calls = rows::number_at(rest, 24) as usize;
-    if rest.len() - HEADER < size {
-        return Ok(0);
-    }
-    let end = HEADER + size;
-    replay_rows(rt, rest, &rest[HEADER..end], &rest[end..], calls)?;
-    Ok(at + end + 8 * calls)
-}
-
-fn replay_rows(
-    rt: &impl Print,
-    header: &[u8],
-    rows: &[u8],
-    calls: &[u8],
-    count: usize,
-) -> io::Result<()>
-    requires { 28 ≤ length header.now }
+// Replays the case that the input begins with, and returns what follows it, or nothing where no whole case
+// stands there. A case is its numbers, the rows, and two numbers for each lookahead.
+fn replay_case<'a>(rt: &impl Print, input: &'a [u8]) -> io::Result<Option<&'a [u8]>>
+    ensures { IfOk result (λ next. IfSome next (λ rest. length rest.now < length input.now)) }
 {
-    let signature_width = rows::number_at(header, 8);
-    let list_width = rows::number_at(header, 12);
+    let Some((header, rest)) = input.split_at_checked(HEADER) else {
+        return Ok(None);
+    };
+    let size = number_at(header, 20) as usize;
+    let calls = number_at(header, 24) as usize;
+    let Some((rows, rest)) = rest.split_at_checked(size) else {
+        return Ok(None);
+    };
     print_check(rt, header, rows)?;
-    for i in 0..count {
-        print_lookahead(rt, calls, i, rows, signature_width, list_width)?;
+    for call in rest.chunks_exact(8).take(calls) {
+        print_lookahead(rt, header, rows, call)?;
     }
-    end_line(rt)
+    end_line(rt)?;
+    Ok(rest.get(8 * calls..))
 }
 
 fn print_check(rt: &impl Print, header: &[u8], rows: &[u8]) -> io::Result<()>
     requires { 28 ≤ length header.now }
 {
     let text = [0u8; 4096];
-    let size = rows::number_at(header, 16) as usize;
-    if size <= text.len() {
-        let checked = rows::check(
-            rows::number_at(header, 0),
-            rows::number_at(header, 4),
-            rows::number_at(header, 8),
-            rows::number_at(header, 12),
-            rows,
-            &text[..size],
-        );
-        print_checked(rt, checked)?;
+    let size = number_at(header, 16) as usize;
+    if size > text.len() {
+        return Ok(());
     }
-    Ok(())
-}
-
-fn print_checked(rt: &impl Print, checked: rows::Checked) -> io::Result<()> {
+    let checked = rows::check(
+        number_at(header, 0),
+        number_at(header, 4),
+        number_at(header, 8),
+        number_at(header, 12),
+        rows,
+        &text[..size],
+    );
     match checked {
-        rows::Checked::Good => print_pair(rt, 0, 0),
-        rows::Checked::BadOption { position } => print_pair(rt, refusals::OPTION, position as u64),
-        rows::Checked::RaggedRows => print_pair(rt, refusals::RAGGED_ROWS, 0),
-        rows::Checked::BadRow { row } => print_pair(rt, refusals::BAD_ROW, row as u64),
+        Ok(()) => print_pair(rt, 0, 0),
+        Err(e) => print_refused(rt, e.into()),
     }
 }
 
-// Runs the lookahead `i` of the case: which one it is, and the row from which on the rows are given to it.
-fn print_lookahead(
-    rt: &impl Print,
-    calls: &[u8],
-    i: usize,
-    rows: &[u8],
-    signature_width: u32,
-    list_width: u32,
-) -> io::Result<()> {
-    if calls.len() / 8 <= i {
+// Runs one lookahead: which one it is, and the row from which on the rows are given to it.
+fn print_lookahead(rt: &impl Print, header: &[u8], rows: &[u8], call: &[u8]) -> io::Result<()>
+    requires { (28 ≤ length header.now) × (8 ≤ length call.now) }
+{
+    let Some(part) = rows.get(ROW_BYTES * (number_at(call, 4) as usize)..) else {
         return Ok(());
-    }
-    let which = rows::number_at(calls, 8 * i);
-    let at = rows::ROW_BYTES * (rows::number_at(calls, 8 * i + 4) as usize);
-    if rows.len() < at {
-        return Ok(());
-    }
-    let part = &rows[at..];
-    if which == 0 {
-        print_signature(rt, part, signature_width)?;
-    }
-    if which == 1 {
-        print_list(rt, part, list_width)?;
-    }
-    if which == 2 {
-        print_number(rt, flag(lookahead::block_is_single_line(part)))?;
-    }
-    if which == 3 {
-        print_number(rt, flag(lookahead::next_has_comment(part)))?;
+    };
+    match number_at(call, 0) {
+        0 => print_signature(rt, part, number_at(header, 8))?,
+        1 => print_list(rt, part, number_at(header, 12))?,
+        2 => print_number(rt, lookahead::block_is_single_line(part) as u64)?,
+        3 => print_number(rt, lookahead::next_has_comment(part) as u64)?,
+        _ => {}
     }
     print!(rt; ";")
 }
@@ -178,14 +137,18 @@ fn print_signature(rt: &impl Print, rows: &[u8], width: u32) -> io::Result<()> {
     let m = lookahead::sig_measure(rows);
     print_number(rt, m.params as u64)?;
     print_number(rt, m.width as u64)?;
-    print_number(rt, flag(lookahead::should_break_sig(rows, width)))
+    print_number(rt, lookahead::should_break_sig(rows, width) as u64)
 }
 
 fn print_list(rt: &impl Print, rows: &[u8], width: u32) -> io::Result<()> {
     let m = lookahead::group_measure(rows);
     print_number(rt, m.commas as u64)?;
     print_number(rt, m.width as u64)?;
-    print_number(rt, flag(lookahead::should_break_list(rows, width)))
+    print_number(rt, lookahead::should_break_list(rows, width) as u64)
+}
+
+fn print_refused(rt: &impl Print, refused: Refused) -> io::Result<()> {
+    print_pair(rt, refused.refusal.number(), refused.place as u64)
 }
 
 fn print_pair(rt: &impl Print, refusal: u32, value: u64) -> io::Result<()> {
@@ -200,11 +163,4 @@ fn print_number(rt: &impl Print, n: u64) -> io::Result<()> {
 
 fn end_line(rt: &impl Print) -> io::Result<()> {
     println!(rt)
-}
-
-fn flag(b: bool) -> u64 {
-    if b {
-        return 1;
-    }
-    0
 }

@@ -1,4 +1,5 @@
 pub mod RowList
+pub mod KindNumbers
 pub mod Checking
 pub mod Sound
 pub mod Passed

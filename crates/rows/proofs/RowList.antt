@@ -5,8 +5,8 @@ use Prim.Native.Nat.{ℕ, zero, suc, ◌+◌, ◌-◌, ◌*◌, ◌/◌, ◌≤�
 use native.Mathlib.Nat.{add-zero, add_assoc}
 use native.Mathlib.Omega.{arith}
 use lib.Dec.{ltb}
-use lib.ListN.{length, get_or, drop, length-drop}
-use lib.Seq.{drop-drop, get_or-drop}
+use lib.ListN.{length, get_or, take, drop, length-drop}
+use lib.Seq.{take-length, drop-drop, get_or-drop}
 use borrow.Author.Tests.{ltb-true, ltb-false}
 use Rattle.shared.proofs.Logic.{split}
 use Rattle.rows.specs.Row.{Row, row_at, first_rows, rows_of}
@@ -22,6 +22,10 @@ rows_cons bytes h =
 pub rows_none : (bytes : List ℕ) → length bytes < 16 → rows_of bytes ≡ []
 unfolding rows_of first_rows
 rows_none bytes h = let e : length bytes / 16 ≡ 0 = omega arith in ap (λ n. first_rows n bytes) e
+
+-- the first row, and the slice after it
+pub first_left : (bytes : List ℕ) → 16 ≤ length bytes → {r : Row} → r ≡ row_at bytes 0 → rows_of bytes ≡ r ∷ rows_of (take (length bytes - 16) (drop 16 bytes))
+first_left bytes h e = rows_cons bytes h ∙ rw (e, ← length-drop 16 bytes, take-length (drop 16 bytes))
 
 -- ---- a part of the slice, from an index on
 

@@ -1,20 +1,24 @@
 -- What is answered before a layout: refusals 1, 2 and 3 in that order (specification, 'Refusals').
 -- Assumes nothing.
-use Rattle.std.specs.Prelude.{cond, List, ℕ}
+use Rattle.std.specs.Prelude.{cond, List, ℕ, Result, Ok, Err}
 use Rattle.std.proofs.Math.Option.{Option, none, some}
 use Rattle.shared.specs.Report.{Report, success, refuse, option, ragged_rows, bad_row}
-use Rattle.rows.specs.declared.Checked.{Checked}
-use Rattle.rows.specs.declared.Checked.TheVariants.{Good, BadOption, RaggedRows, BadRow}
+use Rattle.rows.specs.declared.CheckError.{CheckError}
+use Rattle.rows.specs.declared.CheckError.TheVariants.{BadOption, RaggedRows, BadRow}
 use Rattle.rows.specs.Row.{rows_of}
 use Rattle.rows.specs.Options.{bad_option}
 use Rattle.rows.specs.Checks.{ragged, at_start, bad_from}
 
+-- The number and place of each refusal.
+abbrev pub refusal_of : CheckError → Report
+refusal_of (BadOption position) = refuse option position
+refusal_of RaggedRows = refuse ragged_rows 0
+refusal_of (BadRow row) = refuse bad_row row
+
 -- The number and values of the report for each answer of `check`.
-abbrev pub reported : Checked → Report
-reported Good = success 0 0 0
-reported (BadOption position) = refuse option position
-reported RaggedRows = refuse ragged_rows 0
-reported (BadRow row) = refuse bad_row row
+abbrev pub reported : Result (Unit {0}) CheckError → Report
+reported (Ok t) = success 0 0 0
+reported (Err e) = refusal_of e
 
 -- the refusal of this number, where there is a place for it; else the report r, of what is looked for after it
 abbrev pub refuse_or : ℕ → Option ℕ → Report → Report

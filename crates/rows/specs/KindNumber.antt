@@ -1,6 +1,7 @@
 -- The numbers of the code's kinds (specification, 'Kinds').
 -- Assumes nothing.
-use Rattle.std.specs.Prelude.{ℕ}
+use Rattle.std.specs.Prelude.{ℕ, Option, None, Some}
+use Rattle.rows.specs.Checks.{Before, at_start, after}
 use Rattle.rows.specs.declared.kind.What.{What}
 use Rattle.rows.specs.declared.kind.What.TheVariants.{Leading, Token, Trailing}
 use Rattle.rows.specs.declared.kind.Trivia.{Trivia}
@@ -49,6 +50,11 @@ abbrev pub what_number : What → ℕ
 what_number Leading = 0
 what_number Token = 1
 what_number Trailing = 2
+
+-- what stands before a row: nothing, or a row
+abbrev pub before_of : Option What → Before
+before_of None = at_start
+before_of (Some w) = after (what_number w)
 
 -- kinds of trivia
 abbrev pub trivia_number : Trivia → ℕ

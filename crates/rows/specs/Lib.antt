@@ -1,8 +1,10 @@
 pub mod Kinds
 pub mod KindNumber
+pub mod KindSet
 pub mod Row
 pub mod Options
 pub mod Token
 pub mod Checks
 pub mod Bounds
+pub mod RowsLeft
 pub mod Answer

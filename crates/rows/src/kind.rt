@@ -1,8 +1,9 @@
 // The kinds of tokens and of trivia, and what a row is, as types (specification, 'Kinds').
 
-ghost use Rattle.std.specs.Prelude.{◌≡◌, ◌<◌, min, MatchResult};
+ghost use Rattle.std.specs.Prelude.{◌≡◌, ◌≤◌, ◌<◌, min, MatchResult};
 ghost use Rattle.rows.specs.Kinds.{Other};
 ghost use Rattle.rows.specs.KindNumber.{kind_number};
+ghost use Rattle.rows.specs.KindSet.{member};
 
 use std::error::Error;
 use std::fmt;
@@ -118,7 +119,8 @@ impl TryFrom<u32> for Kind {
     type Error = NoSuchKind;
 
     ghost try_from_gives = { λ number r. MatchResult r
-        (λ kind. kind_number kind ≡ number) (λ e. (e.0 ≡ number) × (Other < number)) };
+        (λ kind. (kind_number kind ≡ number) × (number ≤ Other))
+        (λ e. (e.0 ≡ number) × (Other < number)) };
 
     fn try_from(number: u32) -> Result<Kind, NoSuchKind> {
         if number > Kind::Other as u32 {
@@ -135,3 +137,19 @@ impl fmt::Display for NoSuchKind {
 }
 
 impl Error for NoSuchKind {}
+
+// A set of kinds, as bits of a number: a kind is in it where the bit of its number is 1.
+#[derive(Clone, Copy, Debug, PartialEq, Eq)]
+pub struct KindSet(pub u64);
+
+impl KindSet {
+    // All kinds.
+    pub const ALL: KindSet = KindSet(0x7_ffff_ffff);
+
+    // Tells whether the kind is in the set.
+    pub fn contains(self, kind: Kind) -> bool
+        ensures { result ≡ member self.0 (kind_number kind) }
+    {
+        (self.0 >> kind as u32) % 2 == 1
+    }
+}

@@ -4,22 +4,27 @@
 ghost use Rattle.std.specs.Prelude.{true, ◌≡◌, ◌+◌, ◌≤◌, ◌<◌, eqb, length, min, MatchOption};
 ghost use Rattle.rows.specs.Kinds.{TokenRow, Trailing, BlankLine, Other};
 ghost use Rattle.rows.specs.KindNumber.{what_number, trivia_number, kind_number};
-ghost use Rattle.rows.specs.Row.{row_size, number, row_at};
-ghost use Rattle.rows.specs.Checks.{may_trail, misnamed, bad_row, after, GoodRows};
+ghost use Rattle.std.specs.Iterator.{YieldsFirstBy, item_count};
+ghost use Rattle.rows.specs.Row.{row_size, number, row_at, rows_of};
+ghost use Rattle.rows.specs.RowsLeft.{rows_left};
+ghost use Rattle.rows.specs.Checks.{may_trail, misnamed, bad_row, GoodRows};
+ghost use Rattle.rows.specs.KindNumber.{before_of};
 ghost use Rattle.rows.specs.Bounds.{row_of};
-ghost use Rattle.rows.specs.Answer.{reported, check_report, rows_report, each_row_report};
+ghost use Rattle.rows.specs.Answer.{reported, refusal_of, check_report, rows_report, each_row_report};
+ghost use Rattle.shared.specs.Report.{refuse, refusal_number};
 
 pub mod kind;
 pub mod kinds;
 pub mod options;
 
-pub use kind::{Kind, Trivia, What};
+pub use kind::{Kind, KindSet, Trivia, What};
+use shared::refusal::{Refusal, Refused};
+use std::error::Error;
+use std::fmt;
 
-// What the checks of the options and the rows answer.
-#[derive(Clone, Copy)]
-pub enum Checked {
-    // Nothing is refused.
-    Good,
+// What the checks of the options and the rows refuse.
+#[derive(Clone, Copy, Debug, PartialEq, Eq)]
+pub enum CheckError {
     // Refusal 1: the option at this position, 0 to 3, is out of bounds.
     BadOption { position: usize },
     // Refusal 2: the bytes are no whole rows, or there are more than `MOST_ROWS`.
@@ -27,6 +32,35 @@ pub enum Checked {
     // Refusal 3: this row is bad, or it is the last row and leads no token.
     BadRow { row: usize },
 }
+
+impl From<CheckError> for Refused {
+    ghost from_gives = { λ e r. refuse (refusal_number r.refusal) r.place ≡ refusal_of e };
+
+    fn from(error: CheckError) -> Refused {
+        match error {
+            CheckError::BadOption { position } => Refused {
+                refusal: Refusal::BadOption,
+                place: position,
+            },
+            CheckError::RaggedRows => Refused {
+                refusal: Refusal::RaggedRows,
+                place: 0,
+            },
+            CheckError::BadRow { row } => Refused {
+                refusal: Refusal::BadRow,
+                place: row,
+            },
+        }
+    }
+}
+
+impl fmt::Display for CheckError {
+    fn fmt<W: fmt::Write>(&self, f: &mut fmt::Formatter<W>) -> fmt::Result {
+        Refused::from(*self).fmt(f)
+    }
+}
+
+impl Error for CheckError {}
 
 // Looks for refusals 1, 2 and 3 in that order, and answers the first that it finds.
 pub fn check(
@@ -36,7 +70,7 @@ pub fn check(
     list_width: u32,
     rows: &[u8],
     text: &[u8],
-) -> Checked
+) -> Result<(), CheckError>
     ensures { reported result
         ≡ check_report style indent_width signature_width list_width rows.now
         (length text.now) }
@@ -53,6 +87,7 @@ pub fn check(
 }
 
 // Answers what `check` answers. Where `good` is true, no row is bad, and none is looked at.
+#[tactic(auto, unfolding(crate::specs::Answer::check_report, crate::specs::Options::bad_option))]
 pub fn check_unless_known(
     style: u32,
     indent_width: u32,
@@ -61,23 +96,23 @@ pub fn check_unless_known(
     rows: &[u8],
     text: &[u8],
     good: bool,
-) -> Checked
+) -> Result<(), CheckError>
     requires { good ≡ true → GoodRows rows.now (length text.now) }
     ensures { reported result
         ≡ check_report style indent_width signature_width list_width rows.now
         (length text.now) }
 {
     if options::MOST_STYLE < style {
-        return Checked::BadOption { position: 0 };
+        return Err(CheckError::BadOption { position: 0 });
     }
     if options::MOST_INDENT_WIDTH < indent_width {
-        return Checked::BadOption { position: 1 };
+        return Err(CheckError::BadOption { position: 1 });
     }
     if options::MOST_WIDTH < signature_width {
-        return Checked::BadOption { position: 2 };
+        return Err(CheckError::BadOption { position: 2 });
     }
     if options::MOST_WIDTH < list_width {
-        return Checked::BadOption { position: 3 };
+        return Err(CheckError::BadOption { position: 3 });
     }
     check_rows(rows, text.len(), good)
 }
@@ -138,6 +173,46 @@ impl Row {
     }
 }
 
+// The rows of a slice, one after the other. Bytes at its end that are no whole row are passed over.
+#[derive(Clone, Drop)]
+pub struct Rows<'a> {
+    rest: &'a [u8],
+}
+
+impl<'a> Rows<'a> {
+    pub fn of(rows: &'a [u8]) -> Self
+        ensures { rows_left result ≡ rows_of rows.now }
+    {
+        Rows { rest: rows }
+    }
+
+    // Answers how many rows are left.
+    #[tactic(auto, using(crate::proofs::RowList::rows_length))]
+    pub fn len(&self) -> usize
+        ensures { result ≡ length (rows_left self.now) }
+    {
+        self.rest.len() / ROW_BYTES
+    }
+}
+
+impl<'a> Iterator for Rows<'a> {
+    type Item = Row;
+
+    ghost next_gives = { YieldsFirstBy row_of rows_left };
+
+    ghost remaining = { item_count rows_left };
+
+    #[tactic(auto, using(crate::proofs::RowList::first_left, crate::proofs::RowList::rows_none))]
+    fn next(&mut self) -> Option<Row> {
+        if self.rest.len() < ROW_BYTES {
+            return None;
+        }
+        let row = row_at(self.rest, 0);
+        self.rest = &self.rest[ROW_BYTES..];
+        Some(row)
+    }
+}
+
 // Returns the row whose bytes start at index `at`.
 pub fn row_at(rows: &[u8], at: usize) -> Row
     requires { at + row_size ≤ length rows.now }
@@ -151,104 +226,71 @@ pub fn row_at(rows: &[u8], at: usize) -> Row
     }
 }
 
-// Returns the 32-bit number, lowest byte first, at index `at`. The sum compiles to one load.
+// Returns the 32-bit number, lowest byte first, at index `at`. It compiles to one load.
 pub fn number_at(bytes: &[u8], at: usize) -> u32
     requires { at + 4 ≤ length bytes.now }
     ensures { result ≡ number bytes.now at }
 {
-    let a = wide(bytes[at]);
-    let b = wide(bytes[at + 1]);
-    let c = wide(bytes[at + 2]);
-    let d = wide(bytes[at + 3]);
-    a + b * 256 + c * 65536 + d * 16777216
-}
-
-fn wide(b: u8) -> u32
-    ensures { (result ≡ b) × (result < 256) }
-{
-    b as u32
+    u32::from_le_bytes([bytes[at], bytes[at + 1], bytes[at + 2], bytes[at + 3]])
 }
 
 // Looks for refusals 2 and 3 in that order. The text has `size` bytes; where `good` is true, no row is bad.
-fn check_rows(rows: &[u8], size: usize, good: bool) -> Checked
+#[tactic(auto, unfolding(crate::specs::Answer::rows_report, crate::specs::Answer::each_row_report))]
+fn check_rows(rows: &[u8], size: usize, good: bool) -> Result<(), CheckError>
     requires { good ≡ true → GoodRows rows.now size }
     ensures { reported result ≡ rows_report rows.now size }
 {
-    if rows.len() % ROW_BYTES != 0 {
-        return Checked::RaggedRows;
-    }
-    if MOST_ROWS < rows.len() / ROW_BYTES {
-        return Checked::RaggedRows;
+    if rows.len() % ROW_BYTES != 0 || MOST_ROWS < rows.len() / ROW_BYTES {
+        return Err(CheckError::RaggedRows);
     }
     if good {
-        return Checked::Good;
+        return Ok(());
     }
     check_each_row(rows, size)
 }
 
-// Stands for the what of the row before the first: no row has this what.
-const NO_ROW: u32 = 3;
-
 // Looks for refusal 3: the first bad row, or else the last row where it is a leading row.
-fn check_each_row(rows: &[u8], size: usize) -> Checked
+#[tactic(auto, using(crate::proofs::Checking::orphaned, crate::proofs::Checking::good))]
+fn check_each_row(rows: &[u8], size: usize) -> Result<(), CheckError>
     ensures { reported result ≡ each_row_report rows.now size }
 {
-    let mut before = NO_ROW;
-    let mut at = 0;
-    let mut i = 0;
-    while ROW_BYTES <= rows.len() - at {
-        let row = row_at(rows, at);
+    let mut before = None;
+    for (i, row) in Rows::of(rows).enumerate() {
         if is_bad(row, before, size) {
-            return Checked::BadRow { row: i };
+            return Err(CheckError::BadRow { row: i });
         }
-        before = row.what;
-        at += ROW_BYTES;
-        i += 1;
+        before = row.what();
     }
-    if before == kinds::LEADING {
-        return Checked::BadRow { row: i - 1 };
+    if before == Some(What::Leading) {
+        return Err(CheckError::BadRow {
+            row: rows.len() / ROW_BYTES - 1,
+        });
     }
-    Checked::Good
+    Ok(())
 }
 
-// Tells whether a row that follows one of the what `before` is bad, where the text has `size` bytes.
-fn is_bad(row: Row, before: u32, size: usize) -> bool
-    ensures { result ≡ bad_row size (after before) (row_of row) }
+// Tells whether a row is bad that follows one of the what `before`, where the text has `size` bytes.
+fn is_bad(row: Row, before: Option<What>, size: usize) -> bool
+    ensures { result ≡ bad_row size (before_of before) (row_of row) }
 {
-    if row.what == kinds::TOKEN {
-        return misnames(row, kinds::OTHER, size);
+    match row.what() {
+        None => true,
+        Some(What::Leading) => misnames(row, Trivia::BlankLine as u32, size),
+        Some(What::Token) => misnames(row, Kind::Other as u32, size),
+        Some(What::Trailing) => misnames(row, Trivia::BlankLine as u32, size) || !may_trail(before),
     }
-    if kinds::TRAILING < row.what {
-        return true;
-    }
-    if misnames(row, kinds::BLANK_LINE, size) {
-        return true;
-    }
-    if row.what == kinds::LEADING {
-        return false;
-    }
-    !may_trail(before)
 }
 
 // Tells whether a row has a kind above `top`, or names no bytes of a text of `size` bytes.
 pub fn misnames(row: Row, top: u32, size: usize) -> bool
     ensures { result ≡ misnamed top size (row_of row) }
 {
-    if top < row.kind {
-        return true;
-    }
-    if row.end < row.start {
-        return true;
-    }
-    size < row.end as usize
+    top < row.kind || row.end < row.start || size < row.end as usize
 }
 
 // Tells whether a trailing row may follow a row of the what `before`.
-fn may_trail(before: u32) -> bool
-    ensures { result ≡ may_trail (after before) }
+fn may_trail(before: Option<What>) -> bool
+    ensures { result ≡ may_trail (before_of before) }
 {
-    if before == kinds::TOKEN {
-        return true;
-    }
-    before == kinds::TRAILING
+    matches!(before, Some(What::Token | What::Trailing))
 }

@@ -1,16 +1,15 @@
 -- What `needs_space` answers (specification, 'Spaces').
 -- Assumes nothing.
-use Rattle.std.specs.Prelude.{cond, ℕ, ltb}
+use Rattle.std.specs.Prelude.{Bool, cond, ℕ, ltb, Result, Ok, Err}
 use Rattle.shared.specs.Report.{Report, success, refuse, bad_row, bit}
 use Rattle.rows.specs.Kinds.{Other}
-use Rattle.spaces.specs.declared.Space.{Space}
-use Rattle.spaces.specs.declared.Space.TheVariants.{Needed, BadRow}
+use Rattle.spaces.specs.declared.UnknownKind.{UnknownKind}
 use Rattle.spaces.specs.Space.{needs_space}
 
 -- The number and values of the report for each answer of `needs_space`.
-abbrev pub reported : Space → Report
-reported (Needed b) = success (bit b) 0 0
-reported (BadRow place) = refuse bad_row place
+abbrev pub reported : Result Bool UnknownKind → Report
+reported (Ok b) = success (bit b) 0 0
+reported (Err e) = refuse bad_row e.position
 
 -- A kind above 34 gives refusal 3, place 0 or 1 for the first such argument.
 unfoldable pub space_report : ℕ → ℕ → Report

@@ -1,4 +1,3 @@
 pub mod Space
-pub mod Sets
 pub mod Between
 pub mod Answer

@@ -1,33 +1,53 @@
 -- `lookahead::block_is_single_line` meets its contract. Assumes nothing.
-use mathlib.Core.Path.{refl}
+use mathlib.Core.Path.{refl, sym}
+use Prim.Native.Nat.{◌-◌}
 use native.Mathlib.Omega.{arith}
-use borrow.Author.Rules.{rules}
-use Rattle.lookahead.proofs.Looking.{block_start, block_trivia, block_passed, block_opened, block_ended, block_closed, block_less, block_other, block_over, block_said}
+use borrow.Author.Tests.{ne_eqb, eqb-true}
+use Rattle.rows.specs.declared.kind.Kind.TheVariants.{Eof, Newline, LeftBrace, RightBrace}
+use Rattle.rows.specs.RowsLeft.{rows_left}
+use Rattle.rows.proofs.KindNumbers.{same_number}
+use Rattle.rows.proofs.RowList.{rows_length}
+use Rattle.lookahead.proofs.Narrow.{one_less}
+use Rattle.lookahead.proofs.Looking.{block_trivia, block_passed, block_goes, ends_either, block_ended, block_closed, block_over, block_said}
 use Rattle.lookahead.proofs.block_is_single_line.Goals as goal
 
-pub loop-at-init : goal.loop-at-init
-loop-at-init c = (block_start _, search rules)
-
 pub returns-then-is_trivia : goal.returns-then-is_trivia
-returns-then-is_trivia c = λ text. block_said c.args.rows.now text (block_trivia c.loop-at.follows c.loop-at.depth c.loop-at.invariant.0 (search rules) c.row_at-row.ensures c.if-row-ne-TOKEN.true c.is_trivia.ensures c.if-is_trivia.true)
+returns-then-is_trivia c = λ text. block_said c.args.rows.now text (block_trivia c.loop-left.follows c.loop-left.depth _ c.loop-left.invariant.0 c.in-Some.ensures.steps (sym c.if-not-is_token.ensures) c.is_trivia.ensures c.if-is_trivia.true)
 
-pub loop-at-preserved-then-row-ne-TOKEN : goal.loop-at-preserved-then-row-ne-TOKEN
-loop-at-preserved-then-row-ne-TOKEN c = (block_passed c.loop-at.follows c.loop-at.depth c.loop-at.invariant.0 (search rules) c.row_at-row.ensures c.if-row-ne-TOKEN.true c.is_trivia.ensures c.if-is_trivia.false, search rules)
+pub loop-left-preserved-then-not-is_token : goal.loop-left-preserved-then-not-is_token
+loop-left-preserved-then-not-is_token c =
+    let l = one_less c.in-Some.ensures.steps in
+    (block_passed c.loop-left.follows c.loop-left.depth _ c.loop-left.invariant.0 c.in-Some.ensures.steps (sym c.if-not-is_token.ensures) c.is_trivia.ensures c.if-is_trivia.false, omega (arith, c.loop-left.invariant.1, l))
 
-pub loop-at-preserved-then-row-eq-LEFT_BRACE : goal.loop-at-preserved-then-row-eq-LEFT_BRACE
-loop-at-preserved-then-row-eq-LEFT_BRACE c = (block_opened c.loop-at.follows c.loop-at.depth c.loop-at.invariant.0 (search rules) c.row_at-row.ensures c.if-row-ne-TOKEN.false c.if-row-eq-LEFT_BRACE.true, search rules)
+pub overflow_add-depth : goal.overflow_add-depth
+overflow_add-depth c = record { fits = omega (arith, c.loop-left.invariant.1, rows_length c.args.rows.now) }
 
-pub returns-then-ends_line : goal.returns-then-ends_line
-returns-then-ends_line c = λ text. block_said c.args.rows.now text (block_ended c.loop-at.follows c.loop-at.depth c.loop-at.invariant.0 (search rules) c.row_at-row.ensures c.if-row-ne-TOKEN.false c.ends_line.ensures c.if-ends_line.true)
+pub returns-in-RightBrace : goal.returns-in-RightBrace
+returns-in-RightBrace c = λ text. block_said c.args.rows.now text (block_closed c.loop-left.follows c.loop-left.depth _ c.loop-left.invariant.0 c.in-Some.ensures.steps (eqb-true _ _ (sym c.if-not-is_token.ensures)) c.in-RightBrace.ensures refl c.if-depth-le1.true c.trails.ensures)
 
-pub returns-then-depth-le1 : goal.returns-then-depth-le1
-returns-then-depth-le1 c = λ text. block_said c.args.rows.now text (block_closed c.loop-at.follows c.loop-at.depth c.loop-at.invariant.0 (search rules) c.row_at-row.ensures c.if-row-ne-TOKEN.false c.ends_line.ensures c.if-ends_line.false c.if-row-eq-LEFT_BRACE.false c.if-row-le-RIGHT_BRACE.true c.if-depth-le1.true c.trails.ensures)
+pub returns-in-Newline : goal.returns-in-Newline
+returns-in-Newline c = λ text. block_said c.args.rows.now text (block_ended c.loop-left.follows c.loop-left.depth _ c.loop-left.invariant.0 c.in-Some.ensures.steps (eqb-true _ _ (sym c.if-not-is_token.ensures)) c.token_kind.ensures (ends_either c.in-Newline.is))
 
-pub loop-at-preserved-then-row-le-RIGHT_BRACE : goal.loop-at-preserved-then-row-le-RIGHT_BRACE
-loop-at-preserved-then-row-le-RIGHT_BRACE c = (block_less c.loop-at.follows c.loop-at.depth c.loop-at.invariant.0 (search rules) c.row_at-row.ensures c.if-row-ne-TOKEN.false c.ends_line.ensures c.if-ends_line.false c.if-row-eq-LEFT_BRACE.false c.if-row-le-RIGHT_BRACE.true c.if-depth-le1.false, search rules)
+pub loop-left-preserved-in-LeftBrace : goal.loop-left-preserved-in-LeftBrace
+loop-left-preserved-in-LeftBrace c =
+    let l = one_less c.in-Some.ensures.steps in
+    (block_goes c.loop-left.follows c.loop-left.depth _ c.loop-left.invariant.0 c.in-Some.ensures.steps (eqb-true _ _ (sym c.if-not-is_token.ensures)) c.in-LeftBrace.ensures refl refl refl, omega (arith, c.loop-left.invariant.1, l))
 
-pub loop-at-preserved : goal.loop-at-preserved
-loop-at-preserved c = (block_other c.loop-at.follows c.loop-at.depth c.loop-at.invariant.0 (search rules) c.row_at-row.ensures c.if-row-ne-TOKEN.false c.if-row-le-RIGHT_BRACE.false, search rules)
+pub loop-left-preserved-in-RightBrace-2 : goal.loop-left-preserved-in-RightBrace-2
+loop-left-preserved-in-RightBrace-2 c =
+    let l = one_less c.in-Some.ensures.steps in
+    (block_goes c.loop-left.follows c.loop-left.depth _ c.loop-left.invariant.0 c.in-Some.ensures.steps (eqb-true _ _ (sym c.if-not-is_token.ensures)) c.in-RightBrace-2.ensures refl (ne_eqb (c.loop-left.depth - 1) 0 (λ q. omega (arith, c.if-depth-le1.false))) refl, omega (arith, c.loop-left.invariant.1, l))
+
+pub loop-left-preserved : goal.loop-left-preserved
+loop-left-preserved c =
+    let l = one_less c.in-Some.ensures.steps in
+    let k = c.token_kind.result in
+    let d = c.in_default-token_kind in
+    let n = ne_eqb _ _ (λ q. d.not-Newline (same_number k Newline q)) in
+    let f = ne_eqb _ _ (λ q. d.not-Eof (same_number k Eof q)) in
+    let o = ne_eqb _ _ (λ q. d.not-LeftBrace (same_number k LeftBrace q)) in
+    let z = ne_eqb _ _ (λ q. d.not-RightBrace (same_number k RightBrace q)) in
+    (block_goes c.loop-left.follows c.loop-left.depth _ c.loop-left.invariant.0 c.in-Some.ensures.steps (eqb-true _ _ (sym c.if-not-is_token.ensures)) c.token_kind.ensures (rw (n, f) refl) (rw z refl) (rw (o, z) refl), omega (arith, c.loop-left.invariant.1, l))
 
 pub returns : goal.returns
-returns c = λ text. block_said c.args.rows.now text (block_over c.loop-at.follows c.loop-at.depth c.loop-at.invariant.0 refl (omega (arith, c.loop-at-test.false, c.least_rows.ensures)))
+returns c = λ text. block_said c.args.rows.now text (block_over c.loop-left.follows c.loop-left.depth (rows_left c.loop-left.left) c.loop-left.invariant.0 (omega (arith, c.loop-left-test.false, c.least_rows.ensures, c.len.ensures)))

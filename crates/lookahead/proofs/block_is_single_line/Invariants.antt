@@ -1,12 +1,16 @@
-use Prim.Native.Nat.{◌-◌, ◌≤◌}
+use mathlib.Core.Path.{◌≡◌}
+use Prim.Native.Nat.{◌+◌, ◌≤◌}
 use lib.ListN.{length}
 use Rattle.rows.specs.Row.{rows_of}
-use Rattle.lookahead.proofs.Looking.{Ahead, rest_of_block}
+use Rattle.rows.specs.RowsLeft.{rows_left}
+use Rattle.lookahead.proofs.Looking.{rest_of_block}
 use Rattle.lookahead.proofs.Tokens.{single_line_rows}
 use Rattle.lookahead.proofs.block_is_single_line.Given as goal
 
-abbrev pub invariant-loop-at : goal.invariant-loop-at
-invariant-loop-at l = Ahead l.rows (single_line_rows 0 (rows_of l.rows)) (rest_of_block l.follows l.depth) l.at × (l.depth ≤ l.at)
+abbrev pub invariant-loop-left : goal.invariant-loop-left
+invariant-loop-left l =
+    (single_line_rows 0 (rows_of l.rows) ≡ rest_of_block l.follows l.depth (rows_left l.left))
+    × (l.depth + length (rows_left l.left) ≤ length (rows_of l.rows))
 
-abbrev pub decreases-loop-at : goal.decreases-loop-at
-decreases-loop-at l = length l.rows - l.at
+abbrev pub decreases-loop-left : goal.decreases-loop-left
+decreases-loop-left l = length (rows_left l.left)

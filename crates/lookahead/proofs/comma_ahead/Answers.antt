@@ -1,72 +1,61 @@
 -- `lookahead::comma_ahead` meets its contract. Assumes nothing.
-use mathlib.Core.Path.{refl}
+use mathlib.Core.Path.{sym, ◌∙◌}
 use native.Mathlib.Omega.{arith}
-use borrow.Author.Rules.{rules}
-use Rattle.lookahead.proofs.Looking.{top_start, top_opened, top_closed, top_less, top_above, top_eof, top_found, top_more, top_over}
+use Rattle.rows.proofs.KindNumbers.{tag_is, alike, unlike}
+use Rattle.rows.specs.KindNumber.{kind_number}
+use Rattle.rows.specs.declared.kind.Kind.TheVariants.{Eof}
+use Rattle.lookahead.proofs.Narrow.{one_less}
 use Rattle.lookahead.proofs.Steps.{depth_after-most}
+use Rattle.lookahead.proofs.Looking.{top_opened, top_closed, top_less, top_above, top_eof, top_found, top_more, top_over}
 use Rattle.lookahead.proofs.comma_ahead.Goals as goal
 
-pub loop-left-init : goal.loop-left-init
-loop-left-init c = (top_start c.requires.kinds _ _ _ _ c.requires.depths.2, c.requires.depths.0, c.requires.depths.1, refl)
-
-pub loop-left-preserved-then-kind-opener : goal.loop-left-preserved-then-kind-opener
-loop-left-preserved-then-kind-opener c = let l = c.loop-left in (
-  top_opened c.requires.kinds l.own l.other l.invariant.0 (search rules) c.row_at.ensures c.token_kind-kind.ensures c.if-kind-opener.true,
-  search rules,
-  search rules,
-  search rules,
-)
+pub loop-left-preserved-then-eq : goal.loop-left-preserved-then-eq
+loop-left-preserved-then-eq c =
+    let l = one_less c.in-Some.ensures.steps in
+    let v = c.loop-left.invariant in
+    (top_opened c.requires.kinds _ _ _ v.0 c.in-Some.ensures.steps c.token_kind-kind.ensures (alike _ _ c.eq.ensures c.if-eq.true), omega (arith, v.1, l), omega (arith, v.2, l))
 
 pub returns-then-is_last : goal.returns-then-is_last
 returns-then-is_last c =
-    let l = c.loop-left in
-    top_closed c.requires.kinds l.own l.other l.invariant.0 (search rules) c.row_at.ensures c.token_kind-kind.ensures
-    c.if-kind-closer.true c.is_last.ensures c.if-is_last.true
+    top_closed c.requires.kinds c.loop-left.own c.loop-left.other _ c.loop-left.invariant.0 c.in-Some.ensures.steps c.token_kind-kind.ensures (alike _ _ c.eq-else-eq.ensures c.if-eq-2.true) c.is_last.ensures c.if-is_last.true
 
-pub loop-left-preserved-then-kind-closer : goal.loop-left-preserved-then-kind-closer
-loop-left-preserved-then-kind-closer c =
-    let l = c.loop-left in
-    let a = c.args in (
-      top_less c.requires.kinds l.own l.other l.invariant.0 (search rules) c.row_at.ensures c.token_kind-kind.ensures
-          c.if-kind-closer.true c.is_last.ensures c.if-is_last.false c.depth_after-own.ensures,
-      omega (arith, l.invariant.1, c.depth_after-own.ensures, depth_after-most a.opener a.closer c.token_kind-kind.result l.own),
-      search rules,
-      search rules,
-    )
+pub loop-left-preserved-then-eq-2 : goal.loop-left-preserved-then-eq-2
+loop-left-preserved-then-eq-2 c =
+    let l = one_less c.in-Some.ensures.steps in
+    let v = c.loop-left.invariant in
+    rw c.saturating_sub-own.ensures
+    (top_less c.requires.kinds _ _ _ v.0 c.in-Some.ensures.steps c.token_kind-kind.ensures (alike _ _ c.eq-else-eq.ensures c.if-eq-2.true) c.is_last.ensures c.if-is_last.false, omega (arith, v.1, l), omega (arith, v.2, l))
 
-pub returns-then-kind-eq-EOF : goal.returns-then-kind-eq-EOF
-returns-then-kind-eq-EOF c =
-    let l = c.loop-left in
-    top_eof c.requires.kinds l.own l.other l.invariant.0 (search rules) c.row_at.ensures c.token_kind-kind.ensures
-    c.if-kind-opener.false c.if-kind-closer.false c.if-kind-eq-EOF.true
+pub returns-then-eq-3 : goal.returns-then-eq-3
+returns-then-eq-3 c =
+    top_eof c.requires.kinds _ _ _ c.loop-left.invariant.0 c.in-Some.ensures.steps c.token_kind-kind.ensures (unlike _ _ c.eq.ensures c.if-eq.false) (unlike _ _ c.eq-else-eq.ensures c.if-eq-2.false)
+    (alike c.token_kind-kind.result Eof c.eq-then-kind.ensures c.if-eq-3.true)
 
 pub returns-then-is_top_comma : goal.returns-then-is_top_comma
 returns-then-is_top_comma c =
-    let l = c.loop-left in
-    top_found c.requires.kinds l.own l.other l.invariant.0 (search rules) c.row_at.ensures c.token_kind-kind.ensures
-    c.if-kind-opener.false c.if-kind-closer.false c.if-kind-eq-EOF.false c.is_top_comma.ensures c.if-is_top_comma.true
+    top_found c.requires.kinds _ _ _ c.loop-left.invariant.0 c.in-Some.ensures.steps c.token_kind-kind.ensures (unlike _ _ c.eq.ensures c.if-eq.false) (unlike _ _ c.eq-else-eq.ensures c.if-eq-2.false)
+    (unlike c.token_kind-kind.result Eof c.eq-then-kind.ensures c.if-eq-3.false) (sym c.if-is_top_comma.true ∙ c.is_top_comma.ensures)
 
-pub loop-left-preserved-then-kind-le-COMMA : goal.loop-left-preserved-then-kind-le-COMMA
-loop-left-preserved-then-kind-le-COMMA c =
-    let l = c.loop-left in
-    let a = c.args in (
-      top_more c.requires.kinds l.own l.other l.invariant.0 (search rules) c.row_at.ensures c.token_kind-kind.ensures
-          c.if-kind-opener.false c.if-kind-closer.false c.if-kind-eq-EOF.false c.is_top_comma.ensures c.if-is_top_comma.false c.depth_after-other.ensures,
-      search rules,
-      omega (arith, l.invariant.2, c.depth_after-other.ensures, depth_after-most a.other_opener a.other_closer c.token_kind-kind.result l.other),
-      search rules,
+pub loop-left-preserved-then-kind : goal.loop-left-preserved-then-kind
+loop-left-preserved-then-kind c =
+    let l = one_less c.in-Some.ensures.steps in
+    let v = c.loop-left.invariant in
+    let d = depth_after-most (kind_number c.args.other_pair.opener) (kind_number c.args.other_pair.closer) (kind_number c.token_kind-kind.result) c.loop-left.other in (
+      top_more c.requires.kinds _ _ _ v.0 c.in-Some.ensures.steps c.token_kind-kind.ensures (unlike _ _ c.eq.ensures c.if-eq.false) (unlike _ _ c.eq-else-eq.ensures c.if-eq-2.false)
+          (unlike c.token_kind-kind.result Eof c.eq-then-kind.ensures c.if-eq-3.false) (sym c.if-is_top_comma.false ∙ c.is_top_comma.ensures) c.depth_after-other.ensures,
+      omega (arith, v.1, l),
+      omega (arith, v.2, l, d, c.depth_after-other.ensures),
     )
 
 pub loop-left-preserved : goal.loop-left-preserved
-loop-left-preserved c = let l = c.loop-left in (
-  top_above c.requires.kinds l.own l.other l.invariant.0 (search rules) c.row_at.ensures c.token_kind-kind.ensures
-      c.if-kind-opener.false c.if-kind-closer.false c.if-kind-le-COMMA.false,
-  search rules,
-  search rules,
-  search rules,
-)
+loop-left-preserved c =
+    let l = one_less c.in-Some.ensures.steps in
+    let v = c.loop-left.invariant in (
+      top_above c.requires.kinds _ _ _ v.0 c.in-Some.ensures.steps c.token_kind-kind.ensures (unlike _ _ c.eq.ensures c.if-eq.false) (unlike _ _ c.eq-else-eq.ensures c.if-eq-2.false)
+          (omega (arith, c.if-kind.false, tag_is c.token_kind-kind.result)),
+      omega (arith, v.1, l),
+      omega (arith, v.2, l),
+    )
 
 pub returns : goal.returns
-returns c =
-    let l = c.loop-left in
-    top_over c.requires.kinds l.own l.other l.invariant.0 l.invariant.3 (omega (arith, c.loop-left-test.false, c.least_rows.ensures))
+returns c = top_over c.requires.kinds _ _ _ c.loop-left.invariant.0 (omega (arith, c.loop-left-test.false, c.least_rows.ensures, c.len.ensures))

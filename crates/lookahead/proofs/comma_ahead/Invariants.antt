@@ -1,16 +1,17 @@
 use mathlib.Core.Path.{◌≡◌}
-use Prim.Native.Nat.{◌-◌, ◌/◌, ◌≤◌}
-use lib.ListN.{length, drop}
-use Rattle.rows.specs.Row.{rows_of}
-use Rattle.lookahead.proofs.Looking.{Ahead}
+use Prim.Native.Nat.{◌+◌, ◌≤◌}
+use lib.ListN.{length}
+use Rattle.rows.specs.KindNumber.{kind_number}
+use Rattle.rows.specs.RowsLeft.{rows_left}
 use Rattle.lookahead.specs.Scan.{comma_ahead}
 use Rattle.lookahead.proofs.comma_ahead.Given as goal
 
 abbrev pub invariant-loop-left : goal.invariant-loop-left
-invariant-loop-left l = Ahead l.rows (comma_ahead l.opener l.closer l.other_opener l.other_closer l.own-2 l.other-2 (rows_of (drop l.from l.rows))) (comma_ahead l.opener l.closer l.other_opener l.other_closer l.own l.other) l.at
-    × (l.own ≤ l.at)
-    × (l.other ≤ l.at)
-    × (l.left ≡ (length l.rows - l.at) / 16)
+invariant-loop-left l =
+    let said = comma_ahead (kind_number l.pair.opener) (kind_number l.pair.closer) (kind_number l.other_pair.opener) (kind_number l.other_pair.closer) in
+    (said l.initial.own l.initial.other (rows_left l.initial.left) ≡ said l.own l.other (rows_left l.left))
+    × (l.own + length (rows_left l.left) ≤ l.initial.own + length (rows_left l.initial.left))
+    × (l.other + length (rows_left l.left) ≤ l.initial.other + length (rows_left l.initial.left))
 
 abbrev pub decreases-loop-left : goal.decreases-loop-left
-decreases-loop-left l = length l.rows - l.at
+decreases-loop-left l = length (rows_left l.left)

@@ -1,16 +1,9 @@
 -- `lookahead::next_is` meets its contract. Assumes nothing.
-use borrow.Author.Rules.{rules}
-use Rattle.lookahead.proofs.Next.{next_start, next-first, next_more, next-none}
+use Rattle.lookahead.proofs.Next.{next_said}
 use Rattle.lookahead.proofs.next_is.Goals as goal
 
-pub loop-at-init : goal.loop-at-init
-loop-at-init c = next_start _ _
+pub returns-in-Some : goal.returns-in-Some
+returns-in-Some c = λ text. rw (← next_said c.args.rows.now text c.args.kind c.first_token.ensures, c.in-Some.is)
 
-pub returns-then-row-eq-TOKEN : goal.returns-then-row-eq-TOKEN
-returns-then-row-eq-TOKEN c = next-first c.loop-at.invariant (search rules) c.row_at-row.ensures c.if-row-eq-TOKEN.true
-
-pub loop-at-preserved : goal.loop-at-preserved
-loop-at-preserved c = next_more c.loop-at.invariant (search rules) c.row_at-row.ensures c.if-row-eq-TOKEN.false
-
-pub returns : goal.returns
-returns c = next-none c.loop-at.invariant (search rules)
+pub returns-in-None : goal.returns-in-None
+returns-in-None c = λ text. rw (← next_said c.args.rows.now text c.args.kind c.first_token.ensures, c.in-None.is)

@@ -1,23 +1,27 @@
 -- `lookahead::total_width` meets its contract. Assumes nothing.
+use mathlib.Core.Path.{sym, ◌∙◌}
 use native.Mathlib.Omega.{arith}
-use borrow.Author.Rules.{rules}
-use Rattle.lookahead.proofs.Narrow.{widening_start, widened, passed_row, all_widths}
+use Rattle.rows.proofs.RowList.{rows_length}
+use Rattle.lookahead.proofs.Narrow.{wider, no_wider, one_less, no_width}
 use Rattle.lookahead.proofs.total_width.Goals as goal
 
-pub loop-at-init : goal.loop-at-init
-loop-at-init c = widening_start _
+pub overflow_add-width-then-is_token : goal.overflow_add-width-then-is_token
+overflow_add-width-then-is_token c =
+    record { fits = omega (arith, c.loop-row.invariant.1, c.size_of.ensures.1, rows_length c.args.rows.now, c.requires) }
 
-pub overflow_add-width : goal.overflow_add-width
-overflow_add-width c = record { fits = omega (arith, c.size_of.ensures.1) }
+pub loop-row-preserved-then-is_token : goal.loop-row-preserved-then-is_token
+loop-row-preserved-then-is_token c =
+    let e = c.in-Some.ensures.steps in
+    let w = wider e (sym c.is_token.ensures ∙ c.if-is_token.true) c.size_of.ensures.0 in
+    let l = one_less e in
+    (omega (arith, c.loop-row.invariant.0, w), omega (arith, c.loop-row.invariant.1, l, c.size_of.ensures.1))
 
-pub overflow_add-width-then-row-eq-TOKEN : goal.overflow_add-width-then-row-eq-TOKEN
-overflow_add-width-then-row-eq-TOKEN c = record { fits = omega (arith, c.loop-at.invariant.fits, c.loop-at.invariant.within, c.size_of.ensures.1, c.requires) }
-
-pub loop-at-preserved-then-row-eq-TOKEN : goal.loop-at-preserved-then-row-eq-TOKEN
-loop-at-preserved-then-row-eq-TOKEN c = widened c.loop-at.invariant (search rules) c.row_at-row.ensures c.if-row-eq-TOKEN.true c.size_of.ensures.0 c.size_of.ensures.1
-
-pub loop-at-preserved : goal.loop-at-preserved
-loop-at-preserved c = passed_row c.loop-at.invariant (search rules) c.row_at-row.ensures c.if-row-eq-TOKEN.false
+pub loop-row-preserved : goal.loop-row-preserved
+loop-row-preserved c =
+    let e = c.in-Some.ensures.steps in
+    let w = no_wider e (sym c.is_token.ensures ∙ c.if-is_token.false) in
+    let l = one_less e in
+    (omega (arith, c.loop-row.invariant.0, w), omega (arith, c.loop-row.invariant.1, l))
 
 pub returns : goal.returns
-returns c = all_widths c.loop-at.invariant (search rules)
+returns c = let w = no_width c.in-None.ensures.steps.0 in omega (arith, c.loop-row.invariant.0, w)

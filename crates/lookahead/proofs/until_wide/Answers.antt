@@ -1,29 +1,24 @@
 -- `lookahead::until_wide` meets its contract. Assumes nothing.
+use mathlib.Core.Path.{sym}
 use native.Mathlib.Omega.{arith}
-use borrow.Author.Rules.{rules}
-use Rattle.lookahead.proofs.Measuring.{measuring_start, room, passed_over, counted, reached_stop, reached_wide, reached_end}
+use Rattle.lookahead.proofs.Measuring.{room, passed_over, stopped, counted, ended}
 use Rattle.lookahead.proofs.until_wide.Goals as goal
 
-pub returns-then-rows-lt-ROW_BYTES : goal.returns-then-rows-lt-ROW_BYTES
-returns-then-rows-lt-ROW_BYTES c = let said = reached_end (measuring_start _ _ _ c.new-m.ensures.0 c.new-m.ensures.1 c.new-m.ensures.2 c.new-m.ensures.3) c.args.limit (omega (arith, c.if-rows-lt-ROW_BYTES.true)) in record { left = said.0; whole = said.1.0; few = said.1.1 }
+pub loop-row-preserved-then-not-is_token : goal.loop-row-preserved-then-not-is_token
+loop-row-preserved-then-not-is_token c = (passed_over c.loop-row.invariant.0 c.in-Some.ensures.steps (sym c.if-not-is_token.ensures), c.loop-row.invariant.1)
 
-pub loop-at-init : goal.loop-at-init
-loop-at-init c = (measuring_start _ _ _ c.new-m.ensures.0 c.new-m.ensures.1 c.new-m.ensures.2 c.new-m.ensures.3, omega (arith, c.new-m.ensures.3))
-
-pub returns-then-stops : goal.returns-then-stops
-returns-then-stops c = let said = reached_stop c.loop-at.invariant.0 (search rules) c.row_at-row.ensures c.if-row-eq-TOKEN.true c.stops.ensures c.args.limit c.if-stops.true in record { left = said.0; whole = said.1.0; few = said.1.1 }
+pub returns-then-stops-clause-whole : goal.returns-then-stops-clause-whole
+returns-then-stops-clause-whole c = λ w. stopped c.loop-row.invariant.0 c.in-Some.ensures.steps (sym c.if-not-is_token.ensures) c.token_kind-kind.ensures c.stops.ensures c.if-stops.true
 
 pub counts-m-requires : goal.counts-m-requires
-counts-m-requires c = room c.loop-at.invariant.0 _ (search rules) (omega (arith, c.loop-at.invariant.1, c.size_of.ensures.1, c.requires))
+counts-m-requires c = room c.loop-row.invariant.0 c.size_of.result (omega arith) (omega (arith, c.loop-row.invariant.1, c.size_of.ensures.1, c.requires))
 
-pub returns-then-limit-m : goal.returns-then-limit-m
-returns-then-limit-m c = let said = reached_wide (counted c.loop-at.invariant.0 (search rules) c.row_at-row.ensures c.if-row-eq-TOKEN.true c.stops.ensures c.if-stops.false c.size_of.ensures.0 c.counts-m.ensures) c.args.limit c.if-limit-m.true in record { left = said.0; whole = said.1.0; few = said.1.1 }
+pub returns-then-limit-m-clause-left : goal.returns-then-limit-m-clause-left
+returns-then-limit-m-clause-left c = λ w. (counted c.loop-row.invariant.0 c.in-Some.ensures.steps (sym c.if-not-is_token.ensures) c.token_kind-kind.ensures c.stops.ensures c.if-stops.false c.size_of.ensures.0 c.size_of.ensures.1 c.counts-m.ensures).said
 
-pub loop-at-preserved-else-limit-m : goal.loop-at-preserved-else-limit-m
-loop-at-preserved-else-limit-m c = (counted c.loop-at.invariant.0 (search rules) c.row_at-row.ensures c.if-row-eq-TOKEN.true c.stops.ensures c.if-stops.false c.size_of.ensures.0 c.counts-m.ensures, c.if-limit-m.false)
+pub loop-row-preserved : goal.loop-row-preserved
+loop-row-preserved c =
+    (counted c.loop-row.invariant.0 c.in-Some.ensures.steps (sym c.if-not-is_token.ensures) c.token_kind-kind.ensures c.stops.ensures c.if-stops.false c.size_of.ensures.0 c.size_of.ensures.1 c.counts-m.ensures, c.if-limit-m.false)
 
-pub loop-at-preserved : goal.loop-at-preserved
-loop-at-preserved c = (passed_over c.loop-at.invariant.0 (search rules) c.row_at-row.ensures c.if-row-eq-TOKEN.false, c.loop-at.invariant.1)
-
-pub returns : goal.returns
-returns c = let said = reached_end c.loop-at.invariant.0 c.args.limit (search rules) in record { left = said.0; whole = said.1.0; few = said.1.1 }
+pub returns-clause-whole : goal.returns-clause-whole
+returns-clause-whole c = λ w. ended c.loop-row.invariant.0 c.in_default.ensures.steps.0

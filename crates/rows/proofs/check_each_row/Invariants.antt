@@ -1,10 +1,8 @@
-use Prim.Native.Nat.{◌-◌}
-use lib.ListN.{length}
+use Rattle.rows.specs.RowsLeft.{rows_left}
 use Rattle.rows.proofs.Checking.{State}
 use Rattle.rows.proofs.check_each_row.Given as goal
 
-abbrev pub invariant-loop-at : goal.invariant-loop-at
-invariant-loop-at l = State l.rows l.size l.before l.at l.i
-
-abbrev pub decreases-loop-at : goal.decreases-loop-at
-decreases-loop-at l = length l.rows - l.at
+abbrev pub invariant-loop-i : goal.invariant-loop-i
+invariant-loop-i l =
+    (goal.iterator-loop-i).can_next l.i-iterator × (goal.iterator-loop-i).is_finite l.i-iterator
+    × State l.rows l.size l.before (rows_left l.i-iterator.iter) l.i-iterator.count

@@ -1,9 +1,0 @@
--- `lookahead::measure::is_top` meets its contract. Assumes nothing.
-use borrow.Author.Tests.{eq-eqb, ne_eqb}
-use Rattle.lookahead.proofs.measure.is_top.Goals as goal
-
-pub returns-then-own-eq1 : goal.returns-then-own-eq1
-returns-then-own-eq1 c = rw (eq-eqb _ _ c.if-own-eq1.true)
-
-pub returns : goal.returns
-returns c = rw (ne_eqb _ _ c.if-own-eq1.false)
