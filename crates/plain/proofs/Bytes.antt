@@ -11,7 +11,9 @@ use lib.Seq.{slice, take-nil}
 use borrow.Author.Tests.{eqb-true, ne_eqb}
 use Rattle.shared.specs.Bytes.{digit, same_bytes}
 use Rattle.shared.proofs.Logic.{split}
-use Rattle.pieces.specs.declared.Next.TheVariants.{Piece, End, Unreadable}
+use Rattle.std.specs.Prelude.{Some, None, Ok, Err}
+use Rattle.pieces.specs.declared.Unreadable.{Unreadable}
+use Rattle.pieces.specs.declared.Piece.{Piece}
 use Rattle.pieces.specs.Reading.{Reading, done, refused, piece, between, read_from}
 use Rattle.pieces.specs.Next.{next}
 use Rattle.pieces.proofs.Scan.{at-end}
@@ -64,23 +66,24 @@ not_whole n s e (refused i) h = refl
 not_whole n s e (piece s' e' r) h = refl
 
 module _ (w : List ℕ) where
-  pub reads_later : {s e : ℕ} → Piece s e ≡ next (read_from w 0) → (s ≡ 0 → ⊥) → false ≡ reads_whole w
-  unfolding reads_whole
-  reads_later {s} {e} h n = rw (next-first w 0 h).reads (not_whole (length w) s e (read_from w e) (rw (ne_eqb s 0 n)))
+  module _ {p : Piece} (h : Ok (Some p) ≡ next (read_from w 0)) where
+    pub reads_later : (p.start ≡ 0 → ⊥) → false ≡ reads_whole w
+    unfolding reads_whole
+    reads_later n = rw (next-first w 0 h).reads (not_whole (length w) p.start p.end (read_from w p.end) (rw (ne_eqb p.start 0 n)))
 
-  pub reads_first : {s e : ℕ} → Piece s e ≡ next (read_from w 0) → s ≡ 0 → eqb e (length w) ≡ reads_whole w
-  unfolding reads_whole
-  reads_first {s} {e} h z =
-      rw (next-first w 0 h).reads
-      (split (eqb e (length w))
-      (λ q. let f = eqb-true e (length w) q in rw (at-end w between e e (omega arith), z))
-      (λ q. rw q (not_whole (length w) s e (read_from w e) (rw (z, q)))))
+    pub reads_first : p.start ≡ 0 → eqb p.end (length w) ≡ reads_whole w
+    unfolding reads_whole
+    reads_first z =
+        rw (next-first w 0 h).reads
+        (split (eqb p.end (length w))
+        (λ q. let f = eqb-true p.end (length w) q in rw (at-end w between p.end p.end (omega arith), z))
+        (λ q. rw q (not_whole (length w) p.start p.end (read_from w p.end) (rw (z, q)))))
 
-  pub reads_none : End ≡ next (read_from w 0) → false ≡ reads_whole w
+  pub reads_none : Ok None ≡ next (read_from w 0) → false ≡ reads_whole w
   unfolding reads_whole
   reads_none h = rw (next-done (read_from w 0) h)
 
-  pub reads-refused : {i : ℕ} → Unreadable i ≡ next (read_from w 0) → false ≡ reads_whole w
+  pub reads-refused : {u : Unreadable} → Err u ≡ next (read_from w 0) → false ≡ reads_whole w
   unfolding reads_whole
   reads-refused h = rw (next-refused (read_from w 0) h)
 

@@ -11,7 +11,7 @@ ghost use Rattle.plain.specs.Scan.{bracket_of, run_of, IsValue};
 
 use crate::blocks::{Bytes, all_in};
 use pieces::bytes::{is_operator, is_quote};
-use pieces::{Next, next_piece, runs};
+use pieces::{next_piece, runs};
 use rows::Kind;
 
 // Whether the kind is one from LeftBrace to Comma: its lexeme is one byte.
@@ -125,16 +125,10 @@ pub fn is_operators(lexeme: &[u8]) -> bool
 pub fn reads_whole(lexeme: &[u8]) -> bool
     ensures { result ≡ reads_whole lexeme.now }
 {
-    let next = next_piece(lexeme, 0);
-    match next {
-        Next::Piece { start, end } => {
-            if start != 0 {
-                return false;
-            }
-            end == lexeme.len()
-        }
-        Next::End => false,
-        Next::Unreadable { index: _ } => false,
+    match next_piece(lexeme, 0) {
+        Ok(Some(piece)) => piece.start == 0 && piece.end == lexeme.len(),
+        Ok(None) => false,
+        Err(_) => false,
     }
 }
 
