@@ -1,16 +1,19 @@
 -- A lexeme's bytes: compared one by one, at its ends, read as one piece, and as a part of the text. Assumes nothing.
-use mathlib.Core.Bool.{Bool, true, false, ◌&&◌, and-true}
+use mathlib.Core.Bool.{false, ◌&&◌, and-false}
 use mathlib.Core.List.{List, [], ◌∷◌}
-use mathlib.Core.Path.{◌≡◌, refl, sym, ap}
-use Prim.Native.Nat.{ℕ, zero, suc, ◌-◌, ◌≤◌}
+use mathlib.Core.Path.{◌≡◌, refl, sym}
+use Prim.Native.Nat.{ℕ, zero, suc, ◌-◌, ◌≤◌, ◌<◌}
 use native.Mathlib.Omega.{arith}
 use lib.Dec.{eqb}
 use lib.ListN.{length, get_or, take, drop}
+use lib.Pointwise.{pointwise}
 use lib.Seq.{slice, take-nil}
 use borrow.Author.Tests.{eqb-true, ne_eqb}
 use Rattle.shared.specs.Bytes.{digit, same_bytes}
 use Rattle.shared.proofs.Logic.{split}
-use Rattle.pieces.specs.declared.Next.TheVariants.{Piece, End, Unreadable}
+use Rattle.std.specs.Prelude.{Some, None, Ok, Err}
+use Rattle.pieces.specs.declared.Unreadable.{Unreadable}
+use Rattle.pieces.specs.declared.Piece.{Piece}
 use Rattle.pieces.specs.Reading.{Reading, done, refused, piece, between, read_from}
 use Rattle.pieces.specs.Next.{next}
 use Rattle.pieces.proofs.Scan.{at-end}
@@ -19,30 +22,16 @@ use Rattle.definition.specs.Plain.{operator_byte, is_one_piece, reads_whole, end
 
 -- ---- compared
 
--- w has the bytes v from index i on
-abbrev pub at : List ℕ → ℕ → List ℕ → Bool
-at w i [] = true
-at w i (b ∷ []) = eqb (get_or w i 0) b
-at w i (b ∷ c ∷ v) = eqb (get_or w i 0) b && at w (suc i) (c ∷ v)
+pub pointwise-same : (w v : List ℕ) → pointwise eqb w v ≡ same_bytes w v
+pointwise-same [] [] = refl
+pointwise-same [] (b ∷ v) = refl
+pointwise-same (a ∷ w) [] = refl
+pointwise-same (a ∷ w) (b ∷ v) = rw (pointwise-same w v)
 
-at_shift : (x : ℕ) (w : List ℕ) (i : ℕ) (v : List ℕ) → at (x ∷ w) (suc i) v ≡ at w i v
-at_shift x w i [] = refl
-at_shift x w i (b ∷ []) = refl
-at_shift x w i (b ∷ c ∷ v) = rw (at_shift x w (suc i) (c ∷ v))
-
-pub same_at : (w v : List ℕ) → length w ≡ length v → same_bytes w v ≡ at w 0 v
-same_at [] [] h = refl
-same_at [] (b ∷ v) h = absurd (omega arith)
-same_at (a ∷ w) [] h = absurd (omega arith)
-same_at (a ∷ []) (b ∷ []) h = and-true (eqb a b)
-same_at (a ∷ x ∷ w) (b ∷ []) h = absurd (omega arith)
-same_at (a ∷ w) (b ∷ c ∷ v) h = rw (same_at w (c ∷ v) (omega arith), at_shift a w 0 (c ∷ v))
-
-pub same_longer : (w v : List ℕ) → (length w ≡ length v → ⊥) → false ≡ same_bytes w v
-same_longer [] [] n = absurd (n refl)
-same_longer [] (b ∷ v) n = refl
-same_longer (a ∷ w) [] n = refl
-same_longer (a ∷ w) (b ∷ v) n = split (eqb a b) (λ e. rw e (same_longer w v (λ q. n (ap suc q)))) (λ e. rw e)
+pub same_single : (w : List ℕ) (b : ℕ) → 1 < length w → false ≡ same_bytes w (b ∷ [])
+same_single [] b h = absurd (omega arith)
+same_single (a ∷ []) b h = absurd (omega arith)
+same_single (a ∷ c ∷ w) b h = sym (and-false (eqb a b))
 
 -- ---- at its ends
 
@@ -77,23 +66,24 @@ not_whole n s e (refused i) h = refl
 not_whole n s e (piece s' e' r) h = refl
 
 module _ (w : List ℕ) where
-  pub reads_later : {s e : ℕ} → Piece s e ≡ next (read_from w 0) → (s ≡ 0 → ⊥) → false ≡ reads_whole w
-  unfolding reads_whole
-  reads_later {s} {e} h n = rw (next-first w 0 h).reads (not_whole (length w) s e (read_from w e) (rw (ne_eqb s 0 n)))
+  module _ {p : Piece} (h : Ok (Some p) ≡ next (read_from w 0)) where
+    pub reads_later : (p.start ≡ 0 → ⊥) → false ≡ reads_whole w
+    unfolding reads_whole
+    reads_later n = rw (next-first w 0 h).reads (not_whole (length w) p.start p.end (read_from w p.end) (rw (ne_eqb p.start 0 n)))
 
-  pub reads_first : {s e : ℕ} → Piece s e ≡ next (read_from w 0) → s ≡ 0 → eqb e (length w) ≡ reads_whole w
-  unfolding reads_whole
-  reads_first {s} {e} h z =
-      rw (next-first w 0 h).reads
-      (split (eqb e (length w))
-      (λ q. let f = eqb-true e (length w) q in rw (at-end w between e e (omega arith), z))
-      (λ q. rw q (not_whole (length w) s e (read_from w e) (rw (z, q)))))
+    pub reads_first : p.start ≡ 0 → eqb p.end (length w) ≡ reads_whole w
+    unfolding reads_whole
+    reads_first z =
+        rw (next-first w 0 h).reads
+        (split (eqb p.end (length w))
+        (λ q. let f = eqb-true p.end (length w) q in rw (at-end w between p.end p.end (omega arith), z))
+        (λ q. rw q (not_whole (length w) p.start p.end (read_from w p.end) (rw (z, q)))))
 
-  pub reads_none : End ≡ next (read_from w 0) → false ≡ reads_whole w
+  pub reads_none : Ok None ≡ next (read_from w 0) → false ≡ reads_whole w
   unfolding reads_whole
   reads_none h = rw (next-done (read_from w 0) h)
 
-  pub reads-refused : {i : ℕ} → Unreadable i ≡ next (read_from w 0) → false ≡ reads_whole w
+  pub reads-refused : {u : Unreadable} → Err u ≡ next (read_from w 0) → false ≡ reads_whole w
   unfolding reads_whole
   reads-refused h = rw (next-refused (read_from w 0) h)
 

@@ -2,7 +2,7 @@
 use mathlib.Core.Bool.{Bool, true, false, cond, ◌&&◌, ◌||◌}
 use mathlib.Core.List.{List, [], ◌∷◌}
 use mathlib.Core.Path.{◌≡◌, refl, ◌∙◌}
-use Prim.Native.Nat.{ℕ, suc, ◌≤◌, ◌<◌}
+use Prim.Native.Nat.{ℕ, ◌≤◌, ◌<◌}
 use native.Mathlib.Omega.{arith}
 use lib.Dec.{eqb, leb}
 use borrow.Author.Tests.{eqb-true, eqb-false, ne_eqb, lt-leb}
@@ -86,17 +86,6 @@ pub itself_operators : {k : ℕ} (w : List ℕ) → k ≡ BangHash → run_of op
 unfolding has_its_lexeme reads_whole read
 itself_operators [] e = rw e
 itself_operators (b ∷ w) e = rw (e, only w) (split (run_of operator_byte (b ∷ w)) (λ r. rw (r, operators_whole (b ∷ w) r)) (λ r. rw r))
-
--- after Comma, and none of the others with a fixed lexeme
-past : (k : ℕ) {j : ℕ} → j < k → (k ≡ suc j → ⊥) → suc j < k
-past k l n = omega arith
-
-pub only_else : (k : ℕ) → Comma < k → k ≤ Else → (k ≡ Colon → ⊥) → (k ≡ Semicolon → ⊥) → (k ≡ Question → ⊥) → (k ≡ Dot → ⊥) → (k ≡ DotDot → ⊥) → (k ≡ ColonColon → ⊥) → (k ≡ Hash → ⊥) → (k ≡ Bang → ⊥) → (k ≡ BangHash → ⊥) → (k ≡ Minus → ⊥) → k ≡ Else
-only_else k l h n₁ n₂ n₃ n₄ n₅ n₆ n₇ n₈ n₉ n₁₀ =
-    last (past k (past k (past k (past k (past k (past k (past k (past k (past k (past k l n₁) n₂) n₃) n₄) n₅) n₆) n₇) n₈) n₉) n₁₀) h
-  where
-    last : Minus < k → k ≤ Else → k ≡ Else
-    last l h = omega arith
 
 -- the kinds above Else have no fixed lexeme
 pub above_free : (k : ℕ) (w : List ℕ) → Else < k → has_its_lexeme k w ≡ true

@@ -2,8 +2,9 @@ pub mod Bytes
 pub mod Runs
 pub mod Quick
 pub mod Eight
-pub mod Block
+pub mod Parts
 pub mod Letters
+pub mod Named
 pub mod Fixed
 pub mod Tests
 pub mod Rows

@@ -3,7 +3,7 @@ use mathlib.Core.Bool.{Bool, true, false, not, ◌&&◌, ◌||◌, and_assoc}
 use mathlib.Core.List.{List, ◌∷◌}
 use mathlib.Core.Option.{some}
 use mathlib.Core.Path.{◌≡◌, refl, sym, ap, ◌∙◌}
-use Prim.Native.Nat.{ℕ, ◌+◌, ◌-◌, ◌≤◌, ◌<◌}
+use Prim.Native.Nat.{ℕ, ◌+◌, ◌-◌, ◌≤◌, ◌<◌, min}
 use native.Mathlib.Omega.{arith}
 use lib.Dec.{eqb, ltb}
 use lib.ListN.{length, take, drop}
@@ -19,9 +19,9 @@ use Rattle.lookahead.proofs.Rests.{here, over}
 use Rattle.definition.specs.Emit.{is_some}
 use Rattle.definition.specs.Plain.{plain}
 use Rattle.plain.specs.Scan.{fits, facts_after, plain_rows}
-use Rattle.plain.specs.LookBack.{facts_from, facts_at, mark_from, fits_row, is_named, good_and_fits, Ahead, Unfit, FitsTo}
+use Rattle.plain.specs.LookBack.{facts_from, facts_at, seen, mark_from, fits_row, is_named, good_and_fits, Ahead, Unfit, FitsTo}
 use Rattle.plain.proofs.Bytes.{part_slice}
-use Rattle.plain.proofs.LookBack.{facts_next}
+use Rattle.plain.proofs.LookBack.{facts_next, seen-take}
 use Rattle.plain.proofs.Rows.{pass}
 
 -- a row's bytes, as the code takes them
@@ -54,6 +54,12 @@ named_inside text r z =
     let b = ltb r.end r.start in
     let c = ltb (length text) r.end in
     record { ordered = ltb-false _ _ (or_right a b (or_left (a || b) c z)); within = ltb-false _ _ (or_right (a || b) c z) }
+
+named_kind : (text : List ℕ) (r : Row) → misnamed Other (length text) r ≡ false → r.kind ≤ Other
+named_kind text r z =
+    let a = ltb Other r.kind in
+    let b = ltb r.end r.start in
+    ltb-false _ _ (or_left a b (or_left (a || b) (ltb (length text) r.end) z))
 
 module _ {rows text : List ℕ} {at : ℕ} (α : Ahead rows text at) where
   mark-over : length rows - at < 16 → mark_from rows text at ≡ true
@@ -116,14 +122,21 @@ module _ (rows text : List ℕ) (at : ℕ) {r : Row} (e : r ≡ row_at rows at) 
     pub row_inside : m ≡ false → Inside text r
     row_inside z = named_inside text r (sym k ∙ z)
 
-    pub row-fixed : m ≡ false → Unfit rows text at → r.kind ≤ Else → false ≡ good_and_fits rows text at
-    row-fixed z u l = rw (u.unfit (omega (arith, ap (λ r. r.kind) e)) (rw (← e) (row_inside z))) (sym (and_none (is_named text (row_at rows at))))
+    -- the code has the kind as one of its own, by the number j
+    as_named : m ≡ false → {j : ℕ} → j ≡ min r.kind 34 → j ≡ r.kind
+    as_named z {j} q = let l = named_kind text r (sym k ∙ z) in omega arith
 
-    pub row_token_lem : m ≡ false → r.what ≡ TokenRow → fits_row rows text at (row_at rows at) ≡ fits (facts_at rows text at) r.kind (part text r)
-    row_token_lem z w = there ∙ rw (eq-eqb r.what TokenRow w, part_slice r.start r.end text (row_inside z).ordered)
+    pub row-fixed : m ≡ false → Unfit rows text at → {j : ℕ} → j ≡ min r.kind 34 → j ≤ Else → false ≡ good_and_fits rows text at
+    row-fixed z u q g =
+        let l : r.kind ≤ Else = omega arith in rw (u.unfit (omega (arith, ap (λ r. r.kind) e)) (rw (← e) (row_inside z))) (sym (and_none (is_named text (row_at rows at))))
 
-    pub row_read : m ≡ false → r.what ≡ TokenRow → {x : Bool} → x ≡ fits (facts_at rows text at) r.kind (part text r) → x ≡ good_and_fits rows text at
-    row_read z w f = f ∙ sym (row_token_lem z w) ∙ rw (named_there, ← k, z)
+    pub row_token_lem : m ≡ false → r.what ≡ TokenRow → at ≤ length rows → {j : ℕ} → j ≡ min r.kind 34 →
+        fits_row rows text at (row_at rows at) ≡ fits (seen (take at rows) text) j (part text r)
+    row_token_lem z w h q = there ∙ rw (eq-eqb r.what TokenRow w, part_slice r.start r.end text (row_inside z).ordered, as_named z q, seen-take rows text at h)
+
+    pub row_read : m ≡ false → r.what ≡ TokenRow → at ≤ length rows → {j : ℕ} → j ≡ min r.kind 34 → {x : Bool} →
+        x ≡ fits (seen (take at rows) text) j (part text r) → x ≡ good_and_fits rows text at
+    row_read z w h q f = f ∙ sym (row_token_lem z w h q) ∙ rw (named_there, ← k, z)
 
 -- ---- the loop of `fit_end`
 
@@ -149,21 +162,21 @@ module _ {rows text : List ℕ} {from at : ℕ} (π : Passed rows text from at) 
     pub stop_trivia : (r.what ≡ TokenRow → ⊥) → FitsTo rows text from at
     stop_trivia n = stops (λ g. record { unfit = λ k i. row_trivia rows text at e n })
 
-    pub stop_free : Else < r.kind → FitsTo rows text from at
-    stop_free l = stops (λ g. record { unfit = λ k i. absurd (omega (arith, ap (λ r. r.kind) e)) })
-
     module _ (w : r.what ≡ TokenRow) {m : Bool} (q : m ≡ misnamed Other (length text) r) where
       pub stop-misnamed : m ≡ true → FitsTo rows text from at
       stop-misnamed z = stops (λ g. record { unfit = λ k i. impossible (sym (sym q ∙ z) ∙ rw e (named_well text (row_at rows at) k i)) })
 
-      module _ (z : m ≡ false) where
-        row_fits_lem : fits_row rows text at (row_at rows at) ≡ fits (facts_at rows text at) r.kind (part text r)
-        row_fits_lem = row_token_lem rows text at e q z w
+      module _ (z : m ≡ false) {j : ℕ} (n : j ≡ min r.kind 34) where
+        pub stop_free : Else < j → FitsTo rows text from at
+        stop_free l = stops (λ g. record { unfit = λ k i. absurd (omega (arith, ap (λ r. r.kind) e)) })
 
-        pub stop-fixed : {x : Bool} → x ≡ fits (facts_at rows text at) r.kind (part text r) → x ≡ false → FitsTo rows text from at
+        row_fits_lem : fits_row rows text at (row_at rows at) ≡ fits (seen (take at rows) text) j (part text r)
+        row_fits_lem = row_token_lem rows text at e q z w π.ahead.within n
+
+        pub stop-fixed : {x : Bool} → x ≡ fits (seen (take at rows) text) j (part text r) → x ≡ false → FitsTo rows text from at
         stop-fixed f y = stops (λ g. record { unfit = λ k i. row_fits_lem ∙ sym f ∙ y })
 
-        pub passed_more : fits (facts_at rows text at) r.kind (part text r) ≡ true → Passed rows text from (at + 16)
+        pub passed_more : fits (seen (take at rows) text) j (part text r) ≡ true → Passed rows text from (at + 16)
         passed_more f = record {
           on = omega (arith, π.on);
           ahead = ahead-next π.ahead h e w (sym q ∙ z);

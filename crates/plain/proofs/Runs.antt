@@ -1,15 +1,17 @@
 -- Runs of bytes of one set: counted off by the loops, and read as one piece. Assumes nothing.
-use mathlib.Core.Bool.{Bool, true, false, ◌&&◌, beq, and_assoc, and-true, and-false}
+use mathlib.Core.Bool.{Bool, true, false, ◌&&◌, ◌||◌, beq, and_assoc, and-true, and-false}
 use mathlib.Core.List.{List, [], ◌∷◌}
 use mathlib.Core.Path.{◌≡◌, refl, sym, ◌∙◌}
 use Prim.Native.Nat.{ℕ, zero, suc, ◌+◌, ◌-◌, ◌≤◌, ◌<◌, min}
 use native.Mathlib.Nat.{add-zero, add-suc, suc-add, min-eq_left, min-eq_right}
 use native.Mathlib.Numerals.{add-one}
 use native.Mathlib.Omega.{arith}
-use lib.Dec.{leb}
+use lib.Bits.{bit_or}
+use lib.Dec.{eqb, leb}
 use lib.ListN.{length, get_or, take, drop, drop_of_length-le}
 use lib.Seq.{drop-cons, drop-drop}
 use borrow.Author.Tests.{eq-eqb, leb-true, leb-false}
+use Rattle.std.specs.List.{list_all}
 use Rattle.shared.specs.Bytes.{byte, digit, within}
 use Rattle.shared.proofs.Logic.{split, impossible', and_left, and_right}
 use Rattle.shared.proofs.Below.{all_below, agree_below}
@@ -37,6 +39,14 @@ pub run_one : (f : ℕ → Bool) (w : List ℕ) → length w ≡ 1 → f (get_or
 run_one f [] h = absurd (omega arith)
 run_one f (b ∷ []) h = sym (and-true (f b))
 run_one f (b ∷ c ∷ w) h = absurd (omega arith)
+
+pub run_listed : (f : ℕ → Bool) (w : List ℕ) → (length w ≡ 0 → ⊥) → list_all f w ≡ run_of f w
+run_listed f [] n = absurd (n refl)
+run_listed f (b ∷ w) n = rw (listed f w)
+  where
+    listed : (f : ℕ → Bool) (w : List ℕ) → list_all f w ≡ all f w
+    listed f [] = refl
+    listed f (b ∷ w) = rw (listed f w)
 
 pub run_all_of : (f : ℕ → Bool) (w : List ℕ) → run_of f w ≡ true → all f w ≡ true
 run_all_of f [] e = refl
@@ -179,3 +189,11 @@ only_words f t b h e = and_right (f b) (is_word_byte b) (agree_below 256 (λ b. 
 pub small_word : (b : ℕ) → b < 256 → within (byte "a") (byte "z") b ≡ true → is_word_byte b ≡ true
 unfolding class
 small_word = only_words (within (byte "a") (byte "z")) refl
+
+-- the tests of a byte that have no branch
+abbrev tests : ℕ → Bool
+tests b = ((leb 128 b || eqb b 95) || digit b) || within (byte "a") (byte "z") (bit_or b 32)
+
+pub word_tests : (b : ℕ) → b < 256 → tests b ≡ is_word_byte b
+unfolding class
+word_tests = agree_below 256 tests is_word_byte refl

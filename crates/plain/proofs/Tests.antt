@@ -4,10 +4,10 @@ use mathlib.Core.List.{List, [], ◌∷◌}
 use mathlib.Core.Path.{◌≡◌, refl, sym, ◌∙◌}
 use Prim.Native.Nat.{ℕ, ◌≤◌, ◌<◌}
 use native.Mathlib.Omega.{arith}
-use lib.Dec.{eqb, leb}
-use borrow.Author.Tests.{eqb-true, eqb-false, ne_eqb, le-leb}
+use lib.Dec.{eqb, leb, ltb}
+use borrow.Author.Tests.{eqb-true, eqb-false, ne_eqb, leb-true, leb-false}
 use Rattle.shared.specs.Bytes.{same_bytes}
-use Rattle.shared.proofs.Logic.{split, impossible}
+use Rattle.shared.proofs.Logic.{split, impossible, impossible'}
 use Rattle.shared.proofs.Below.{agree_below}
 use Rattle.rows.specs.Kinds.{Eof, Newline, LeftBrace, RightBrace, Comma, Dot, DotDot, ColonColon, Hash, Bang, BangHash, Minus, Else}
 use Rattle.definition.specs.Plain.{reads_whole, begins_operator, tight_before, tight_after}
@@ -28,14 +28,18 @@ tight-none k n =
     let apart : (j : ℕ) → Dot ≤ j → j ≤ Minus → eqb k j ≡ false = λ j l m. ne_eqb k j (n j l m) in
     rw (apart Dot (omega arith) (omega arith), apart DotDot (omega arith) (omega arith), apart ColonColon (omega arith) (omega arith), apart Hash (omega arith) (omega arith), apart Bang (omega arith) (omega arith), apart BangHash (omega arith) (omega arith), apart Minus (omega arith) (omega arith))
 
-pub tight_low : (k : ℕ) → k < Dot → false ≡ tight_before k
-tight_low k h = sym (tight-none k (λ j l m e. omega arith))
-
 pub tight_high : (k : ℕ) → Minus < k → false ≡ tight_before k
 tight_high k h = sym (tight-none k (λ j l m e. omega arith))
 
-pub tight-between : (k : ℕ) → Dot ≤ k → k ≤ Minus → true ≡ tight_before k
-tight-between k h l = rw (le-leb Dot k h) at (agree_below 19 (leb Dot) tight_before refl k (omega arith))
+-- a written kind that is no bracket
+pub past_brackets : (k : ℕ) → mute k ≡ false → ltb Newline k && leb k Comma ≡ false → Comma < k
+past_brackets k m b =
+    split (leb k Comma)
+    (λ q.
+    let l : k < 9 = omega (arith, leb-true k Comma q) in
+    let some = agree_below 9 (λ k. mute k || (ltb Newline k && leb k Comma)) (λ k. true) refl k l in
+    impossible' (rw (m, b) at some))
+    (λ q. omega (arith, leb-false k Comma q))
 
 -- ---- whether a written token fits
 
@@ -73,6 +77,12 @@ module _ (q : Facts) (k : ℕ) (w : List ℕ) where
         both true true o x = refl
         both true false o x = refl
         both false g o x = refl
+
+    -- as the code joins the two tests
+    pub fits_joined : {x : Bool} → x ≡ begins_operator w && meets q k → not x ≡ fits q k w
+    fits_joined {x} e =
+        split (begins_operator w) (λ b. fits-operator b (rw b at e))
+        (λ b. let z : x ≡ false = rw b at e in rw z (fits_apart b))
 
 -- a kind above those with fixed lexemes
 module _ (q : Facts) (k : ℕ) (w : List ℕ) (h : Else < k) where

@@ -1,13 +1,13 @@
 -- The facts that the clauses ask for at an index of the rows, from the rows before it; and what the code's
 -- functions promise of them.
 -- Assumes nothing.
-use Rattle.std.specs.Prelude.{Bool, false, not, ◌&&◌, ◌||◌, List, ◌≡◌, ℕ, zero, suc, ◌+◌, ◌-◌, ◌/◌, ◌≤◌, eqb, ltb, length, drop}
+use Rattle.std.specs.Prelude.{Bool, false, not, ◌&&◌, ◌||◌, List, ◌≡◌, ℕ, zero, suc, ◌-◌, ◌/◌, ◌≤◌, eqb, ltb, length, drop}
 use Rattle.rows.specs.Kinds.{TokenRow, Else, Other}
-use Rattle.rows.specs.Row.{Row, row_size, number, row_at, rows_of}
+use Rattle.rows.specs.Row.{Row, row_size, row_at, rows_of}
 use Rattle.rows.specs.Token.{bytes_of}
 use Rattle.rows.specs.Bounds.{Inside}
 use Rattle.rows.specs.Checks.{Before, at_start, orphan, bad_from}
-use Rattle.plain.specs.Scan.{Facts, unseen, mute, fits, facts_after, meets, plain_rows}
+use Rattle.plain.specs.Scan.{Facts, unseen, fits, facts_after, meets, meets_after, plain_rows}
 
 -- The facts of the n rows that lie before the index.
 unfoldable pub facts_from : List ℕ → List ℕ → ℕ → ℕ → Facts
@@ -19,6 +19,10 @@ facts_from rows text (suc n) at =
 -- The facts of all rows before the index.
 abbrev pub facts_at : List ℕ → List ℕ → ℕ → Facts
 facts_at rows text at = facts_from rows text (at / row_size) at
+
+-- The facts of all rows.
+abbrev pub seen : List ℕ → List ℕ → Facts
+seen rows text = facts_at rows text (length rows)
 
 -- A token of the kind k and the lexeme w may stand at the index.
 abbrev pub fits_at : List ℕ → List ℕ → ℕ → ℕ → List ℕ → Bool
@@ -63,8 +67,10 @@ pub record FitsTo (rows text : List ℕ) (from at : ℕ) : Type 0 where
   pub mark : mark_from rows text from ≡ mark_from rows text at
   pub stop : row_size ≤ length rows - at → Unfit rows text at
 
--- `near` is the index after the row of the last token before an index but Newline and Eof, or less than a row.
-pub record Near (rows : List ℕ) (at near : ℕ) : Type 0 where
-  pub below : near ≤ at
-  pub same : (text : List ℕ) (k : ℕ) → meets (facts_at rows text at) k ≡ meets (facts_at rows text near) k
-  pub written : row_size ≤ near → mute (number rows (near - row_size + 4)) ≡ false
+-- After these rows, clauses 4 and 5 ask of the row r alone: the last token's but Newline and Eof.
+abbrev pub Near : List ℕ → Row → Type 0
+Near rows r = (text : List ℕ) (k : ℕ) → meets (seen rows text) k ≡ meets_after r.kind (bytes_of text r) k
+
+-- There is no such row, and they ask nothing.
+abbrev pub NoneNear : List ℕ → Type 0
+NoneNear rows = (text : List ℕ) (k : ℕ) → meets (seen rows text) k ≡ false

@@ -3,7 +3,9 @@
 // lie between.
 #![tactic(auto)]
 
-ghost use Rattle.std.specs.Prelude.{true, ◌≡◌, ◌+◌, ◌≤◌, length};
+ghost use Rattle.std.specs.Prelude.{true, ◌≡◌, ◌+◌, ◌≤◌, length, ltb};
+ghost use Rattle.rows.specs.Kinds.{Else};
+ghost use Rattle.rows.specs.KindNumber.{kind_number};
 ghost use Rattle.rows.specs.Checks.{GoodRows};
 ghost use Rattle.rows.specs.Row.{row_size};
 ghost use Rattle.rows.specs.Token.{tokens_of};
@@ -11,9 +13,10 @@ ghost use Rattle.definition.specs.Plain.{plain};
 ghost use Rattle.plain.specs.LookBack.{good_and_fits, Ahead, Unfit, FitsTo};
 
 use crate::before::{fits_fixed, fits_free, fits_read};
-use rows::{ROW_BYTES, kinds, misnames, row_at};
+use rows::{Kind, ROW_BYTES, kinds, misnames, row_at};
 
 mod before;
+mod blocks;
 mod lexeme;
 mod words;
 
@@ -46,22 +49,21 @@ fn fit_end(rows: &[u8], text: &[u8], from: usize) -> usize
     let mut at = from;
     while at <= last {
         let row = row_at(rows, at);
-        if row.what != kinds::TOKEN {
+        if !row.is_token() {
             return at;
         }
         if misnames(row, kinds::OTHER, text.len()) {
             return at;
         }
-        let start = row.start as usize;
-        let end = row.end as usize;
-        let lexeme = &text[start..end];
-        let kind = row.kind;
-        if kinds::ELSE < kind {
-            if !fits_free(rows, text, at, kind, lexeme) {
+        let before = &rows[..at];
+        let lexeme = &text[row.start as usize..row.end as usize];
+        let kind = row.token_kind();
+        if is_free(kind) {
+            if !fits_free(before, text, kind, lexeme) {
                 return at;
             }
         } else {
-            if !fits_fixed(rows, text, at, kind, lexeme) {
+            if !fits_fixed(before, text, kind, lexeme) {
                 return at;
             }
         }
@@ -76,16 +78,23 @@ fn row_fits(rows: &[u8], text: &[u8], at: usize) -> bool
     ensures { result ≡ good_and_fits rows.now text.now at }
 {
     let row = row_at(rows, at);
-    if row.what != kinds::TOKEN {
+    if !row.is_token() {
         return false;
     }
     if misnames(row, kinds::OTHER, text.len()) {
         return false;
     }
-    if row.kind <= kinds::ELSE {
+    let kind = row.token_kind();
+    if !is_free(kind) {
         return false;
     }
-    let start = row.start as usize;
-    let end = row.end as usize;
-    fits_read(rows, text, at, row.kind, &text[start..end])
+    let lexeme = &text[row.start as usize..row.end as usize];
+    fits_read(&rows[..at], text, kind, lexeme)
+}
+
+// Whether the kind has no fixed lexeme: Newline and Eof have none that is written.
+fn is_free(kind: Kind) -> bool
+    ensures { result ≡ ltb Else (kind_number kind) }
+{
+    (Kind::Else as u32) < kind as u32
 }

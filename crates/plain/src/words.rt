@@ -7,29 +7,35 @@ ghost use Rattle.pieces.specs.Eight.{eight_ones, eight_lows};
 ghost use Rattle.plain.specs.Scan.{is_word_byte, run_of};
 ghost use Rattle.plain.specs.Eight.{fours_of, bytes_within, letters_in, words_in};
 
+use crate::blocks::{Bytes, all_in};
 use pieces::{bytes, eights};
 use rows::number_at;
-use shared::classes::is_digit;
-use shared::numbers::smaller;
 
 // Whether the lexeme has bytes, and all of them are word bytes. Up to sixteen are tested without a loop.
 pub fn is_words(lexeme: &[u8]) -> bool
     ensures { result ≡ run_of is_word_byte lexeme.now }
 {
-    let size = lexeme.len();
-    if size == 1 {
-        return is_word(lexeme[0]);
+    if let [b] = lexeme {
+        return is_word(*b); // most lexemes have one byte
     }
-    if size < 4 {
-        return is_short_words(lexeme);
+    match lexeme.len() {
+        0..=3 => is_short_words(lexeme),
+        4..=8 => two_fours(lexeme),
+        9..=16 => two_eights(lexeme),
+        _ => is_long_words(lexeme),
     }
-    if size <= 8 {
-        return two_fours(lexeme);
+}
+
+// The same for no byte, two or three.
+fn is_short_words(lexeme: &[u8]) -> bool
+    requires { (length lexeme.now < 4) × (length lexeme.now ≡ 1 → ⊥) }
+    ensures { result ≡ run_of is_word_byte lexeme.now }
+{
+    match lexeme {
+        [a, b] => is_word(*a) && is_word(*b),
+        [a, b, c] => is_word(*a) && is_word(*b) && is_word(*c),
+        _ => false,
     }
-    if size <= 16 {
-        return two_eights(lexeme);
-    }
-    is_long_words(lexeme)
 }
 
 // The same for four to eight bytes, by the first four and the last four. Most lexemes have letters alone, so
@@ -54,99 +60,30 @@ fn two_eights(lexeme: &[u8]) -> bool
     all_high(first & last)
 }
 
-// The same for eight bytes and more. Eight are tested at a time; where fewer are left, the last eight of all.
-// A string is told at once, by its first byte.
+// The same for sixteen bytes and more. A string is told at once, by its first byte.
 fn is_long_words(lexeme: &[u8]) -> bool
-    requires { 8 ≤ length lexeme.now }
+    requires { 16 ≤ length lexeme.now }
     ensures { result ≡ run_of is_word_byte lexeme.now }
 {
     if lexeme[0] == b'"' {
         return false;
     }
-    let size = lexeme.len();
-    if 32 <= size {
-        return is_block_words(lexeme);
+    if lexeme.len() < 32 {
+        return all_in::<16, _>(&WordBytes, lexeme);
     }
-    let last = size - 8;
-    let mut i = 0;
-    while i < size {
-        if !eight_words(lexeme, smaller(i, last)) {
-            return false;
-        }
-        i += 8;
-    }
-    true
+    all_in::<32, _>(&WordBytes, lexeme)
 }
 
-// The same for thirty-two bytes and more, thirty-two at a time.
-fn is_block_words(lexeme: &[u8]) -> bool
-    requires { 32 ≤ length lexeme.now }
-    ensures { result ≡ run_of is_word_byte lexeme.now }
-{
-    let size = lexeme.len();
-    let last = size - 32;
-    let mut i = 0;
-    while i < size {
-        if !block_words(lexeme, smaller(i, last)) {
-            return false;
-        }
-        i += 32;
-    }
-    true
-}
+// The set of the word bytes.
+#[derive(Clone, Copy)]
+struct WordBytes;
 
-// The same for no byte, two or three.
-fn is_short_words(lexeme: &[u8]) -> bool
-    requires { (length lexeme.now < 4) × (length lexeme.now ≡ 1 → ⊥) }
-    ensures { result ≡ run_of is_word_byte lexeme.now }
-{
-    if lexeme.len() < 2 {
-        return false;
-    }
-    if !is_word(lexeme[0]) {
-        return false;
-    }
-    if lexeme.len() == 2 {
-        return is_word(lexeme[1]);
-    }
-    if !is_word(lexeme[1]) {
-        return false;
-    }
-    is_word(lexeme[2])
-}
+impl Bytes for WordBytes {
+    ghost set = { λ s. is_word_byte };
 
-// ---- a block of thirty-two
-
-// Whether the thirty-two bytes from `at` on are word bytes. No byte ends the loop, so that it compiles to
-// vector code.
-fn block_words(s: &[u8], at: usize) -> bool
-    requires { at + 32 ≤ length s.now }
-    ensures { result ≡ all is_word_byte (take 32 (drop at s.now)) }
-{
-    let mut words: u8 = 0;
-    let mut i = 0;
-    while i < 32 {
-        words += count_word(s[at + i]);
-        i += 1;
+    fn has(&self, b: u8) -> bool {
+        (128 <= b) | (b == b'_') | b.is_ascii_digit() | (b | 32).is_ascii_lowercase()
     }
-    words == 32
-}
-
-// 1 for a word byte, and 0 for another. At most one of the tests holds.
-fn count_word(b: u8) -> u8
-    ensures { (result ≡ cond (is_word_byte b) 1 0) × (result ≤ 1) }
-{
-    one(128 <= b) + one(b == b'_') + one(is_digit(b)) + one(is_small(b | 32))
-}
-
-// 1 for yes, and 0 for no.
-pub fn one(x: bool) -> u8
-    ensures { (result ≡ cond x 1 0) × (result ≤ 1) }
-{
-    if x {
-        return 1;
-    }
-    0
 }
 
 // ---- eight bytes in one number
@@ -156,14 +93,6 @@ const SMALL: u64 = 0x2020_2020_2020_2020;
 
 // What a number is multiplied by to stand after four bytes.
 const AFTER_FOUR: u64 = 0x1_0000_0000;
-
-// Whether the eight bytes from `at` on are word bytes.
-fn eight_words(s: &[u8], at: usize) -> bool
-    requires { at + 8 ≤ length s.now }
-    ensures { result ≡ all is_word_byte (take 8 (drop at s.now)) }
-{
-    all_high(words_in(eights::eight_bytes(s, at)))
-}
 
 // Whether all bytes are letters, for four to eight of them. A byte with its high bit set is no letter.
 fn is_letters(s: &[u8]) -> bool
@@ -223,18 +152,8 @@ fn bytes_within(low: u64, first: u8, last: u8) -> u64
 fn is_word(b: u8) -> bool
     ensures { result ≡ is_word_byte b }
 {
-    if is_small(b) {
+    if b.is_ascii_lowercase() {
         return true;
     }
     bytes::is_word(b)
-}
-
-// Whether the byte is one of a to z.
-fn is_small(b: u8) -> bool
-    ensures { result ≡ within (byte "a") (byte "z") b }
-{
-    if b'a' <= b {
-        return b <= b'z';
-    }
-    false
 }

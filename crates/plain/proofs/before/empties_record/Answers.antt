@@ -1,13 +1,19 @@
 -- `plain::before::empties_record` meets its contract. Assumes nothing.
-use mathlib.Core.Path.{sym, ap, ◌∙◌}
-use Rattle.plain.proofs.LookBack.{facts_none, opened_brace, opened_other}
+use Rattle.std.proofs.Common.{◌≡◌, eqb, sym, ap, ◌∙◌, rules}
+use Rattle.rows.specs.Kinds.{LeftBrace}
+use Rattle.rows.specs.KindNumber.{kind_number}
+use Rattle.plain.proofs.LookBack.{last_of, opened, seen-none}
 use Rattle.plain.proofs.before.empties_record.Goals as goal
 
-pub returns-then-at-lt-ROW_BYTES : goal.returns-then-at-lt-ROW_BYTES
-returns-then-at-lt-ROW_BYTES c = λ text. sym (ap (λ q. q.opened) (facts_none c.args.rows.now text c.args.at c.if-at-lt-ROW_BYTES.true))
+pub returns-then-eq : goal.returns-then-eq
+returns-then-eq c = λ text.
+    let q : c.eq.result ≡ eqb (kind_number c.kind_of.result) LeftBrace = search rules in
+    c.is_armed.ensures text ∙ (rw (sym q ∙ c.if-eq.true) at (opened (last_of c.in-Some.ensures.cases) text c.kind_of.ensures))
 
-pub returns-then-number_at-ne-LEFT_BRACE : goal.returns-then-number_at-ne-LEFT_BRACE
-returns-then-number_at-ne-LEFT_BRACE c = λ text. opened_other c.args.rows.now text c.args.at c.if-at-lt-ROW_BYTES.false c.number_at.ensures c.if-number_at-ne-LEFT_BRACE.true
+pub returns-else-eq : goal.returns-else-eq
+returns-else-eq c = λ text.
+    let q : c.eq.result ≡ eqb (kind_number c.kind_of.result) LeftBrace = search rules in
+    c.if-eq.false ∙ (rw (sym q ∙ c.if-eq.false) at (opened (last_of c.in-Some.ensures.cases) text c.kind_of.ensures))
 
-pub returns : goal.returns
-returns c = λ text. c.is_armed.ensures text ∙ opened_brace c.args.rows.now text c.args.at c.if-at-lt-ROW_BYTES.false c.number_at.ensures c.if-number_at-ne-LEFT_BRACE.false
+pub returns-in-None : goal.returns-in-None
+returns-in-None c = λ text. sym (ap (λ q. q.opened) (seen-none c.args.before.now text c.in-None.ensures.cases))

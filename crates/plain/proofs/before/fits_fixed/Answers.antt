@@ -1,37 +1,33 @@
 -- `plain::before::fits_fixed` meets its contract. Assumes nothing.
-use mathlib.Core.Path.{◌≡◌, sym, ◌∙◌}
-use Rattle.plain.specs.LookBack.{facts_at}
+use Rattle.std.proofs.Common.{◌≡◌, ◌<◌, ◌≤◌, ◌&&◌, sym, ◌∙◌, rules}
+use Rattle.rows.specs.Kinds.{Newline, Comma}
+use Rattle.rows.specs.KindNumber.{kind_number}
+use Rattle.definition.specs.Plain.{begins_operator}
+use Rattle.plain.specs.Scan.{meets}
+use Rattle.plain.specs.LookBack.{seen}
 use Rattle.plain.proofs.Fixed.{bracket_some}
-use Rattle.plain.proofs.Tests.{is_mute_lem, fits_not, bracket_not, bracket_fits, fits_apart, fits-operator}
+use Rattle.plain.proofs.Tests.{past_brackets, bracket_not, bracket_fits, fits_joined}
 use Rattle.plain.proofs.before.fits_fixed.Goals as goal
-use Rattle.plain.proofs.before.fits_fixed.Goals.{After-bracket_of}
 
--- a bracket has a byte
-some_byte : (c : After-bracket_of) → c.bracket_of.result ≡ 0 → ⊥
-some_byte c = λ z.
-    bracket_some c.args.kind c.if-kind-le-NEWLINE.false c.if-kind-le-COMMA.true (sym c.bracket_of.ensures ∙ z)
+pub returns-then-is_single : goal.returns-then-is_single
+returns-then-is_single c =
+    let k = kind_number c.args.kind in
+    let r : (Newline < k) × (k ≤ Comma) = search rules in
+    bracket_fits (seen c.args.before.now c.args.text.now) k c.args.lexeme.now r.0 c.bracket_of.ensures (λ z. bracket_some k r.0 r.1 (sym c.bracket_of.ensures ∙ z))
+    (sym c.is_single.ensures ∙ c.if-is_single.true) (c.forbids.ensures c.args.text.now)
 
--- ---- the answers
+pub returns-else-is_single : goal.returns-else-is_single
+returns-else-is_single c =
+    let k = kind_number c.args.kind in
+    let r : (Newline < k) × (k ≤ Comma) = search rules in
+    c.if-is_single.false ∙ bracket_not (seen c.args.before.now c.args.text.now) k c.args.lexeme.now r.0 c.bracket_of.ensures (λ z. bracket_some k r.0 r.1 (sym c.bracket_of.ensures ∙ z))
+    (sym c.is_single.ensures ∙ c.if-is_single.false)
 
-pub returns-then-kind-le-NEWLINE : goal.returns-then-kind-le-NEWLINE
-returns-then-kind-le-NEWLINE c = rw (is_mute_lem _ c.if-kind-le-NEWLINE.true)
-
-pub returns-then-not-is_single : goal.returns-then-not-is_single
-returns-then-not-is_single c = bracket_not (facts_at c.args.rows.now c.args.text.now c.args.at) c.args.kind c.args.lexeme.now c.if-kind-le-NEWLINE.false c.bracket_of.ensures (some_byte (goal.at.returns-then-not-is_single c).After-bracket_of)
-    (sym c.is_single.ensures ∙ c.if-not-is_single.true)
-
-pub returns-then-kind-le-COMMA : goal.returns-then-kind-le-COMMA
-returns-then-kind-le-COMMA c = bracket_fits (facts_at c.args.rows.now c.args.text.now c.args.at) c.args.kind c.args.lexeme.now c.if-kind-le-NEWLINE.false c.bracket_of.ensures (some_byte (goal.at.returns-then-kind-le-COMMA c).After-bracket_of)
-    (sym c.is_single.ensures ∙ c.if-not-is_single.false) (c.forbids.ensures c.args.text.now)
-
-pub returns-then-not-is_itself : goal.returns-then-not-is_itself
-returns-then-not-is_itself c = fits_not (facts_at c.args.rows.now c.args.text.now c.args.at) c.args.kind c.args.lexeme.now c.if-kind-le-NEWLINE.false (sym c.is_itself.ensures ∙ c.if-not-is_itself.true)
-
-pub returns-then-not-begins_operator : goal.returns-then-not-begins_operator
-returns-then-not-begins_operator c = fits_apart (facts_at c.args.rows.now c.args.text.now c.args.at) c.args.kind c.args.lexeme.now c.if-kind-le-COMMA.false
-    (sym c.is_itself.ensures ∙ c.if-not-is_itself.false) (sym c.begins_operator.ensures ∙ c.if-not-begins_operator.true)
-
-pub returns : goal.returns
-returns c = fits-operator (facts_at c.args.rows.now c.args.text.now c.args.at) c.args.kind c.args.lexeme.now c.if-kind-le-COMMA.false
-    (sym c.is_itself.ensures ∙ c.if-not-is_itself.false) (sym c.begins_operator.ensures ∙ c.if-not-begins_operator.false)
-    c.meets.ensures
+pub returns-after-begins_operator : goal.returns-after-begins_operator
+returns-after-begins_operator c =
+    let q = seen c.args.before.now c.args.text.now in
+    let k = kind_number c.args.kind in
+    let w = c.args.lexeme.now in
+    let e : c.if-begins_operator.result ≡ begins_operator w && meets q k = search rules in
+    let l = past_brackets k (sym c.is_mute.ensures ∙ c.if-is_mute.false) (sym c.is_bracket.ensures ∙ c.if-is_bracket.false) in
+    fits_joined q k w l (sym c.is_itself.ensures ∙ c.if-is_itself.true) e

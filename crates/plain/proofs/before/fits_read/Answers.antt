@@ -1,32 +1,17 @@
 -- `plain::before::fits_read` meets its contract. Assumes nothing.
-use mathlib.Core.Path.{◌≡◌, sym, ◌∙◌}
-use Prim.Native.Nat.{◌<◌}
-use native.Mathlib.Omega.{arith}
-use Rattle.rows.specs.Kinds.{Comma}
-use Rattle.plain.specs.LookBack.{facts_at}
-use Rattle.plain.proofs.Fixed.{itself}
-use Rattle.plain.proofs.Tests.{fits_not, fits_apart, fits-operator, free_itself}
+use Rattle.std.proofs.Common.{◌≡◌, ◌&&◌, sym, ◌∙◌, rules, arith}
+use Rattle.rows.specs.KindNumber.{kind_number}
+use Rattle.definition.specs.Plain.{begins_operator}
+use Rattle.plain.specs.Scan.{meets}
+use Rattle.plain.specs.LookBack.{seen}
+use Rattle.plain.proofs.Tests.{free_itself, fits_joined}
 use Rattle.plain.proofs.before.fits_read.Goals as goal
-use Rattle.plain.proofs.before.fits_read.Goals.{After-reads_whole, Start}
 
--- the kind is after Comma and Newline
-far : (c : Start) → Comma < c.args.kind
-far c = let h = c.requires.1 in omega arith
-
--- clauses 2 and 3 say what reading the lexeme says
-told : (c : After-reads_whole) → c.reads_whole.result ≡ itself c.args.kind c.args.lexeme.now
-told c =
-    c.reads_whole.ensures ∙ free_itself (facts_at c.args.rows.now c.args.text.now c.args.at) c.args.kind c.args.lexeme.now c.requires.1
-
--- ---- the answers
-
-pub returns-then-not-reads_whole : goal.returns-then-not-reads_whole
-returns-then-not-reads_whole c = fits_not (facts_at c.args.rows.now c.args.text.now c.args.at) c.args.kind c.args.lexeme.now (let h = far (goal.at.returns-then-not-reads_whole c).Start in omega arith) (sym (told (goal.at.returns-then-not-reads_whole c).After-reads_whole) ∙ c.if-not-reads_whole.true)
-
-pub returns-then-not-begins_operator : goal.returns-then-not-begins_operator
-returns-then-not-begins_operator c = fits_apart (facts_at c.args.rows.now c.args.text.now c.args.at) c.args.kind c.args.lexeme.now (far (goal.at.returns-then-not-begins_operator c).Start) (sym (told (goal.at.returns-then-not-begins_operator c).After-reads_whole) ∙ c.if-not-reads_whole.false)
-    (sym c.begins_operator.ensures ∙ c.if-not-begins_operator.true)
-
-pub returns : goal.returns
-returns c = fits-operator (facts_at c.args.rows.now c.args.text.now c.args.at) c.args.kind c.args.lexeme.now (far (goal.at.returns c).Start) (sym (told (goal.at.returns c).After-reads_whole) ∙ c.if-not-reads_whole.false)
-    (sym c.begins_operator.ensures ∙ c.if-not-begins_operator.false) c.meets.ensures
+pub returns-after-begins_operator : goal.returns-after-begins_operator
+returns-after-begins_operator c =
+    let q = seen c.args.before.now c.args.text.now in
+    let k = kind_number c.args.kind in
+    let w = c.args.lexeme.now in
+    let h = c.requires in
+    let e : c.if-begins_operator.result ≡ begins_operator w && meets q k = search rules in
+    fits_joined q k w (omega arith) (sym (free_itself q k w h) ∙ sym c.reads_whole.ensures ∙ c.if-reads_whole.true) e

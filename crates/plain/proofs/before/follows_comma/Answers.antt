@@ -1,24 +1,23 @@
 -- `plain::before::follows_comma` meets its contract. Assumes nothing.
-use mathlib.Core.Path.{refl, sym, ap, ◌∙◌}
-use native.Mathlib.Omega.{arith}
-use borrow.Author.Rules.{rules}
-use Rattle.plain.proofs.LookBack.{facts_none, comma_eof, comma_other}
+use Rattle.std.proofs.Common.{sym, ap, ◌∙◌, arith}
+use Rattle.rows.specs.KindNumber.{kind_number}
+use Rattle.plain.proofs.Named.{other}
+use Rattle.plain.proofs.LookBack.{last_of, comma_other, comma_eof, seen-none}
 use Rattle.plain.proofs.before.follows_comma.Goals as goal
+use borrow.Author.Tests.{ne_eqb}
 
-pub loop-i-init : goal.loop-i-init
-loop-i-init c = (omega arith, λ text. refl)
+pub returns-in-Comma : goal.returns-in-Comma
+returns-in-Comma c = λ text.
+    let z = ap kind_number c.in-Comma.is in
+    sym (c.loop-rest.invariant text ∙ comma_other (last_of c.in-Some.ensures.cases) text c.kind_of.ensures (λ e. omega (arith, z, e)) ∙ rw z)
 
-pub overflow_add-i : goal.overflow_add-i
-overflow_add-i c = omega (arith, c.loop-i.invariant.0)
+pub loop-rest-preserved : goal.loop-rest-preserved
+loop-rest-preserved c = λ text. c.loop-rest.invariant text ∙ comma_eof (last_of c.in-Some.ensures.cases) text c.kind_of.ensures (ap kind_number c.in-Eof.is)
 
-pub number_at-kind-requires : goal.number_at-kind-requires
-number_at-kind-requires c = omega (arith, c.loop-i.invariant.0)
-
-pub returns-then-kind-ne-EOF : goal.returns-then-kind-ne-EOF
-returns-then-kind-ne-EOF c = λ text. comma_other c.args.rows.now text c.loop-i.i (search rules) c.number_at-kind.ensures c.if-kind-ne-EOF.true ∙ sym (c.loop-i.invariant.1 text)
-
-pub loop-i-preserved : goal.loop-i-preserved
-loop-i-preserved c = (omega (arith, c.loop-i.invariant.0), λ text. c.loop-i.invariant.1 text ∙ comma_eof c.args.rows.now text c.loop-i.i (search rules) c.number_at-kind.ensures c.if-kind-ne-EOF.false)
+pub returns-in_default-kind_of : goal.returns-in_default-kind_of
+returns-in_default-kind_of c = λ text.
+    let n = c.in_default-kind_of in
+    sym (c.loop-rest.invariant text ∙ comma_other (last_of c.in-Some.ensures.cases) text c.kind_of.ensures (other _ n.not-Eof) ∙ ne_eqb _ _ (other _ n.not-Comma))
 
 pub returns : goal.returns
-returns c = λ text. sym (c.loop-i.invariant.1 text ∙ ap (λ q. q.comma) (facts_none c.args.rows.now text c.loop-i.i (search rules)))
+returns c = λ text. sym (c.loop-rest.invariant text ∙ ap (λ q. q.comma) (seen-none c.loop-rest.left.now text c.in_default.ensures.cases))

@@ -1,32 +1,20 @@
 -- `plain::before::is_armed` meets its contract. Assumes nothing.
-use mathlib.Core.Path.{refl, sym, ap, ◌∙◌}
-use native.Mathlib.Omega.{arith}
-use borrow.Author.Rules.{rules}
-use Rattle.plain.proofs.LookBack.{facts_none, armed_record, armed_brace, armed_other}
+use Rattle.std.proofs.Common.{sym, ap, ◌∙◌}
+use Rattle.rows.specs.KindNumber.{kind_number}
+use Rattle.plain.proofs.Named.{other}
+use Rattle.plain.proofs.LookBack.{last_of, armed_record, armed_brace, armed_other, seen-none}
 use Rattle.plain.proofs.before.is_armed.Goals as goal
 
-pub loop-i-init : goal.loop-i-init
-loop-i-init c = (omega arith, λ text. refl)
+pub returns-in-Record : goal.returns-in-Record
+returns-in-Record c = λ text. armed_record (last_of c.in-Some.ensures.cases) text c.kind_of.ensures (ap kind_number c.in-Record.is) ∙ sym (c.loop-rest.invariant text)
 
-pub overflow_add-i : goal.overflow_add-i
-overflow_add-i c = omega (arith, c.loop-i.invariant.0)
+pub returns-in-LeftBrace : goal.returns-in-LeftBrace
+returns-in-LeftBrace c = λ text. armed_brace (last_of c.in-Some.ensures.cases) text c.kind_of.ensures (ap kind_number c.in-LeftBrace.is) ∙ sym (c.loop-rest.invariant text)
 
-pub number_at-kind-requires : goal.number_at-kind-requires
-number_at-kind-requires c = omega (arith, c.loop-i.invariant.0)
-
-pub returns-then-kind-eq-RECORD : goal.returns-then-kind-eq-RECORD
-returns-then-kind-eq-RECORD c = λ text. armed_record c.args.rows.now text c.loop-i.i (search rules) c.number_at-kind.ensures c.if-kind-eq-RECORD.true ∙ sym (c.loop-i.invariant.1 text)
-
-pub returns-then-kind-eq-LEFT_BRACE : goal.returns-then-kind-eq-LEFT_BRACE
-returns-then-kind-eq-LEFT_BRACE c = λ text. armed_brace c.args.rows.now text c.loop-i.i (search rules) c.number_at-kind.ensures c.if-kind-eq-LEFT_BRACE.true ∙ sym (c.loop-i.invariant.1 text)
-
-pub loop-i-preserved : goal.loop-i-preserved
-loop-i-preserved c = (
-  omega (arith, c.loop-i.invariant.0),
-  λ text.
-      c.loop-i.invariant.1 text
-      ∙ armed_other c.args.rows.now text c.loop-i.i (search rules) c.number_at-kind.ensures c.if-kind-eq-RECORD.false c.if-kind-eq-LEFT_BRACE.false,
-)
+pub loop-rest-preserved : goal.loop-rest-preserved
+loop-rest-preserved c = λ text.
+    let n = c.in_default-kind_of in
+    c.loop-rest.invariant text ∙ armed_other (last_of c.in-Some.ensures.cases) text c.kind_of.ensures (other _ n.not-Record) (other _ n.not-LeftBrace)
 
 pub returns : goal.returns
-returns c = λ text. sym (c.loop-i.invariant.1 text ∙ ap (λ q. q.armed) (facts_none c.args.rows.now text c.loop-i.i (search rules)))
+returns c = λ text. sym (c.loop-rest.invariant text ∙ ap (λ q. q.armed) (seen-none c.loop-rest.left.now text c.in_default.ensures.cases))

@@ -1,11 +1,9 @@
-use mathlib.Core.List.{List}
-use mathlib.Core.Path.{◌≡◌}
-use Prim.Native.Nat.{ℕ, ◌≤◌}
-use Rattle.plain.specs.LookBack.{facts_at}
+use Rattle.std.proofs.Common.{List, ◌≡◌, ℕ, length}
+use Rattle.plain.specs.LookBack.{seen}
 use Rattle.plain.proofs.before.is_armed.Given as goal
 
-abbrev pub invariant-loop-i : goal.invariant-loop-i
-invariant-loop-i l = (l.i ≤ l.at) × ((text : List ℕ) → (facts_at l.rows text l.at).armed ≡ (facts_at l.rows text l.i).armed)
+abbrev pub invariant-loop-rest : goal.invariant-loop-rest
+invariant-loop-rest l = (text : List ℕ) → (seen l.before text).armed ≡ (seen l.left text).armed
 
-abbrev pub decreases-loop-i : goal.decreases-loop-i
-decreases-loop-i l = l.i
+abbrev pub decreases-loop-rest : goal.decreases-loop-rest
+decreases-loop-rest l = length l.left

@@ -1,14 +1,15 @@
 -- `plain::before::meets` meets its contract. Assumes nothing.
-use Rattle.plain.proofs.LookBack.{near_none, near_empty, near_after}
+use Rattle.std.proofs.Common.{sym, ◌∙◌}
+use Rattle.rows.specs.Bounds.{row_of}
+use Rattle.rows.specs.KindNumber.{kind_number}
+use Rattle.rows.specs.Token.{bytes_of}
+use Rattle.plain.proofs.LookBack.{near_kind, near_part}
 use Rattle.plain.proofs.before.meets.Goals as goal
 
-pub returns-then-near-lt-ROW_BYTES : goal.returns-then-near-lt-ROW_BYTES
-returns-then-near-lt-ROW_BYTES c = near_none c.args.rows.now c.args.text.now c.near_end-near.ensures c.args.kind c.if-near-lt-ROW_BYTES.true
-
-pub returns-then-end-start : goal.returns-then-end-start
-returns-then-end-start c = near_empty c.args.rows.now c.args.text.now c.near_end-near.ensures c.args.kind c.if-near-lt-ROW_BYTES.false c.row_at-row.ensures
-    c.smaller-end.ensures c.if-end-start.true
-
-pub returns : goal.returns
-returns c = near_after c.args.rows.now c.args.text.now c.near_end-near.ensures c.args.kind c.if-near-lt-ROW_BYTES.false c.row_at-row.ensures
-    c.smaller-end.ensures c.if-end-start.false c.meets_after.ensures
+pub returns-in-Some-get : goal.returns-in-Some-get
+returns-in-Some-get c =
+    let at = c.in-Some-get.ensures.lookup.0 in
+    let part = at.2 ∙ near_part c.args.text.now (row_of c.in-Some.row) c.min-end.ensures at.0 in
+    let k = kind_number c.args.kind in
+    c.meets_after.ensures
+    ∙ rw (c.token_kind.ensures, part) (near_kind c.in-Some.row.kind (bytes_of c.args.text.now (row_of c.in-Some.row)) k ∙ sym (c.in-Some.ensures c.args.text.now k))

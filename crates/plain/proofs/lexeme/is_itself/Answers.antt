@@ -1,54 +1,69 @@
 -- `plain::lexeme::is_itself` meets its contract. Assumes nothing.
 use mathlib.Core.List.{[], ◌∷◌}
-use mathlib.Core.Path.{refl, ◌∙◌}
+use mathlib.Core.Path.{◌≡◌, refl, ap, ◌∙◌}
 use native.Mathlib.Omega.{arith}
 use Rattle.shared.specs.Bytes.{else_word}
 use Rattle.rows.specs.Kinds.{Colon, Semicolon, Question, Dot, DotDot, ColonColon, Hash, Bang, Minus, Else}
+use Rattle.rows.specs.KindNumber.{kind_number}
 use Rattle.pieces.specs.Class.{class}
 use Rattle.pieces.specs.Reading.{read}
 use Rattle.definition.specs.Plain.{has_its_lexeme, reads_whole}
 use Rattle.plain.proofs.Fixed.{itself_fixed, itself_operators}
+use Rattle.plain.proofs.Named.{other}
 use Rattle.plain.proofs.lexeme.is_itself.Goals as goal
 
-pub returns-in-9 : goal.returns-in-9
+pub returns-in-Colon : goal.returns-in-Colon
 unfolding has_its_lexeme reads_whole read class
-returns-in-9 c = c.is_single.ensures ∙ itself_fixed Colon c.args.lexeme.now (58 ∷ []) c.in-9.is refl refl
+returns-in-Colon c = c.is_just.ensures ∙ itself_fixed Colon c.args.lexeme.now (58 ∷ []) (ap kind_number c.in-Colon.is) refl refl
 
-pub returns-in-10 : goal.returns-in-10
+pub returns-in-Semicolon : goal.returns-in-Semicolon
 unfolding has_its_lexeme reads_whole read class
-returns-in-10 c = c.is_single-in-10.ensures ∙ itself_fixed Semicolon c.args.lexeme.now (59 ∷ []) c.in-10.is refl refl
+returns-in-Semicolon c = c.is_just-in-Semicolon.ensures ∙ itself_fixed Semicolon c.args.lexeme.now (59 ∷ []) (ap kind_number c.in-Semicolon.is) refl refl
 
-pub returns-in-11 : goal.returns-in-11
+pub returns-in-Question : goal.returns-in-Question
 unfolding has_its_lexeme reads_whole read class
-returns-in-11 c = c.is_single-in-11.ensures ∙ itself_fixed Question c.args.lexeme.now (63 ∷ []) c.in-11.is refl refl
+returns-in-Question c = c.is_just-in-Question.ensures ∙ itself_fixed Question c.args.lexeme.now (63 ∷ []) (ap kind_number c.in-Question.is) refl refl
 
-pub returns-in-12 : goal.returns-in-12
+pub returns-in-Dot : goal.returns-in-Dot
 unfolding has_its_lexeme reads_whole read class
-returns-in-12 c = c.is_single-in-12.ensures ∙ itself_fixed Dot c.args.lexeme.now (46 ∷ []) c.in-12.is refl refl
+returns-in-Dot c = c.is_just-in-Dot.ensures ∙ itself_fixed Dot c.args.lexeme.now (46 ∷ []) (ap kind_number c.in-Dot.is) refl refl
 
-pub returns-in-13 : goal.returns-in-13
+pub returns-in-DotDot : goal.returns-in-DotDot
 unfolding has_its_lexeme reads_whole read class
-returns-in-13 c = c.is_pair.ensures ∙ itself_fixed DotDot c.args.lexeme.now (46 ∷ 46 ∷ []) c.in-13.is refl refl
+returns-in-DotDot c = c.is_just-in-DotDot.ensures ∙ itself_fixed DotDot c.args.lexeme.now (46 ∷ 46 ∷ []) (ap kind_number c.in-DotDot.is) refl refl
 
-pub returns-in-14 : goal.returns-in-14
+pub returns-in-ColonColon : goal.returns-in-ColonColon
 unfolding has_its_lexeme reads_whole read class
-returns-in-14 c = c.is_pair-in-14.ensures ∙ itself_fixed ColonColon c.args.lexeme.now (58 ∷ 58 ∷ []) c.in-14.is refl refl
+returns-in-ColonColon c = c.is_just-in-ColonColon.ensures ∙ itself_fixed ColonColon c.args.lexeme.now (58 ∷ 58 ∷ []) (ap kind_number c.in-ColonColon.is) refl refl
 
-pub returns-in-15 : goal.returns-in-15
+pub returns-in-Hash : goal.returns-in-Hash
 unfolding has_its_lexeme reads_whole read class
-returns-in-15 c = c.is_single-in-15.ensures ∙ itself_fixed Hash c.args.lexeme.now (35 ∷ []) c.in-15.is refl refl
+returns-in-Hash c = c.is_just-in-Hash.ensures ∙ itself_fixed Hash c.args.lexeme.now (35 ∷ []) (ap kind_number c.in-Hash.is) refl refl
 
-pub returns-in-16 : goal.returns-in-16
+pub returns-in-Bang : goal.returns-in-Bang
 unfolding has_its_lexeme reads_whole read class
-returns-in-16 c = c.is_single-in-16.ensures ∙ itself_fixed Bang c.args.lexeme.now (33 ∷ []) c.in-16.is refl refl
+returns-in-Bang c = c.is_just-in-Bang.ensures ∙ itself_fixed Bang c.args.lexeme.now (33 ∷ []) (ap kind_number c.in-Bang.is) refl refl
 
-pub returns-in-17 : goal.returns-in-17
-returns-in-17 c = c.is_operators.ensures ∙ itself_operators c.args.lexeme.now c.in-17.is
-
-pub returns-in-18 : goal.returns-in-18
+pub returns-in-Minus : goal.returns-in-Minus
 unfolding has_its_lexeme reads_whole read class
-returns-in-18 c = c.is_single-in-18.ensures ∙ itself_fixed Minus c.args.lexeme.now (45 ∷ []) c.in-18.is refl refl
+returns-in-Minus c = c.is_just-in-Minus.ensures ∙ itself_fixed Minus c.args.lexeme.now (45 ∷ []) (ap kind_number c.in-Minus.is) refl refl
+
+pub returns-in-BangHash : goal.returns-in-BangHash
+returns-in-BangHash c = c.is_operators.ensures ∙ itself_operators c.args.lexeme.now (ap kind_number c.in-BangHash.is)
 
 pub returns-in_default : goal.returns-in_default
 unfolding has_its_lexeme reads_whole read class
-returns-in_default c = c.is_else.ensures ∙ itself_fixed {k = c.args.kind} Else c.args.lexeme.now else_word (omega arith) refl refl
+returns-in_default c =
+    let n = c.in_default in
+    let a = other _ n.not-Colon in
+    let b = other _ n.not-Semicolon in
+    let d = other _ n.not-Question in
+    let e = other _ n.not-Dot in
+    let f = other _ n.not-DotDot in
+    let g = other _ n.not-ColonColon in
+    let h = other _ n.not-Hash in
+    let i = other _ n.not-Bang in
+    let j = other _ n.not-BangHash in
+    let k = other _ n.not-Minus in
+    let z : kind_number c.args.kind ≡ Else = omega (arith, a, b, d, e, f, g, h, i, j, k) in
+    c.is_just-in_default.ensures ∙ itself_fixed Else c.args.lexeme.now else_word z refl refl

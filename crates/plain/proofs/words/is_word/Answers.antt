@@ -4,8 +4,5 @@ use borrow.Author.Rules.{rules}
 use Rattle.plain.proofs.Runs.{small_word}
 use Rattle.plain.proofs.words.is_word.Goals as goal
 
-pub returns-then-is_small : goal.returns-then-is_small
-returns-then-is_small c = sym (small_word c.args.b (search rules) (sym c.is_small.ensures ∙ c.if-is_small.true))
-
-pub returns : goal.returns
-returns c = c.is_word.ensures
+pub returns-then-is_ascii_lowercase : goal.returns-then-is_ascii_lowercase
+returns-then-is_ascii_lowercase c = sym (small_word c.args.b (search rules) (sym c.is_ascii_lowercase.ensures.value ∙ c.if-is_ascii_lowercase.true))
