@@ -1,12 +1,10 @@
 -- What a door leaves, where the report slice has 24 bytes and where it hasn't. Assumes nothing.
-use mathlib.Core.Bool.{Bool, true, false}
 use mathlib.Core.List.{List}
-use mathlib.Core.Path.{◌≡◌, refl, ap, ◌∙◌}
+use mathlib.Core.Path.{◌≡◌, ap, ◌∙◌}
 use Prim.Native.Nat.{ℕ}
 use lib.ListN.{length}
-use mir.Val.{bool_byte}
 use borrow.Author.Tests.{eq-eqb, ne_eqb}
-use Rattle.shared.specs.Report.{Report, report, report_size, report_bytes, bit}
+use Rattle.shared.specs.Report.{Report, report, report_size, report_bytes}
 use Rattle.doors.specs.Door.{door_refusal, door_report, door_slice}
 
 -- The door on the report slice xs, whose call answers r, returns n and leaves ys.
@@ -31,8 +29,3 @@ module _ (xs : List ℕ) (h : length xs ≡ report_size) where
   pub changed : (before after : List ℕ) {zs : List ℕ} → zs ≡ after → zs ≡ door_slice xs before after
   unfolding door_slice
   changed before after e = rw (eq-eqb (length xs) report_size h) e
-
--- a bool as a number
-pub as_number : (b : Bool) → bool_byte b ≡ bit b
-as_number true = refl
-as_number false = refl

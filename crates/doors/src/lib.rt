@@ -14,7 +14,7 @@ use format_source::format_source_with_shebang;
 use format_tokens::format_tokens_with;
 use pieces::read_pieces;
 use shared::refusal::Refusal;
-use shared::report::{REPORT_BYTES, put_report};
+use shared::report::{REPORT_BYTES, put_report, report_answer};
 use sheet::read_sheet;
 use spaces::needs_space;
 
@@ -55,7 +55,7 @@ pub extern "C" fn rl_layout(
         text,
         out,
     );
-    put_report(report, answers::of_layout(laid))
+    put_report(report, report_answer(answers::of_layout(laid)))
 }
 
 // Lays out the tokens with the default options, after the shebang line of `source` where it has one. Reports
@@ -82,7 +82,7 @@ pub extern "C" fn rl_layout_source(
         return Refusal::BadReport.number();
     }
     let laid = format_source_with_shebang(source, rows, text, out);
-    put_report(report, answers::of_layout(laid))
+    put_report(report, report_answer(answers::of_layout(laid)))
 }
 
 // Reads `sheet` into `rows`, and their texts into `text`. Reports the number of rows, that of the texts'
@@ -111,7 +111,7 @@ pub extern "C" fn rl_read_sheet(
         return Refusal::BadReport.number();
     }
     let answer = answers::of_sheet(read_sheet(sheet, rows, text));
-    put_report(report, answer)
+    put_report(report, report_answer(answer))
 }
 
 // Reads `text` back, and puts the start and the end of each piece into `pieces`. Reports the number of
@@ -131,7 +131,7 @@ pub extern "C" fn rl_read_pieces(text: &[u8], pieces: &mut [u32], report: &mut [
         return Refusal::BadReport.number();
     }
     let answer = answers::of_pieces(read_pieces(text, pieces));
-    put_report(report, answer)
+    put_report(report, report_answer(answer))
 }
 
 // Finds whether a space is needed between tokens of two kinds. Reports 1 or 0, 0 and 0.
@@ -145,5 +145,5 @@ pub extern "C" fn rl_needs_space(first: u32, second: u32, report: &mut [u8]) -> 
         return Refusal::BadReport.number();
     }
     let answer = answers::of_space(needs_space(first, second));
-    put_report(report, answer)
+    put_report(report, report_answer(answer))
 }

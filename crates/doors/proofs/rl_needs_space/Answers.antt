@@ -7,14 +7,14 @@ pub returns-then-report-ne-REPORT_BYTES : goal.returns-then-report-ne-REPORT_BYT
 returns-then-report-ne-REPORT_BYTES c =
     let a = c.args in
     record {
-      refusal = (refused a.report.now c.if-report-ne-REPORT_BYTES.true _).refusal;
+      refusal = c.number.ensures ∙ (refused a.report.now c.if-report-ne-REPORT_BYTES.true _).refusal;
       report = (refused a.report.now c.if-report-ne-REPORT_BYTES.true _).bytes;
     }
 
 pub returns : goal.returns
 returns c =
     let a = c.args in
-    let α = answered a.report.now c.if-report-ne-REPORT_BYTES.false (c.of_space-answer.ensures ∙ c.needs_space.ensures) c.put_report.ensures.refusal c.put_report.ensures.bytes in
+    let α = answered a.report.now c.if-report-ne-REPORT_BYTES.false (c.report_answer.ensures ∙ c.of_space-answer.ensures ∙ c.needs_space.ensures) c.put_report.ensures.refusal c.put_report.ensures.bytes in
     record {
       refusal = α.refusal;
       report = α.bytes;
