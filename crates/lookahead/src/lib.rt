@@ -255,10 +255,12 @@ fn comma_ahead(left: Rows, own: usize, other: usize, pair: Pair, other_pair: Pai
     let mut left = left;
     let mut own = own;
     let mut other = other;
-    while least_rows(own + other) <= left.len() {
+    let mut count = left.len(); // asked in each turn, it takes twice the time
+    while least_rows(own + other) <= count {
         let Some(row) = left.next() else {
             return false;
         };
+        count -= 1;
         let kind = token_kind(row);
         if kind == pair.opener {
             own += 1;
