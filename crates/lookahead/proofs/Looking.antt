@@ -83,6 +83,10 @@ module _ {answer : Bool} (behind : Bool) (depth : ℕ) (left : List Row) (α : a
       go true = refl
       go false = refl
 
+  pub block_none : left ≡ [] → false ≡ answer
+  unfolding single_line_rows
+  block_none e = sym (α ∙ rw (e, and-false))
+
 pub block_said : (rows text : List ℕ) {x : Bool} → x ≡ single_line_rows 0 (rows_of rows) → x ≡ block_is_single_line (tokens_of rows text)
 unfolding tokens_of
 block_said rows text e = e ∙ sym (single_rows text 0 (rows_of rows))
@@ -141,3 +145,7 @@ module _ {o c o' c' : ℕ} (κ : GroupKinds o c o' c') {answer : Bool} (own othe
 
   pub top_over : length left < least_rows (own + other) → false ≡ answer
   top_over h = sym (α ∙ comma-deep o c o' c' κ.closers left own other h)
+
+  pub top_none : left ≡ [] → false ≡ answer
+  unfolding comma_ahead
+  top_none e = sym (α ∙ rw e)

@@ -10,7 +10,7 @@ ghost use Rattle.lookahead.specs.Answer.{sig_answer, group_answer};
 ghost use Rattle.lookahead.specs.Measure.{start, row_sizes, opens_paren, sig_measure, group_measure};
 ghost use Rattle.lookahead.specs.Measure.{sig_breaks, list_breaks, block_is_single_line, next_has_comment, next_is};
 ghost use Rattle.lookahead.specs.Scan.{after_last, width_rows, is_comment, is_trivia, trails, ends_line, group_of};
-ghost use Rattle.lookahead.specs.Scan.{measure_rows, measure_of, least_rows, token_kind, GroupKinds, comma_ahead};
+ghost use Rattle.lookahead.specs.Scan.{measure_rows, measure_of, token_kind, GroupKinds, comma_ahead};
 ghost use Rattle.lookahead.specs.Scan.{breaks_at, FewIn};
 ghost use Rattle.rows.specs.Kinds.{TokenRow, Other};
 ghost use Rattle.rows.specs.KindNumber.{kind_number};
@@ -106,10 +106,7 @@ pub fn block_is_single_line(rows: &[u8]) -> bool
     let mut left = Rows::of(rows);
     let mut depth = 0;
     let mut follows = false; // a token's row
-    while least_rows(depth) <= left.len() {
-        let Some(row) = left.next() else {
-            return false;
-        };
+    while let Some(row) = left.next() {
         if !row.is_token() {
             if is_trivia(row, follows) {
                 return false;
@@ -118,7 +115,13 @@ pub fn block_is_single_line(rows: &[u8]) -> bool
             continue;
         }
         match row.token_kind() {
-            Kind::LeftBrace => depth += 1,
+            Kind::LeftBrace => {
+                depth += 1;
+                // A token closes one level at most.
+                if left.len() < depth {
+                    return false;
+                }
+            }
             Kind::RightBrace if depth <= 1 => return !trails(left),
             Kind::RightBrace => depth -= 1,
             Kind::Newline | Kind::Eof => return false,
@@ -243,7 +246,8 @@ fn until_wide<'a>(rows: &'a [u8], span: Span, limit: usize) -> (Measure, Rows<'a
 
 // Whether a comma stands at the top of a group, in the rows that are left, before the group closes. `own` and
 // `other` are the depths there: of the group's own kinds, and of the others. Its own kinds are tested first:
-// a hostile list nests them.
+// a hostile list nests them. A token closes one level at most, so with fewer rows left than levels are open
+// the answer is no; that is tested where a level opens, not in each turn, which takes twice the time.
 fn comma_ahead(left: Rows, own: usize, other: usize, pair: Pair, other_pair: Pair) -> bool
     requires depths { (own + length (rows_left left) < 2 ^ 62) × (other + length (rows_left left) < 2 ^ 62) }
     requires kinds { GroupKinds (kind_number pair.opener) (kind_number pair.closer)
@@ -255,13 +259,13 @@ fn comma_ahead(left: Rows, own: usize, other: usize, pair: Pair, other_pair: Pai
     let mut left = left;
     let mut own = own;
     let mut other = other;
-    while least_rows(own + other) <= left.len() {
-        let Some(row) = left.next() else {
-            return false;
-        };
+    while let Some(row) = left.next() {
         let kind = token_kind(row);
         if kind == pair.opener {
             own += 1;
+            if left.len() < own + other {
+                return false;
+            }
         } else if kind == pair.closer {
             if is_last(own, other) {
                 return false;
@@ -275,6 +279,9 @@ fn comma_ahead(left: Rows, own: usize, other: usize, pair: Pair, other_pair: Pai
                 return true;
             }
             other = other_pair.depth_after(kind, other);
+            if left.len() < own + other {
+                return false;
+            }
         }
     }
     false
@@ -289,14 +296,6 @@ fn token_kind(row: Row) -> Kind
     } else {
         Kind::Other
     }
-}
-
-// Answers how many rows a scan needs at least: one for each level that is open, since a token closes one at
-// most, and one where none is. With fewer left, the scan's answer is no.
-fn least_rows(depth: usize) -> usize
-    ensures { result ≡ least_rows depth }
-{
-    depth.max(1)
 }
 
 // Answers which group the first token opens.

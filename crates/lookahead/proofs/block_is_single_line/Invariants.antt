@@ -7,10 +7,10 @@ use Rattle.lookahead.proofs.Looking.{rest_of_block}
 use Rattle.lookahead.proofs.Tokens.{single_line_rows}
 use Rattle.lookahead.proofs.block_is_single_line.Given as goal
 
-abbrev pub invariant-loop-left : goal.invariant-loop-left
-invariant-loop-left l =
+abbrev pub invariant-loop-row : goal.invariant-loop-row
+invariant-loop-row l =
     (single_line_rows 0 (rows_of l.rows) ≡ rest_of_block l.follows l.depth (rows_left l.left))
     × (l.depth + length (rows_left l.left) ≤ length (rows_of l.rows))
 
-abbrev pub decreases-loop-left : goal.decreases-loop-left
-decreases-loop-left l = length (rows_left l.left)
+abbrev pub decreases-loop-row : goal.decreases-loop-row
+decreases-loop-row l = length (rows_left l.left)
