@@ -68,6 +68,7 @@ pub fn is_itself(kind: Kind, lexeme: &[u8]) -> bool
 }
 
 // Whether the lexeme is the byte alone.
+#[tactic(auto, using(crate::proofs::Bytes::same_single))]
 pub fn is_single(lexeme: &[u8], b: u8) -> bool
     ensures { result ≡ same_bytes lexeme.now (b ∷ []) }
 {
