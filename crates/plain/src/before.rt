@@ -1,9 +1,9 @@
 // Whether a row fits after the rows before it: the clauses of the plain mark that look back.
-ghost use Rattle.std.specs.Prelude.{true, ltb, ◌&&◌, List, ◌≡◌, ℕ, ◌≤◌, ◌<◌, length, min, MatchOption};
+ghost use Rattle.std.specs.Prelude.{true, ltb, List, ◌≡◌, ℕ, ◌≤◌, ◌<◌, min, MatchOption};
 ghost use Rattle.rows.specs.Bounds.{row_of};
 ghost use Rattle.rows.specs.Kinds.{Comma, Else, Other};
 ghost use Rattle.rows.specs.KindNumber.{kind_number};
-ghost use Rattle.rows.specs.Row.{number, row_size};
+ghost use Rattle.rows.specs.Row.{number};
 ghost use Rattle.definition.specs.Plain.{tight_before, tight_after};
 ghost use Rattle.plain.specs.Scan.{mute, fits, forbids, meets, meets_after};
 ghost use Rattle.plain.specs.LookBack.{seen, Near, NoneNear};

@@ -1,12 +1,13 @@
 // A lexeme by itself: clauses 2 and 3 of the plain mark, and its bytes.
-ghost use Rattle.std.specs.Prelude.{true, ◌&&◌, [], ◌∷◌, ◌≡◌, ◌+◌, ◌≤◌, ◌<◌, eqb, leb, ltb, length, get_or, take, drop};
-ghost use Rattle.shared.specs.Bytes.{same_bytes, else_word};
+ghost use Rattle.std.specs.Prelude.{true, ◌&&◌, [], ◌∷◌, ◌≡◌, ◌≤◌, ◌<◌, leb, ltb, length, get_or};
+ghost use Rattle.shared.specs.Bytes.{same_bytes};
 ghost use Rattle.rows.specs.Kinds.{Newline, Comma, Else};
 ghost use Rattle.rows.specs.KindNumber.{kind_number};
 ghost use Rattle.pieces.specs.Class.{class};
-ghost use Rattle.pieces.specs.Sets.{all, is_quote};
+ghost use Rattle.pieces.specs.Sets.{is_quote};
 ghost use Rattle.pieces.specs.Ends.{ordinary};
-ghost use Rattle.definition.specs.Plain.{operator_byte, has_its_lexeme, reads_whole, begins_operator, ends_operator, begins_digit};
+ghost use Rattle.definition.specs.Plain.{operator_byte, has_its_lexeme, reads_whole};
+ghost use Rattle.definition.specs.Plain.{begins_operator, ends_operator, begins_digit};
 ghost use Rattle.plain.specs.Scan.{bracket_of, run_of, IsValue};
 
 use crate::blocks::{Bytes, all_in};
