@@ -29,7 +29,7 @@ pub fn fits_quickly(before: &[u8], text: &[u8], kind: Kind, lexeme: &[u8]) -> bo
     fits_fixed(before, text, kind, lexeme)
 }
 
-// Whether the kind is one after Else: it has no fixed lexeme.
+// Whether the kind is one after Else, in the order of the kinds: it has no fixed lexeme.
 pub fn is_free(kind: Kind) -> bool
     ensures { result ≡ ltb Else (kind_number kind) }
 {

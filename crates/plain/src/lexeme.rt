@@ -31,7 +31,7 @@ pub fn is_bracket(kind: Kind) -> bool
     )
 }
 
-// The byte that is the lexeme of such a kind.
+// The byte that is the lexeme of such a kind. It is a table; as an Option it compiles to a jump by the kind.
 #[tactic(auto, unfolding(crate::specs::Scan::bracket_of))]
 pub fn bracket_of(kind: Kind) -> u8
     requires { (Newline < kind_number kind) × (kind_number kind ≤ Comma) }
@@ -68,7 +68,7 @@ pub fn is_itself(kind: Kind, lexeme: &[u8]) -> bool
     }
 }
 
-// Whether the lexeme is the byte alone.
+// Whether the lexeme is the byte alone. (`is_just` would store a byte that is no constant, and load it again.)
 #[tactic(auto, using(crate::proofs::Bytes::same_single))]
 pub fn is_single(lexeme: &[u8], b: u8) -> bool
     ensures { result ≡ same_bytes lexeme.now (b ∷ []) }
