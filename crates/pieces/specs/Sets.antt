@@ -1,6 +1,6 @@
 -- Sets of bytes, and runs of bytes in a set: what the code's loops count.
 -- Assumes nothing.
-use Rattle.std.specs.Prelude.{Bool, true, false, cond, List, ℕ, ◌-◌, ◌/◌, ◌%◌, ◌^◌, eqb, ltb}
+use Rattle.std.specs.Prelude.{Bool, true, false, cond, List, ℕ, ◌-◌, ◌/◌, ◌%◌, ◌^◌, eqb, ltb, ◌<◌, ◌≡◌}
 use Rattle.std.specs.List.{prefix_len, list_all}
 use Rattle.pieces.specs.declared.bytes.ByteSet.{ByteSet}
 use Rattle.pieces.specs.declared.bytes.Class.{Class}
@@ -17,6 +17,10 @@ member low high upper b = cond (ltb b 64) (bit low b) (cond (ltb b 128) (bit hig
 -- The byte is in the set, as the code has it.
 abbrev pub contains : ByteSet → ℕ → Bool
 contains s b = member s.low s.high s.upper b
+
+-- What a test answers, by what is known of its calls, is whether the byte is in the set f.
+abbrev pub Tests : (ℕ → Bool → Type 0) → (ℕ → Bool) → Type 0
+Tests answers f = (b : ℕ) (r : Bool) → b < 256 → answers b r → r ≡ f b
 
 -- How many bytes of the set f stand first, before one that is not in it.
 abbrev pub run_length : (ℕ → Bool) → List ℕ → ℕ

@@ -1,10 +1,10 @@
 // Where an open piece ends, by its kind. Each function takes the index from which it looks, and answers the
 // index after what it passes over.
-ghost use Rattle.std.specs.Prelude.{◌≡◌, cond, ◌+◌, ◌≤◌, ◌<◌, take, drop, length};
+ghost use Rattle.std.specs.Prelude.{Bool, ℕ, ◌≡◌, cond, ◌+◌, ◌≤◌, ◌<◌, take, drop, length};
 ghost use Rattle.shared.specs.Bytes.{digit};
 ghost use Rattle.pieces.specs.Class.{class};
 ghost use Rattle.pieces.specs.Reading.{word, number, operator};
-ghost use Rattle.pieces.specs.Sets.{contains, run_length, all, is_gap};
+ghost use Rattle.pieces.specs.Sets.{contains, Tests, run_length, all, is_gap};
 ghost use Rattle.pieces.specs.Ends.{EndsAt, QuoteEnds, taken, join_at, ordinary};
 
 use crate::bytes::ByteSet;
@@ -60,12 +60,7 @@ pub fn ordinary_end(text: &[u8], from: usize, quote: u8) -> usize
     ensures { result ≡ from + run_length (ordinary quote) (drop from text.now) }
 {
     let start = ordinary_eights(text, from, quote);
-    for i in start..text.len() {
-        if text[i] == quote || text[i] == b'\\' {
-            return i;
-        }
-    }
-    start.max(text.len())
+    end_of_run(text, start, |b| b != quote && b != b'\\')
 }
 
 // The index after as many ordinary bytes from `from` on as can be passed over eight at a time.
@@ -115,13 +110,22 @@ fn number_takes(text: &[u8], i: usize) -> bool
     bytes::is_word(b) || (b == b'.' && text.get(i + 1).is_some_and(|next| next.is_ascii_digit()))
 }
 
-// The index after the run of bytes of a set that starts at `from`. With `take_while(..).count()` in place of
-// the loop texts take a twelfth longer to read.
+// The index after the run of bytes of a set that starts at `from`.
 fn run_end(text: &[u8], from: usize, set: ByteSet) -> usize
     ensures { result ≡ from + run_length (contains set) (drop from text.now) }
 {
+    end_of_run(text, from, |b| set.contains(b))
+}
+
+// The index after the run of bytes that `takes` takes, which starts at `from`. With `take_while(..).count()` in
+// place of the loop texts take a twelfth longer to read.
+fn end_of_run<F: Fn(u8) -> bool>(text: &[u8], from: usize, takes: F) -> usize
+    requires { F.IsAlwaysCallable takes }
+    ensures { (p : ℕ → Bool) → Tests (F.post takes) p
+        → result ≡ from + run_length p (drop from text.now) }
+{
     for i in from..text.len() {
-        if !set.contains(text[i]) {
+        if !takes(text[i]) {
             return i;
         }
     }
