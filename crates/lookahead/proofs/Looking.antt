@@ -141,3 +141,7 @@ module _ {o c o' c' : ℕ} (κ : GroupKinds o c o' c') {answer : Bool} (own othe
 
   pub top_over : length left < least_rows (own + other) → false ≡ answer
   top_over h = sym (α ∙ comma-deep o c o' c' κ.closers left own other h)
+
+  pub top_none : left ≡ [] → false ≡ answer
+  unfolding comma_ahead
+  top_none e = sym (α ∙ rw e)

@@ -243,7 +243,8 @@ fn until_wide<'a>(rows: &'a [u8], span: Span, limit: usize) -> (Measure, Rows<'a
 
 // Whether a comma stands at the top of a group, in the rows that are left, before the group closes. `own` and
 // `other` are the depths there: of the group's own kinds, and of the others. Its own kinds are tested first:
-// a hostile list nests them.
+// a hostile list nests them. A token closes one level at most, so with fewer rows left than levels are open
+// the answer is no; that is tested where a level opens, not in each turn, which takes twice the time.
 fn comma_ahead(left: Rows, own: usize, other: usize, pair: Pair, other_pair: Pair) -> bool
     requires depths { (own + length (rows_left left) < 2 ^ 62) × (other + length (rows_left left) < 2 ^ 62) }
     requires kinds { GroupKinds (kind_number pair.opener) (kind_number pair.closer)
@@ -255,13 +256,13 @@ fn comma_ahead(left: Rows, own: usize, other: usize, pair: Pair, other_pair: Pai
     let mut left = left;
     let mut own = own;
     let mut other = other;
-    while least_rows(own + other) <= left.len() {
-        let Some(row) = left.next() else {
-            return false;
-        };
+    while let Some(row) = left.next() {
         let kind = token_kind(row);
         if kind == pair.opener {
             own += 1;
+            if left.len() < own + other {
+                return false;
+            }
         } else if kind == pair.closer {
             if is_last(own, other) {
                 return false;
@@ -275,6 +276,9 @@ fn comma_ahead(left: Rows, own: usize, other: usize, pair: Pair, other_pair: Pai
                 return true;
             }
             other = other_pair.depth_after(kind, other);
+            if left.len() < own + other {
+                return false;
+            }
         }
     }
     false
