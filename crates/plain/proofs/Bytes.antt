@@ -9,7 +9,7 @@ use lib.ListN.{length, get_or, take, drop}
 use lib.Pointwise.{pointwise}
 use lib.Seq.{slice, take-nil}
 use borrow.Author.Tests.{eqb-true, ne_eqb}
-use Rattle.shared.specs.Bytes.{digit, same_bytes}
+use Rattle.shared.specs.Bytes.{same_bytes}
 use Rattle.shared.proofs.Logic.{split}
 use Rattle.std.specs.Prelude.{Some, None, Ok, Err}
 use Rattle.pieces.specs.declared.Unreadable.{Unreadable}
@@ -18,7 +18,7 @@ use Rattle.pieces.specs.Reading.{Reading, done, refused, piece, between, read_fr
 use Rattle.pieces.specs.Next.{next}
 use Rattle.pieces.proofs.Scan.{at-end}
 use Rattle.pieces.proofs.Resume.{next-first, next-done, next-refused}
-use Rattle.definition.specs.Plain.{operator_byte, is_one_piece, reads_whole, ends_operator, begins_operator, begins_digit}
+use Rattle.definition.specs.Plain.{operator_byte, is_one_piece, reads_whole, ends_operator, begins_operator}
 
 -- ---- compared
 
@@ -35,21 +35,9 @@ same_single (a ∷ c ∷ w) b h = sym (and-false (eqb a b))
 
 -- ---- at its ends
 
-empty : (w : List ℕ) → length w ≡ 0 → w ≡ []
-empty [] h = refl
-empty (b ∷ w) h = absurd (omega arith)
-
-module _ (w : List ℕ) where
-  pub no_operator_first : length w ≡ 0 → false ≡ begins_operator w
-  no_operator_first h = rw (empty w h)
-
 pub operator-first : (w : List ℕ) → (length w ≡ 0 → ⊥) → operator_byte (get_or w 0 0) ≡ begins_operator w
 operator-first [] n = absurd (n refl)
 operator-first (b ∷ w) n = refl
-
-pub digit-first : (w : List ℕ) → (length w ≡ 0 → ⊥) → digit (get_or w 0 0) ≡ begins_digit w
-digit-first [] n = absurd (n refl)
-digit-first (b ∷ w) n = refl
 
 pub operator-last : (w : List ℕ) → (length w ≡ 0 → ⊥) → operator_byte (get_or w (length w - 1) 0) ≡ ends_operator w
 operator-last [] n = absurd (n refl)

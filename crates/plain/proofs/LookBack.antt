@@ -1,13 +1,13 @@
 -- The facts at an index, from those a row before it: what the code finds as it looks back. Assumes nothing.
 use mathlib.Core.Bool.{true, false, ◌&&◌, and-false}
-use mathlib.Core.List.{List, []}
+use mathlib.Core.List.{List}
 use mathlib.Core.Path.{◌≡◌, refl, sym, ap, ◌∙◌}
 use Prim.Native.Nat.{ℕ, zero, suc, ◌+◌, ◌-◌, ◌/◌, ◌≤◌, ◌<◌, min}
 use native.Mathlib.Nat.{min-eq_left, min-eq_right}
 use native.Mathlib.Omega.{arith}
 use lib.Dec.{eqb, leb, ltb}
-use lib.ListN.{length, take, drop, length-take, drop_of_length-le}
-use lib.Seq.{slice, take_all, take-length}
+use lib.ListN.{length, take, drop, length-take}
+use lib.Seq.{take_all, take-length}
 use Rattle.std.proofs.lemmas.List.{get_or-take, get_or-drop}
 use borrow.Author.Tests.{eq-eqb, ne_eqb, eqb-true, eqb-false, leb-true, leb-false, ltb-true, ltb-false}
 use Rattle.shared.proofs.Logic.{split}
@@ -146,9 +146,6 @@ meets-none rows text j h = rw (seen-none rows text h, and-false)
 
 -- ---- after the last token but Newline and Eof
 
-no_bytes : (a e : ℕ) (text : List ℕ) → min e (length text) ≤ a → slice a e text ≡ []
-no_bytes a e text h = drop_of_length-le (take e text) {i = a} (rw (length-take e text) h)
-
 same-take : (e : ℕ) (text : List ℕ) → take (min e (length text)) text ≡ take e text
 same-take e text =
     split (leb e (length text)) (λ q. rw (min-eq_left (leb-true e (length text) q)))
@@ -163,8 +160,5 @@ near_kind j w k = split (ltb j 34) (λ q. let h : min j 34 ≡ j = omega (arith,
     rw (h, l))
 
 module _ (text : List ℕ) (r : Row) {m : ℕ} (em : m ≡ min (length text) r.end) where
-  pub near_empty : m ≤ r.start → bytes_of text r ≡ []
-  near_empty l = no_bytes r.start r.end text (omega arith)
-
   pub near_part : r.start ≤ m → take (m - r.start) (drop r.start text) ≡ bytes_of text r
   near_part l = let z : m ≡ min r.end (length text) = omega arith in part_slice r.start m text (omega arith) ∙ ap (drop r.start) (rw z (same-take r.end text))

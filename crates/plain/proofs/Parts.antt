@@ -1,5 +1,5 @@
 -- A list in blocks of n bytes, and the last n. Assumes nothing.
-use mathlib.Core.Bool.{Bool, true, false, and-false}
+use mathlib.Core.Bool.{Bool, true, false}
 use mathlib.Core.List.{List}
 use mathlib.Core.Path.{◌≡◌, sym, ◌∙◌}
 use Prim.Native.Nat.{ℕ, zero, suc, ◌+◌, ◌-◌, ◌*◌, ◌/◌, ◌≤◌, ◌<◌}
@@ -8,9 +8,8 @@ use native.Mathlib.Omega.{arith}
 use lib.ListN.{length, get_or, take, drop}
 use lib.Seq.{drop-drop}
 use Rattle.std.specs.Simd.{first_chunks}
-use Rattle.shared.proofs.Logic.{split, and_right}
 use Rattle.pieces.specs.Sets.{all}
-use Rattle.plain.proofs.Runs.{all_parts}
+use Rattle.plain.proofs.Runs.{all_parts, last_part}
 
 block_at : (n m k : ℕ) (s d : List ℕ) → k < m → get_or (first_chunks n m s) k d ≡ take n (drop (k * n) s)
 block_at n zero k s d h = absurd (omega arith)
@@ -38,12 +37,6 @@ module _ (f : ℕ → Bool) (n : ℕ) (s : List ℕ) where
   pub blocks_last : (k : ℕ) → all f s ≡ all f (drop (k * n) s) → 0 < n → n ≤ length s → {m : ℕ} → m ≡ length s / n → m ≤ k →
       {last : List ℕ} → last ≡ drop (length s - n) s → all f last ≡ all f s
   blocks_last k e p h count c {last} b =
-      let i = length s - n in
       let m : length s / n * n ≤ k * n = mul-le-mul_right n (omega arith) in
       let l : length s ≤ k * n + n = omega (arith, div-add-mod' (length s) n, mod-lt (length s) p, m) in
-      split (all f (drop i s))
-      (λ t.
-      let o : i + (k * n - i) ≡ k * n = omega arith in
-      let tail = and_right (all f (take (k * n - i) (drop i s))) (all f (drop (k * n - i) (drop i s))) (sym (all_parts f (k * n - i) (drop i s)) ∙ t) in
-      rw (b, t) (sym (e ∙ rw (drop-drop, o) at tail)))
-      (λ t. rw (b, t) (sym (all_parts f i s ∙ rw t (and-false (all f (take i s))))))
+      rw b (last_part n f s h (k * n) e l)

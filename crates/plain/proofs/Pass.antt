@@ -167,14 +167,11 @@ module _ {rows text : List ℕ} {from at : ℕ} (π : Passed rows text from at) 
       stop-misnamed z = stops (λ g. record { unfit = λ k i. impossible (sym (sym q ∙ z) ∙ rw e (named_well text (row_at rows at) k i)) })
 
       module _ (z : m ≡ false) {j : ℕ} (n : j ≡ min r.kind 34) where
-        pub stop_free : Else < j → FitsTo rows text from at
-        stop_free l = stops (λ g. record { unfit = λ k i. absurd (omega (arith, ap (λ r. r.kind) e)) })
-
         row_fits_lem : fits_row rows text at (row_at rows at) ≡ fits (seen (take at rows) text) j (part text r)
         row_fits_lem = row_token_lem rows text at e q z w π.ahead.within n
 
-        pub stop-fixed : {x : Bool} → x ≡ fits (seen (take at rows) text) j (part text r) → x ≡ false → FitsTo rows text from at
-        stop-fixed f y = stops (λ g. record { unfit = λ k i. row_fits_lem ∙ sym f ∙ y })
+        pub stop-unfit : {x : Bool} → (j ≤ Else → x ≡ fits (seen (take at rows) text) j (part text r)) → x ≡ false → FitsTo rows text from at
+        stop-unfit f y = stops (λ g. record { unfit = λ k i. row_fits_lem ∙ sym (f (omega (arith, ap (λ r. r.kind) e))) ∙ y })
 
         pub passed_more : fits (seen (take at rows) text) j (part text r) ≡ true → Passed rows text from (at + 16)
         passed_more f = record {

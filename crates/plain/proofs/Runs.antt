@@ -1,16 +1,15 @@
 -- Runs of bytes of one set: counted off by the loops, and read as one piece. Assumes nothing.
-use mathlib.Core.Bool.{Bool, true, false, ◌&&◌, ◌||◌, beq, and_assoc, and-true, and-false}
+use mathlib.Core.Bool.{Bool, true, false, ◌&&◌, ◌||◌, beq, and_assoc, and-false}
 use mathlib.Core.List.{List, [], ◌∷◌}
 use mathlib.Core.Path.{◌≡◌, refl, sym, ◌∙◌}
-use Prim.Native.Nat.{ℕ, zero, suc, ◌+◌, ◌-◌, ◌≤◌, ◌<◌, min}
-use native.Mathlib.Nat.{add-zero, add-suc, suc-add, min-eq_left, min-eq_right}
-use native.Mathlib.Numerals.{add-one}
+use Prim.Native.Nat.{ℕ, zero, suc, ◌+◌, ◌-◌, ◌≤◌, ◌<◌}
+use native.Mathlib.Nat.{add-zero, add-suc, suc-add}
 use native.Mathlib.Omega.{arith}
 use lib.Bits.{bit_or}
 use lib.Dec.{eqb, leb}
-use lib.ListN.{length, get_or, take, drop, drop_of_length-le}
-use lib.Seq.{drop-cons, drop-drop}
-use borrow.Author.Tests.{eq-eqb, leb-true, leb-false}
+use lib.ListN.{length, get_or, take, drop, length-drop}
+use lib.Seq.{drop-drop, take_all}
+use borrow.Author.Tests.{eq-eqb}
 use Rattle.std.specs.List.{list_all}
 use Rattle.shared.specs.Bytes.{byte, digit, within}
 use Rattle.shared.proofs.Logic.{split, impossible', and_left, and_right}
@@ -27,18 +26,9 @@ use Rattle.plain.specs.Scan.{is_word_byte, run_of}
 
 -- ---- the loops
 
-pub run-empty : (f : ℕ → Bool) (w : List ℕ) → length w ≡ 0 → false ≡ run_of f w
-run-empty f [] h = refl
-run-empty f (b ∷ w) h = absurd (omega arith)
-
 pub run-start : (f : ℕ → Bool) (w : List ℕ) → (length w ≡ 0 → ⊥) → run_of f w ≡ all f (drop 0 w)
 run-start f [] n = absurd (n refl)
 run-start f (b ∷ w) n = refl
-
-pub run_one : (f : ℕ → Bool) (w : List ℕ) → length w ≡ 1 → f (get_or w 0 0) ≡ run_of f w
-run_one f [] h = absurd (omega arith)
-run_one f (b ∷ []) h = sym (and-true (f b))
-run_one f (b ∷ c ∷ w) h = absurd (omega arith)
 
 pub run_listed : (f : ℕ → Bool) (w : List ℕ) → (length w ≡ 0 → ⊥) → list_all f w ≡ run_of f w
 run_listed f [] n = absurd (n refl)
@@ -48,83 +38,46 @@ run_listed f (b ∷ w) n = rw (listed f w)
     listed f [] = refl
     listed f (b ∷ w) = rw (listed f w)
 
-pub run_all_of : (f : ℕ → Bool) (w : List ℕ) → run_of f w ≡ true → all f w ≡ true
-run_all_of f [] e = refl
-run_all_of f (b ∷ w) e = e
-
--- at the loop's head
-module _ (f : ℕ → Bool) (w : List ℕ) (i : ℕ) (e : run_of f w ≡ all f (drop i w)) where
-  module _ (h : i < length w) where
-    here : drop i w ≡ get_or w i 0 ∷ drop (i + 1) w
-    here = rw (add-one i) (drop-cons w i 0 h)
-
-    pub run_more : f (get_or w i 0) ≡ true → run_of f w ≡ all f (drop (i + 1) w)
-    run_more t = e ∙ rw (here, t)
-
-    pub run-stop : f (get_or w i 0) ≡ false → false ≡ run_of f w
-    run-stop t = sym (e ∙ rw (here, t))
-
-    gone : length w ≡ i + 1 → drop (i + 1) w ≡ []
-    gone z = drop_of_length-le w {i = i + 1} (omega arith)
-
-    pub run-last : length w ≡ i + 1 → f (get_or w i 0) ≡ run_of f w
-    run-last z = sym (e ∙ rw (here, gone z, and-true (f (get_or w i 0))))
-
-  pub run_out : length w ≤ i → true ≡ run_of f w
-  run_out h = sym (e ∙ rw (drop_of_length-le w h))
+pub run-stop : (f : ℕ → Bool) (w : List ℕ) → 0 < length w → f (get_or w 0 0) ≡ false → false ≡ run_of f w
+run-stop f [] h e = absurd (omega arith)
+run-stop f (b ∷ w) h e = rw e
 
 quote_no_word : is_word_byte 34 ≡ false
 unfolding class
 quote_no_word = refl
 
 pub quote_first : (w : List ℕ) → get_or w 0 0 ≡ 34 → 0 < length w → false ≡ run_of is_word_byte w
-quote_first w e h = run-stop is_word_byte w 0 (run-start is_word_byte w (λ z. omega arith)) h (rw e quote_no_word)
+quote_first w e h = run-stop is_word_byte w h (rw e quote_no_word)
 
--- ---- m at a time, the last m at the end
+-- ---- in two parts
 
 pub all_parts : (f : ℕ → Bool) (n : ℕ) (w : List ℕ) → all f w ≡ all f (take n w) && all f (drop n w)
 all_parts f zero w = refl
 all_parts f (suc n) [] = refl
 all_parts f (suc n) (b ∷ w) = rw (all_parts f n w) (sym (and_assoc (f b) (all f (take n w)) (all f (drop n w))))
 
-module _ (m : ℕ) (f : ℕ → Bool) (w : List ℕ) (h : m ≤ length w) (some : 0 < m) where
+module _ (m : ℕ) (f : ℕ → Bool) (w : List ℕ) (h : m ≤ length w) where
   abbrev last : ℕ
   last = length w - m
 
-  pub eights_stop : (at : ℕ) → all f (take m (drop at w)) ≡ false → false ≡ run_of f w
-  eights_stop at t =
-      sym (run-start f w (λ z. omega arith) ∙ all_parts f at w ∙ rw (all_parts f m (drop at w), t) (and-false (all f (take at w))))
-
-  module _ (i : ℕ) {at : ℕ} (here : at ≡ min i last) (t : all f (take m (drop at w)) ≡ true) where
-    eights_on : i ≤ last → all f (drop i w) ≡ all f (drop (i + m) w)
-    eights_on g =
-        let t' : all f (take m (drop i w)) ≡ true = rw (here, min-eq_left g) at t in
-        all_parts f m (drop i w) ∙ rw (t', drop-drop)
-
-    eights_over : last ≤ i → all f (drop i w) ≡ all f (drop (i + m) w)
-    eights_over g =
-        let t' : all f (take m (drop last w)) ≡ true = rw (here, min-eq_right g) at t in
-        let past : length w ≤ last + m = omega arith in
-        let whole : all f (drop last w) ≡ true = all_parts f m (drop last w) ∙ rw (t', drop-drop, drop_of_length-le w past) in
-        let e : last + (i - last) ≡ i = omega arith in
-        let out : length w ≤ i + m = omega arith in
-        let tail = and_right (all f (take (i - last) (drop last w))) (all f (drop (i - last) (drop last w))) (sym (all_parts f (i - last) (drop last w)) ∙ whole) in
-        rw (drop_of_length-le w out) (rw (drop-drop, e) at tail)
-
-    pub eights_more : run_of f w ≡ all f (drop i w) → run_of f w ≡ all f (drop (i + m) w)
-    eights_more e = e ∙ split (leb i last) (λ q. eights_on (leb-true i last q)) (λ q. eights_over (omega (arith, leb-false i last q)))
+  -- the bytes before i are in the set, and i leaves no more than the last m
+  pub last_part : (i : ℕ) → all f w ≡ all f (drop i w) → length w ≤ i + m → all f (drop last w) ≡ all f w
+  last_part i e l =
+      split (all f (drop last w))
+      (λ t.
+      let o : last + (i - last) ≡ i = omega arith in
+      let tail = and_right (all f (take (i - last) (drop last w))) (all f (drop (i - last) (drop last w))) (sym (all_parts f (i - last) (drop last w)) ∙ t) in
+      rw t (sym (e ∙ rw (drop-drop, o) at tail)))
+      (λ t. rw t (sym (all_parts f last w ∙ rw t (and-false (all f (take last w))))))
 
   -- the first m and the last m are all
-  pub both_ends : length w ≤ m + m → all f (take m w) && all f (take m (drop last w)) ≡ run_of f w
-  both_ends k =
+  pub both_ends : 0 < m → length w ≤ m + m → all f (take m w) && all f (take m (drop last w)) ≡ run_of f w
+  both_ends some k =
+      let run : run_of f w ≡ all f w = run-start f w (λ z. omega arith) in
+      let e : take m (drop last w) ≡ drop last w = take_all m (drop last w) (omega (arith, length-drop last w)) in
       split (all f (take m w))
-      (λ p. split (all f (take m (drop last w)))
-      (λ q. rw (p, q)
-      (run_out f w (0 + m + m)
-      (eights_more (0 + m) (sym (min-eq_right (omega arith))) q (eights_more 0 (sym (min-eq_left (omega arith))) p (run-start f w (λ z. omega arith))))
-      (omega arith)))
-      (λ q. rw (p, q) (eights_stop last q)))
-      (λ p. rw p (eights_stop 0 p))
+      (λ p. rw (p, e) (last_part m (all_parts f m w ∙ rw p) k ∙ sym run))
+      (λ p. rw p (sym (run ∙ all_parts f m w ∙ rw p)))
 
 -- ---- read
 

@@ -5,7 +5,7 @@ use mathlib.Core.Path.{◌≡◌, refl, sym, ◌∙◌}
 use Prim.Native.Nat.{ℕ, ◌≤◌, ◌<◌}
 use native.Mathlib.Omega.{arith}
 use lib.Dec.{eqb, leb, ltb}
-use borrow.Author.Tests.{eqb-true, eqb-false, ne_eqb, leb-true, leb-false}
+use borrow.Author.Tests.{eqb-true, ne_eqb, leb-true, leb-false}
 use Rattle.shared.specs.Bytes.{same_bytes}
 use Rattle.shared.proofs.Logic.{split, impossible, impossible'}
 use Rattle.shared.proofs.Below.{agree_below}
@@ -14,9 +14,6 @@ use Rattle.definition.specs.Plain.{reads_whole, begins_operator, tight_before, t
 use Rattle.plain.specs.Scan.{Facts, mute, forbids, meets, fits, is_word_byte, run_of, bracket_of}
 use Rattle.plain.proofs.Runs.{words_whole, words_begin}
 use Rattle.plain.proofs.Fixed.{itself, itself_bracket, bracket_begins, dot_begins, above_free}
-
-pub is_mute_lem : (k : ℕ) → k ≤ 1 → mute k ≡ true
-is_mute_lem k h = split (eqb k Eof) (λ e. rw e) (λ e. let n = eqb-false k Eof e in let q : k ≡ Newline = omega arith in rw q)
 
 pub not_mute : (k : ℕ) → 1 < k → mute k ≡ false
 not_mute k h = rw (ne_eqb k Eof (λ e. omega arith), ne_eqb k Newline (λ e. omega arith))

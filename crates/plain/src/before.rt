@@ -1,9 +1,9 @@
 // Whether a row fits after the rows before it: the clauses of the plain mark that look back.
-ghost use Rattle.std.specs.Prelude.{true, ◌&&◌, List, ◌≡◌, ℕ, ◌≤◌, ◌<◌, length, min, MatchOption};
+ghost use Rattle.std.specs.Prelude.{true, ltb, List, ◌≡◌, ℕ, ◌≤◌, ◌<◌, min, MatchOption};
 ghost use Rattle.rows.specs.Bounds.{row_of};
 ghost use Rattle.rows.specs.Kinds.{Comma, Else, Other};
 ghost use Rattle.rows.specs.KindNumber.{kind_number};
-ghost use Rattle.rows.specs.Row.{number, row_size};
+ghost use Rattle.rows.specs.Row.{number};
 ghost use Rattle.definition.specs.Plain.{tight_before, tight_after};
 ghost use Rattle.plain.specs.Scan.{mute, fits, forbids, meets, meets_after};
 ghost use Rattle.plain.specs.LookBack.{seen, Near, NoneNear};
@@ -15,9 +15,29 @@ use crate::lexeme::{
 use crate::words::is_words;
 use rows::{Kind, ROW_BYTES, Row, number_at, row_at};
 
-// Whether a token of the kind and lexeme given fits after the rows `before`, for a kind with a fixed lexeme,
-// Newline or Eof.
-pub fn fits_fixed(before: &[u8], text: &[u8], kind: Kind, lexeme: &[u8]) -> bool
+// Whether a token of the kind and lexeme given fits after the rows `before`, by tests that are quicker than
+// reading the lexeme. Yes is certain; no is certain for a kind with a fixed lexeme, Newline and Eof.
+pub fn fits_quickly(before: &[u8], text: &[u8], kind: Kind, lexeme: &[u8]) -> bool
+    ensures sure { result ≡ true
+        → fits (seen before.now text.now) (kind_number kind) lexeme.now ≡ true }
+    ensures fixed { kind_number kind ≤ Else
+        → result ≡ fits (seen before.now text.now) (kind_number kind) lexeme.now }
+{
+    if is_free(kind) {
+        return fits_free(before, text, kind, lexeme);
+    }
+    fits_fixed(before, text, kind, lexeme)
+}
+
+// Whether the kind is one after Else, in the order of the kinds: it has no fixed lexeme.
+pub fn is_free(kind: Kind) -> bool
+    ensures { result ≡ ltb Else (kind_number kind) }
+{
+    (Kind::Else as u32) < kind as u32
+}
+
+// The same for a kind with a fixed lexeme, Newline or Eof: the answer is certain.
+fn fits_fixed(before: &[u8], text: &[u8], kind: Kind, lexeme: &[u8]) -> bool
     requires { kind_number kind ≤ Else }
     ensures { result ≡ fits (seen before.now text.now) (kind_number kind) lexeme.now }
 {
@@ -30,9 +50,8 @@ pub fn fits_fixed(before: &[u8], text: &[u8], kind: Kind, lexeme: &[u8]) -> bool
     is_itself(kind, lexeme) && !(begins_operator(lexeme) && meets(before, text, kind))
 }
 
-// The same for any other kind, by tests that are quicker than reading the lexeme. Yes is certain, no is not;
-// most tokens that fit pass them.
-pub fn fits_free(before: &[u8], text: &[u8], kind: Kind, lexeme: &[u8]) -> bool
+// The same for any other kind. Yes is certain, no is not; most tokens that fit pass.
+fn fits_free(before: &[u8], text: &[u8], kind: Kind, lexeme: &[u8]) -> bool
     requires { Else < kind_number kind }
     ensures { result ≡ true
         → fits (seen before.now text.now) (kind_number kind) lexeme.now ≡ true }
@@ -46,7 +65,7 @@ pub fn fits_free(before: &[u8], text: &[u8], kind: Kind, lexeme: &[u8]) -> bool
     is_value(lexeme)
 }
 
-// The same, by reading the lexeme: the answer is certain.
+// Whether such a token fits, by reading the lexeme: the answer is certain.
 pub fn fits_read(before: &[u8], text: &[u8], kind: Kind, lexeme: &[u8]) -> bool
     requires { Else < kind_number kind }
     ensures { result ≡ fits (seen before.now text.now) (kind_number kind) lexeme.now }

@@ -1,12 +1,13 @@
 // A lexeme by itself: clauses 2 and 3 of the plain mark, and its bytes.
-ghost use Rattle.std.specs.Prelude.{true, ◌&&◌, [], ◌∷◌, ◌≡◌, ◌+◌, ◌≤◌, ◌<◌, eqb, leb, ltb, length, get_or, take, drop};
-ghost use Rattle.shared.specs.Bytes.{same_bytes, else_word};
+ghost use Rattle.std.specs.Prelude.{true, ◌&&◌, [], ◌∷◌, ◌≡◌, ◌≤◌, ◌<◌, leb, ltb, length, get_or};
+ghost use Rattle.shared.specs.Bytes.{same_bytes};
 ghost use Rattle.rows.specs.Kinds.{Newline, Comma, Else};
 ghost use Rattle.rows.specs.KindNumber.{kind_number};
 ghost use Rattle.pieces.specs.Class.{class};
-ghost use Rattle.pieces.specs.Sets.{all, is_quote};
+ghost use Rattle.pieces.specs.Sets.{is_quote};
 ghost use Rattle.pieces.specs.Ends.{ordinary};
-ghost use Rattle.definition.specs.Plain.{operator_byte, has_its_lexeme, reads_whole, begins_operator, ends_operator, begins_digit};
+ghost use Rattle.definition.specs.Plain.{operator_byte, has_its_lexeme, reads_whole};
+ghost use Rattle.definition.specs.Plain.{begins_operator, ends_operator, begins_digit};
 ghost use Rattle.plain.specs.Scan.{bracket_of, run_of, IsValue};
 
 use crate::blocks::{Bytes, all_in};
@@ -30,7 +31,7 @@ pub fn is_bracket(kind: Kind) -> bool
     )
 }
 
-// The byte that is the lexeme of such a kind.
+// The byte that is the lexeme of such a kind. It is a table; as an Option it compiles to a jump by the kind.
 #[tactic(auto, unfolding(crate::specs::Scan::bracket_of))]
 pub fn bracket_of(kind: Kind) -> u8
     requires { (Newline < kind_number kind) × (kind_number kind ≤ Comma) }
@@ -67,7 +68,8 @@ pub fn is_itself(kind: Kind, lexeme: &[u8]) -> bool
     }
 }
 
-// Whether the lexeme is the byte alone.
+// Whether the lexeme is the byte alone. (`is_just` would store a byte that is no constant, and load it again.)
+#[tactic(auto, using(crate::proofs::Bytes::same_single))]
 pub fn is_single(lexeme: &[u8], b: u8) -> bool
     ensures { result ≡ same_bytes lexeme.now (b ∷ []) }
 {

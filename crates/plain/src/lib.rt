@@ -3,17 +3,15 @@
 // lie between.
 #![tactic(auto)]
 
-ghost use Rattle.std.specs.Prelude.{true, ◌≡◌, ◌+◌, ◌≤◌, length, ltb};
-ghost use Rattle.rows.specs.Kinds.{Else};
-ghost use Rattle.rows.specs.KindNumber.{kind_number};
+ghost use Rattle.std.specs.Prelude.{true, ◌≡◌, ◌+◌, ◌≤◌, length};
 ghost use Rattle.rows.specs.Checks.{GoodRows};
 ghost use Rattle.rows.specs.Row.{row_size};
 ghost use Rattle.rows.specs.Token.{tokens_of};
 ghost use Rattle.definition.specs.Plain.{plain};
 ghost use Rattle.plain.specs.LookBack.{good_and_fits, Ahead, Unfit, FitsTo};
 
-use crate::before::{fits_fixed, fits_free, fits_read};
-use rows::{Kind, ROW_BYTES, kinds, misnames, row_at};
+use crate::before::{fits_quickly, fits_read, is_free};
+use rows::{Kind, ROW_BYTES, misnames, row_at};
 
 mod before;
 mod blocks;
@@ -26,7 +24,7 @@ pub fn plain_mark(rows: &[u8], text: &[u8]) -> bool
     ensures mark { GoodRows rows.now (length text.now)
         → result ≡ plain (tokens_of rows.now text.now) }
 {
-    let mut at = fit_end(rows, text, 0);
+    let mut at = fit_end(rows, text, 0); // no `for`: it says where the next row is
     while ROW_BYTES <= rows.len() - at {
         if !row_fits(rows, text, at) {
             return false;
@@ -46,26 +44,20 @@ fn fit_end(rows: &[u8], text: &[u8], from: usize) -> usize
         return from;
     }
     let last = rows.len() - ROW_BYTES;
-    let mut at = from;
+    let mut at = from; // no `for`: the index where it stops is the answer, at the end of the rows too
     while at <= last {
         let row = row_at(rows, at);
         if !row.is_token() {
             return at;
         }
-        if misnames(row, kinds::OTHER, text.len()) {
+        if misnames(row, Kind::Other as u32, text.len()) {
             return at;
         }
         let before = &rows[..at];
         let lexeme = &text[row.start as usize..row.end as usize];
         let kind = row.token_kind();
-        if is_free(kind) {
-            if !fits_free(before, text, kind, lexeme) {
-                return at;
-            }
-        } else {
-            if !fits_fixed(before, text, kind, lexeme) {
-                return at;
-            }
+        if !fits_quickly(before, text, kind, lexeme) {
+            return at;
         }
         at += ROW_BYTES;
     }
@@ -81,7 +73,7 @@ fn row_fits(rows: &[u8], text: &[u8], at: usize) -> bool
     if !row.is_token() {
         return false;
     }
-    if misnames(row, kinds::OTHER, text.len()) {
+    if misnames(row, Kind::Other as u32, text.len()) {
         return false;
     }
     let kind = row.token_kind();
@@ -90,11 +82,4 @@ fn row_fits(rows: &[u8], text: &[u8], at: usize) -> bool
     }
     let lexeme = &text[row.start as usize..row.end as usize];
     fits_read(&rows[..at], text, kind, lexeme)
-}
-
-// Whether the kind has no fixed lexeme: Newline and Eof have none that is written.
-fn is_free(kind: Kind) -> bool
-    ensures { result ≡ ltb Else (kind_number kind) }
-{
-    (Kind::Else as u32) < kind as u32
 }

@@ -1,8 +1,6 @@
 // Runs of word bytes.
-ghost use Rattle.std.specs.Prelude.{true, cond, ◌≡◌, ◌+◌, ◌*◌, ◌≤◌, ◌<◌, eqb, length, take, drop};
+ghost use Rattle.std.specs.Prelude.{true, ◌≡◌, ◌*◌, ◌≤◌, ◌<◌, eqb, length};
 ghost use Rattle.std.specs.Int.Bits.{bit_and};
-ghost use Rattle.shared.specs.Bytes.{byte, within};
-ghost use Rattle.pieces.specs.Sets.{all};
 ghost use Rattle.pieces.specs.Eight.{eight_ones, eight_lows};
 ghost use Rattle.plain.specs.Scan.{is_word_byte, run_of};
 ghost use Rattle.plain.specs.Eight.{fours_of, bytes_within, letters_in, words_in};

@@ -1,12 +1,11 @@
 -- `plain::fit_end` meets its contract. Assumes nothing.
-use Rattle.std.proofs.Common.{sym, ◌∙◌, ◌≡◌, ◌<◌, arith, rules}
+use Rattle.std.proofs.Common.{sym, ◌∙◌, ◌≡◌, arith, rules}
 use borrow.Author.Tests.{eqb-true, eqb-false}
 use Rattle.rows.specs.Bounds.{Inside, row_of}
-use Rattle.rows.specs.Kinds.{TokenRow, Else}
-use Rattle.rows.specs.KindNumber.{kind_number}
-use Rattle.plain.proofs.Pass.{row_inside, passed_none, stop-over, stop_trivia, stop-misnamed, stop_free, stop-fixed, passed_more}
+use Rattle.rows.specs.Kinds.{TokenRow}
+use Rattle.plain.proofs.Pass.{row_inside, passed_none, stop-over, stop_trivia, stop-misnamed, stop-unfit, passed_more}
 use Rattle.plain.proofs.fit_end.Goals as goal
-use Rattle.plain.proofs.fit_end.Goals.{Else-not-is_token, Else-misnames, then-is_free+else-not-fits_free, else-is_free+else-not-fits_fixed}
+use Rattle.plain.proofs.fit_end.Goals.{Else-not-is_token, Else-misnames}
 
 token : (c : Else-not-is_token) → (row_of c.row_at-row.result).what ≡ TokenRow
 token c = eqb-true _ TokenRow (sym c.is_token.ensures ∙ c.if-not-is_token.false)
@@ -32,19 +31,15 @@ returns-then-misnames c = stop-misnamed c.loop-at.invariant (search rules) c.row
 pub slice_bounds-lexeme-count : goal.slice_bounds-lexeme-count
 slice_bounds-lexeme-count c = (inside (goal.at.slice_bounds-lexeme-count c).Else-misnames).ordered
 
-pub returns-then-not-fits_free : goal.returns-then-not-fits_free
-returns-then-not-fits_free c =
-    let l : Else < kind_number c.token_kind-kind.result = search rules in
-    stop_free c.loop-at.invariant (search rules) c.row_at-row.ensures (token (goal.at.returns-then-not-fits_free c).Else-not-is_token) c.misnames.ensures c.if-misnames.false c.token_kind-kind.ensures l
-
-pub returns-then-not-fits_fixed : goal.returns-then-not-fits_fixed
-returns-then-not-fits_fixed c = stop-fixed c.loop-at.invariant (search rules) c.row_at-row.ensures (token (goal.at.returns-then-not-fits_fixed c).Else-not-is_token) c.misnames.ensures c.if-misnames.false
-    c.token_kind-kind.ensures c.fits_fixed.ensures c.if-not-fits_fixed.true
+pub returns-then-not-fits_quickly : goal.returns-then-not-fits_quickly
+returns-then-not-fits_quickly c =
+    stop-unfit c.loop-at.invariant (search rules) c.row_at-row.ensures (token (goal.at.returns-then-not-fits_quickly c).Else-not-is_token) c.misnames.ensures c.if-misnames.false
+    c.token_kind-kind.ensures c.fits_quickly.ensures.fixed c.if-not-fits_quickly.true
 
 pub loop-at-preserved : goal.loop-at-preserved
 loop-at-preserved c =
-    let more = passed_more c.loop-at.invariant (search rules) c.row_at-row.ensures (token (goal.at.loop-at-preserved c).Else-not-is_token) c.misnames.ensures c.if-misnames.false c.token_kind-kind.ensures in
-    elim c.if-is_free.branch [ then-is_free+else-not-fits_free w ↦ more (w.fits_free.ensures w.if-not-fits_free.false) | else-is_free+else-not-fits_fixed w ↦ more (sym w.fits_fixed.ensures ∙ w.if-not-fits_fixed.false) ]
+    passed_more c.loop-at.invariant (search rules) c.row_at-row.ensures (token (goal.at.loop-at-preserved c).Else-not-is_token) c.misnames.ensures c.if-misnames.false
+    c.token_kind-kind.ensures (c.fits_quickly.ensures.sure c.if-not-fits_quickly.false)
 
 pub returns : goal.returns
 returns c = stop-over c.loop-at.invariant (search rules)
