@@ -4,7 +4,8 @@
 
 ghost use Rattle.std.specs.Prelude.{◌<◌};
 
-use shared::refusals;
+use shared::refusal::Refused;
+use sheet::{SheetError, SheetSize, read_sheet};
 use std::io;
 use std::io::{ErrorKind, Read};
 
@@ -108,35 +109,22 @@ fn digit(b: u8) -> usize
 // Reads a sheet and writes the answer and the slices. The slices are filled before the call, so that what is
 // unchanged can be told from what is zeroed.
 fn replay_sheet(rt: &impl Print, sheet: &[u8], rows: &mut [u8], text: &mut [u8]) -> io::Result<()> {
-    fill(rows);
-    fill(text);
-    print_answer(rt, sheet::read_sheet(sheet, rows, text))?;
+    rows.fill(b'.');
+    text.fill(b'.');
+    print_answer(rt, read_sheet(sheet, rows, text))?;
     rt.write_all(rows)?;
     println!(rt)?;
     rt.write_all(text)?;
     println!(rt)
 }
 
-// Sets every byte of `a` to a dot.
-fn fill(a: &mut [u8]) {
-    for i in 0..a.len() {
-        a[i] = b'.';
-    }
-}
-
-// Writes the answer's report.
-fn print_answer(rt: &impl Print, answer: sheet::Answer) -> io::Result<()> {
+// Writes the refusal, or 0, and the report's first two numbers. The third is 0 for a sheet.
+fn print_answer(rt: &impl Print, answer: Result<SheetSize, SheetError>) -> io::Result<()> {
     match answer {
-        sheet::Answer::Read { rows, text_bytes } => {
-            print_report(rt, 0, rows as u64, text_bytes as u64)
+        Ok(SheetSize { rows, text_bytes }) => println!(rt; "0 {rows} {text_bytes}"),
+        Err(error) => {
+            let refused = Refused::from(error);
+            println!(rt; "{refused} 0")
         }
-        sheet::Answer::NoNames => print_report(rt, refusals::NO_NAMES, 0, 0),
-        sheet::Answer::BadLine { line } => print_report(rt, refusals::BAD_LINE, line as u64, 0),
-        sheet::Answer::SheetFull { line } => print_report(rt, refusals::SHEET_FULL, line as u64, 0),
     }
-}
-
-// Writes the refusal and the report's first two numbers. The third is 0 for a sheet.
-fn print_report(rt: &impl Print, refusal: u32, first: u64, second: u64) -> io::Result<()> {
-    println!(rt; "{refusal} {first} {second}")
 }
