@@ -76,8 +76,8 @@ pub fn read_sheet(sheet: &[u8], rows: &mut [u8], text: &mut [u8]) -> Result<Shee
     read
 }
 
-// Reads the lines after the names line. Where a line ends is known only once it has been read, so the index is
-// counted by hand.
+// Reads the lines after the names line. Where a line ends is known only once it has been read, so the index
+// is counted by hand.
 fn read_lines(sheet: &[u8], rows: &mut [u8], text: &mut [u8]) -> Result<SheetSize, SheetError>
     ensures { ReadAt sheet.now rows.old text.old result rows.new text.new }
 {
