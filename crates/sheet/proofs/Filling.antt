@@ -8,7 +8,7 @@ use lib.Dec.{leb}
 use lib.ListN.{length, drop, length-append, length-drop, drop_of_length-le}
 use lib.Seq.{sets, sets-eq, take_at, drop-append-add, drop-drop}
 use borrow.Author.Tests.{leb-true}
-use Rattle.shared.specs.Report.{refuse, refusal_number, zeroed, put_first}
+use Rattle.shared.specs.Report.{refuse, zeroed, put_first}
 use Rattle.shared.proofs.Logic.{and_left, and_right}
 use Rattle.rows.specs.Row.{row_size}
 use Rattle.std.specs.Prelude.{Result, Ok, Err, is_err}
@@ -18,7 +18,7 @@ use Rattle.sheet.specs.declared.SheetError.{SheetError}
 use Rattle.sheet.specs.declared.SheetError.TheVariants.{NoNames, BadLine, SheetFull}
 use Rattle.sheet.specs.Line.{names, begins, lines, line_of}
 use Rattle.sheet.specs.Row.{row_bytes}
-use Rattle.sheet.specs.Answer.{reported, refused_of, done, refused, fits, read_line, read_lines, reading, sheet_answer, sheet_rows, sheet_text}
+use Rattle.sheet.specs.Answer.{reported, refusal_of, done, refused, fits, read_line, read_lines, reading, sheet_answer, sheet_rows, sheet_text}
 use Rattle.sheet.specs.Steps.{line_at, after_at, Stored, StepAt, ReadAt}
 use Rattle.sheet.proofs.Cut.{lines_at}
 use Rattle.sheet.proofs.Writing.{row-size}
@@ -81,7 +81,7 @@ module _ {sheet rows₀ text₀ rows text : List ℕ} {at n len : ℕ} (σ : Sta
     fits-same k e = rw (σ.text_filled.size, ← sized σ.rows_filled, ← sized σ.text_filled) e
 
     -- what an error of `read_line` tells
-    pub stopped : (e : SheetError) (xs ys : List ℕ) → StepAt sheet at rows n text len (Err e) xs ys → reading sheet (length rows₀) (length text₀) ≡ refused (refusal_number (refused_of e).refusal) (refused_of e).place
+    pub stopped : (e : SheetError) (xs ys : List ℕ) → StepAt sheet at rows n text len (Err e) xs ys → reading sheet (length rows₀) (length text₀) ≡ refused (refusal_of e).refusal (refusal_of e).first
     stopped NoNames xs ys τ = absurd τ
     stopped (BadLine line) xs ys τ = one_line ∙ rw (τ.1, τ.0)
     stopped (SheetFull line) xs ys τ = one_line ∙ rw (τ.1.says, fits-same (length τ.1.bs) τ.1.unfit, τ.0)
@@ -103,7 +103,7 @@ module _ {sheet rows₀ text₀ rows text : List ℕ} {at n len : ℕ} (σ : Sta
       }
 
 -- an error that `?` hands on
-pub refuses : (sheet rows text xs ys : List ℕ) (e : SheetError) (r : Result SheetSize SheetError) → IsErrAnd r (λ f. f ≡ e) → reading sheet (length rows) (length text) ≡ refused (refusal_number (refused_of e).refusal) (refused_of e).place → ReadAt sheet rows text r xs ys
+pub refuses : (sheet rows text xs ys : List ℕ) (e : SheetError) (r : Result SheetSize SheetError) → IsErrAnd r (λ f. f ≡ e) → reading sheet (length rows) (length text) ≡ refused (refusal_of e).refusal (refusal_of e).first → ReadAt sheet rows text r xs ys
 refuses sheet rows text xs ys e (Ok size) h w = absurd h
 refuses sheet rows text xs ys e (Err f) h w = rw h w
 
@@ -119,7 +119,7 @@ pub unnamed : (sheet rows text : List ℕ) → begins names sheet ≡ false → 
 unfolding sheet_answer sheet_rows sheet_text
 unnamed sheet rows text e = record { report = rw e; rows = rw e; text = rw e }
 
-reported_error : (e : SheetError) → reported (Err e) ≡ refuse (refusal_number (refused_of e).refusal) (refused_of e).place
+reported_error : (e : SheetError) → reported (Err e) ≡ refuse (refusal_of e).refusal (refusal_of e).first
 reported_error NoNames = refl
 reported_error (BadLine line) = refl
 reported_error (SheetFull line) = refl

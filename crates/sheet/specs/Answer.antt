@@ -4,26 +4,22 @@ use Rattle.std.specs.Prelude.{Bool, cond, ◌&&◌, List, [], ◌∷◌, ◌++�
 use Rattle.shared.specs.Numbers.{most32}
 use Rattle.shared.specs.Report.{Report, success, refuse, zeroed, put_first, no_names, bad_line, sheet_full}
 use Rattle.rows.specs.Row.{row_size}
-use Rattle.shared.specs.declared.refusal.Refused.{Refused}
-use Rattle.shared.specs.declared.refusal.Refusal.TheVariants as refusal
 use Rattle.sheet.specs.declared.SheetSize.{SheetSize}
 use Rattle.sheet.specs.declared.SheetError.{SheetError}
 use Rattle.sheet.specs.declared.SheetError.TheVariants.{NoNames, BadLine, SheetFull}
 use Rattle.sheet.specs.Line.{names, begins, lines, Line, bad, row, line_of}
 use Rattle.sheet.specs.Row.{row_bytes}
 
+-- The report for each refusal.
+abbrev pub refusal_of : SheetError → Report
+refusal_of NoNames = refuse no_names 0
+refusal_of (BadLine line) = refuse bad_line line
+refusal_of (SheetFull line) = refuse sheet_full line
+
 -- The number and values of the report for each answer of `read_sheet`.
 abbrev pub reported : Result SheetSize SheetError → Report
 reported (Ok size) = success size.rows size.text_bytes 0
-reported (Err NoNames) = refuse no_names 0
-reported (Err (BadLine line)) = refuse bad_line line
-reported (Err (SheetFull line)) = refuse sheet_full line
-
--- The same refusals, under the table's names.
-abbrev pub refused_of : SheetError → Refused
-refused_of NoNames = record { refusal = refusal.NoNames; place = 0 }
-refused_of (BadLine line) = record { refusal = refusal.BadLine; place = line }
-refused_of (SheetFull line) = record { refusal = refusal.SheetFull; place = line }
+reported (Err e) = refusal_of e
 
 -- What a sheet's lines read as: so many rows, with their bytes and those of their texts; or a refusal with its line.
 pub data Reading : Type 0 where

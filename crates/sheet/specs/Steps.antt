@@ -5,7 +5,6 @@ use Rattle.std.proofs.Math.Option.{none, some}
 use Rattle.std.proofs.lemmas.List.Edits.{sets}
 use Rattle.shared.specs.Bytes.{byte, line_feed}
 use Rattle.shared.specs.Lines.{first_line}
-use Rattle.shared.specs.Report.{refusal_number}
 use Rattle.rows.specs.KindNumber.{what_number, kind_number}
 use Rattle.rows.specs.declared.kind.What.{What}
 use Rattle.sink.specs.Sink.{Writes}
@@ -16,7 +15,7 @@ use Rattle.sheet.specs.declared.line.Head.{Head}
 use Rattle.sheet.specs.declared.line.TextEnd.{TextEnd}
 use Rattle.sheet.specs.Line.{Line, bad, row, with_byte, text_of, row_of, line_of}
 use Rattle.sheet.specs.Row.{with_row}
-use Rattle.sheet.specs.Answer.{Reading, refused, fits, reading, answer_of, reported, refused_of, rows_of, texts_of}
+use Rattle.sheet.specs.Answer.{Reading, refused, fits, reading, answer_of, reported, refusal_of, rows_of, texts_of}
 
 -- what stands after the first line of the bytes
 abbrev pub after_line : List ℕ → List ℕ
@@ -112,4 +111,4 @@ pub record Whole (read : Reading) (rows text : List ℕ) (size : SheetSize) (row
 abbrev pub ReadAt : List ℕ → List ℕ → List ℕ → Result SheetSize SheetError → List ℕ → List ℕ → Type 0
 ReadAt sheet rows text (Ok size) rows' text' = Whole (reading sheet (length rows) (length text)) rows text size rows' text'
 ReadAt sheet rows text (Err e) rows' text' =
-    reading sheet (length rows) (length text) ≡ refused (refusal_number (refused_of e).refusal) (refused_of e).place
+    reading sheet (length rows) (length text) ≡ refused (refusal_of e).refusal (refusal_of e).first

@@ -2,8 +2,9 @@
 #![tactic(auto)]
 
 ghost use Rattle.std.specs.Prelude.{◌≡◌, ◌*◌, ◌≤◌, ◌<◌, length};
+ghost use Rattle.shared.specs.Report.{refuse, refusal_number};
 ghost use Rattle.rows.specs.Row.{row_size};
-ghost use Rattle.sheet.specs.Answer.{reported, refused_of, sheet_answer, sheet_rows, sheet_text};
+ghost use Rattle.sheet.specs.Answer.{reported, refusal_of, sheet_answer, sheet_rows, sheet_text};
 ghost use Rattle.sheet.specs.Steps.{StepAt, ReadAt};
 
 use shared::refusal::{Refusal, Refused};
@@ -32,7 +33,7 @@ pub enum SheetError {
 }
 
 impl From<SheetError> for Refused {
-    ghost from_gives = { λ e r. r ≡ refused_of e };
+    ghost from_gives = { λ e r. refuse (refusal_number r.refusal) r.place ≡ refusal_of e };
 
     fn from(error: SheetError) -> Refused {
         match error {
@@ -75,7 +76,8 @@ pub fn read_sheet(sheet: &[u8], rows: &mut [u8], text: &mut [u8]) -> Result<Shee
     read
 }
 
-// Reads the lines after the names line.
+// Reads the lines after the names line. Where a line ends is known only once it has been read, so the index
+// is counted by hand.
 fn read_lines(sheet: &[u8], rows: &mut [u8], text: &mut [u8]) -> Result<SheetSize, SheetError>
     ensures { ReadAt sheet.now rows.old text.old result rows.new text.new }
 {

@@ -43,6 +43,8 @@ pub fn head_at(sheet: &[u8], at: usize) -> Option<Head>
 }
 
 // Reads the text of a line from index `from` of `sheet` into `text`, after `len` bytes, if it keeps its form.
+// The index is counted by hand: an escape takes two bytes, and what is answered is an index too, which an
+// iterator would have to count back from the bytes that are left.
 pub fn read_text(sheet: &[u8], from: usize, text: &mut [u8], len: usize) -> Option<TextEnd>
     requires { from ≤ length sheet.now }
     ensures { TextAt sheet.now from text.old len result text.new }

@@ -53,9 +53,9 @@ fn copy_ends<const N: usize>(out: &mut [u8], to: usize, text: &[u8], from: usize
     copy_block::<N>(out, to + last, text, from + last);
 }
 
-// Copies eight bytes at a time. The last eight may go over bytes that are copied already. The index is counted
-// by hand: by `step_by`, functions and comments are laid out in 17 and 22 % more instructions, and take longer
-// than docs/BENCHMARKS.md asks.
+// Copies eight bytes at a time. The last eight may go over bytes that are copied already. The index is
+// counted by hand: by `step_by`, functions and comments are laid out in 17 and 22 % more instructions, and
+// take longer than docs/BENCHMARKS.md asks.
 fn copy_eights(out: &mut [u8], to: usize, text: &[u8], from: usize, size: usize)
     requires le_size { 8 ≤ size }
     requires size_in_bounds { from + size ≤ length text.now }
