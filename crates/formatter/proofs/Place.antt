@@ -219,4 +219,3 @@ module _ {rows text : List ℕ} {at : ℕ} (ω : CheckedRows rows text) (η : To
         let b = trail_count in
         rw (τ.next, τ.own)
         (record { ordered = omega arith; within = x; whole = rw b refl; bounds = rw (b, trails_are) (bounds-take text m (rows_of (drop (own_row rows at + 16) rows)) (in_bounds text behind.before behind.number (rows_of (drop (own_row rows at + 16) rows)) behind.good)) })
-

@@ -26,18 +26,19 @@ use sink::write::{Tail, count_comma, write_brace, write_closer, write_opener_lin
 
 impl Formatter {
     // `}` closes a one-line block, a record or a block over several lines.
-    pub fn right_brace_arm(self, options: Options, out: &mut [u8]) -> Self
+    pub fn right_brace_arm(mut self, options: Options, out: &mut [u8]) -> Self
         requires { Ready options self out.old }
         ensures { Puts (right_brace_arm (options_of options))
             self out.old result out.new }
     {
         if self.in_one_line_block() {
-            self.close_inline(options, out)
+            self = self.close_inline(options, out);
         } else if self.at_record_fields() {
-            self.close_record(options, out)
+            self = self.close_record(options, out);
         } else {
-            self.close_block(options, out)
+            self = self.close_block(options, out);
         }
+        self
     }
 
     // Writes the `}` of a one-line block.
@@ -124,7 +125,7 @@ impl Formatter {
 
     // `{` opens an empty record, a block over several lines or a one-line block.
     pub fn left_brace_arm(
-        self,
+        mut self,
         options: Options,
         ends: Ends,
         out: &mut [u8],
@@ -140,13 +141,15 @@ impl Formatter {
             result out.new) }
     {
         if self.empties_record(rows, token) {
-            self.empty_record(options, out, rows, text, token)
+            self = self.empty_record(options, out, rows, text, token);
         } else if self.opens_block(ends, rows, token) {
-            self.enter_record()
-                .open_block_multiline(options, out, token.index)
+            self = self
+                .enter_record()
+                .open_block_multiline(options, out, token.index);
         } else {
-            self.open_one_line(options, out)
+            self = self.open_one_line(options, out);
         }
+        self
     }
 
     // Whether the token is the `{` of `record E {` with a `}` right after it.

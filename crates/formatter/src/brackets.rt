@@ -43,13 +43,14 @@ impl Formatter {
             (code_state result stack.new out.new)) }
     {
         if self.at_signature() {
-            self.open_signature(options, out, rows, text, token)
+            self = self.open_signature(options, out, rows, text, token);
         } else if self.breaks_list(options, ends, rows, token) {
-            self.open_list(options, out, stack, rows, text, token, Kind::LeftParen)
+            self = self.open_list(options, out, stack, rows, text, token, Kind::LeftParen);
         } else {
             self.sig_break_depth = deeper(self.sig_break_depth);
-            self.open_group(options, out, rows, text, token, Kind::LeftParen)
+            self = self.open_group(options, out, rows, text, token, Kind::LeftParen);
         }
+        self
     }
 
     // Whether a `(` opens a signature: `fn name (` or `fn (`, outside one-line blocks.
@@ -166,7 +167,7 @@ impl Formatter {
 
     // `[` opens a broken list or a group that stays on its line.
     pub fn left_bracket_arm(
-        self,
+        mut self,
         options: Options,
         ends: Ends,
         out: &mut [u8],
@@ -185,10 +186,11 @@ impl Formatter {
             (code_state result stack.new out.new)) }
     {
         if self.breaks_list(options, ends, rows, token) {
-            self.open_list(options, out, stack, rows, text, token, Kind::LeftBracket)
+            self = self.open_list(options, out, stack, rows, text, token, Kind::LeftBracket);
         } else {
-            self.open_group(options, out, rows, text, token, Kind::LeftBracket)
+            self = self.open_group(options, out, rows, text, token, Kind::LeftBracket);
         }
+        self
     }
 
     // `)` closes a broken signature, a broken list or a group that stays on its line.
@@ -213,10 +215,11 @@ impl Formatter {
         }
         self.sig_break_depth = shallower(self.sig_break_depth);
         if self.in_broken_list(stack) {
-            self.close_list(options, out, false, b')', Kind::RightParen)
+            self = self.close_list(options, out, false, b')', Kind::RightParen);
         } else {
-            self.close_group(options, out, rows, text, token, Kind::RightParen)
+            self = self.close_group(options, out, rows, text, token, Kind::RightParen);
         }
+        self
     }
 
     // Whether a `)` closes a broken signature.
@@ -300,7 +303,7 @@ impl Formatter {
 
     // `]` closes a broken list or a group that stays on its line.
     pub fn right_bracket_arm(
-        self,
+        mut self,
         options: Options,
         out: &mut [u8],
         stack: &[u32],
@@ -317,10 +320,11 @@ impl Formatter {
     {
         if self.in_broken_list(stack) {
             let wanted = !self.prev_is(Kind::Comma);
-            self.close_list(options, out, wanted, b']', Kind::RightBracket)
+            self = self.close_list(options, out, wanted, b']', Kind::RightBracket);
         } else {
-            self.close_group(options, out, rows, text, token, Kind::RightBracket)
+            self = self.close_group(options, out, rows, text, token, Kind::RightBracket);
         }
+        self
     }
 
     // `,` ends its line or is a lexeme like others.

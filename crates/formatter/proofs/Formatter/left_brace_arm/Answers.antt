@@ -12,7 +12,7 @@ returns-then-empties_record c = λ t ts σ s x.
     c.args.token.index t ts
     (yes
     (λ n. told (c.empties_record.ensures _ t ts σ) c.if-empties_record.true)
-    (rw (σ.kind, c.requires.kind_value, σ.lexeme) (c.empty_record.ensures s x)))
+    (rw (σ.kind, c.requires.kind_value, σ.lexeme) (c.empty_record-self.ensures s x)))
 
 pub returns-then-opens_block : goal.returns-then-opens_block
 returns-then-opens_block c = λ t ts σ s x.
@@ -22,7 +22,7 @@ returns-then-opens_block c = λ t ts σ s x.
     (λ n. told (c.empties_record.ensures _ t ts σ) c.if-empties_record.false)
     (yes
     (λ n. told (c.opens_block.ensures _ t ts σ) c.if-opens_block.true)
-    (seq (c.enter_record.ensures.does _ s x) (c.open_block_multiline.ensures s _))))
+    (seq (c.enter_record.ensures.does _ s x) (c.open_block_multiline-self.ensures s _))))
 
 pub returns-else-opens_block : goal.returns-else-opens_block
 returns-else-opens_block c = λ t ts σ s x.
@@ -30,4 +30,4 @@ returns-else-opens_block c = λ t ts σ s x.
     c.args.token.index t ts
     (no
     (λ n. told (c.empties_record.ensures _ t ts σ) c.if-empties_record.false)
-    (no (λ n. told (c.opens_block.ensures _ t ts σ) c.if-opens_block.false) (c.open_one_line.ensures s x)))
+    (no (λ n. told (c.opens_block.ensures _ t ts σ) c.if-opens_block.false) (c.open_one_line-self.ensures s x)))

@@ -13,7 +13,7 @@ returns-then-breaks_list c = λ t ts σ v x.
     yes
     (λ n. r)
     (rw (σ.kind, σ.lexeme, c.requires.kind_value)
-    (c.open_list.ensures
+    (c.open_list-self.ensures
     (bracket_room (options_of c.args.options) t ts c.args.self c.args.stack.now v (σ.kind ∙ c.requires.kind_value) r) x))
 
 pub returns-else-breaks_list : goal.returns-else-breaks_list
@@ -21,4 +21,4 @@ unfolding left_bracket_arm
 returns-else-breaks_list c = λ t ts σ v x.
     no
     (λ n. told (c.breaks_list.ensures _ t ts σ) c.if-breaks_list.false)
-    (rw (σ.kind, σ.lexeme, c.requires.kind_value) (c.open_group.ensures _ x))
+    (rw (σ.kind, σ.lexeme, c.requires.kind_value) (c.open_group-self.ensures _ x))

@@ -10,7 +10,7 @@ use Rattle.formatter.proofs.Formatter.left_paren_arm.Goals as goal
 pub returns-then-at_signature : goal.returns-then-at_signature
 unfolding left_paren_arm
 returns-then-at_signature c = λ t ts σ v x.
-    yes (λ n. told c.at_signature.ensures c.if-at_signature.true) (c.open_signature.ensures t ts σ _ x)
+    yes (λ n. told c.at_signature.ensures c.if-at_signature.true) (c.open_signature-self.ensures t ts σ _ x)
 
 pub returns-then-breaks_list : goal.returns-then-breaks_list
 unfolding left_paren_arm
@@ -22,7 +22,7 @@ returns-then-breaks_list c = λ t ts σ v x.
     (yes
     (λ n. r)
     (rw (σ.kind, σ.lexeme, c.requires.kind_value)
-    (c.open_list.ensures
+    (c.open_list-self.ensures
     (paren_room (options_of c.args.options) t ts c.args.self c.args.stack.now v (σ.kind ∙ c.requires.kind_value) a r) x)))
 
 pub returns-else-breaks_list : goal.returns-else-breaks_list
@@ -34,4 +34,4 @@ returns-else-breaks_list c = λ t ts σ v x.
     (λ n. told (c.breaks_list.ensures _ t ts σ) c.if-breaks_list.false)
     (seq
     (updated (sym (rw c.deeper-self.ensures)) refl nothing)
-    (its σ c.requires.kind_value (open_group (options_of c.args.options)) (c.open_group.ensures _ _))))
+    (its σ c.requires.kind_value (open_group (options_of c.args.options)) (c.open_group-self.ensures _ _))))

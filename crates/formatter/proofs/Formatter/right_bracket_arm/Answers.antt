@@ -11,11 +11,11 @@ unfolding right_bracket_arm
 returns-then-in_broken_list c = λ t ts σ x.
     yes
     (λ n. told c.in_broken_list.ensures c.if-in_broken_list.true)
-    (picked (prev_is Comma) (not c.prev_is-wanted.result) (rw c.prev_is-wanted.ensures) (c.close_list.ensures _ x))
+    (picked (prev_is Comma) (not c.prev_is-wanted.result) (rw c.prev_is-wanted.ensures) (c.close_list-self.ensures _ x))
 
 pub returns-else-in_broken_list : goal.returns-else-in_broken_list
 unfolding right_bracket_arm
 returns-else-in_broken_list c = λ t ts σ x.
     no
     (λ n. told c.in_broken_list.ensures c.if-in_broken_list.false)
-    (rw (σ.kind, σ.lexeme, c.requires.in_rows.1) (c.close_group.ensures _ x))
+    (rw (σ.kind, σ.lexeme, c.requires.in_rows.1) (c.close_group-self.ensures _ x))

@@ -20,7 +20,7 @@ returns-then-in_broken_list c = λ t ts σ x.
     (updated (sym (rw c.shallower-self.ensures)) refl nothing)
     (no
     (λ n. rw c.shallower-self.ensures (told c.closes_signature.ensures c.if-closes_signature.false))
-    (yes (λ n. told c.in_broken_list.ensures c.if-in_broken_list.true) (same-run refl (c.close_list.ensures _ _))))
+    (yes (λ n. told c.in_broken_list.ensures c.if-in_broken_list.true) (same-run refl (c.close_list-self.ensures _ _))))
 
 pub returns-else-in_broken_list : goal.returns-else-in_broken_list
 unfolding right_paren_arm
@@ -31,4 +31,4 @@ returns-else-in_broken_list c = λ t ts σ x.
     (λ n. rw c.shallower-self.ensures (told c.closes_signature.ensures c.if-closes_signature.false))
     (no
     (λ n. told c.in_broken_list.ensures c.if-in_broken_list.false)
-    (its σ c.requires.in_rows.1 (close_group (options_of c.args.options)) (c.close_group.ensures _ _))))
+    (its σ c.requires.in_rows.1 (close_group (options_of c.args.options)) (c.close_group-self.ensures _ _))))
