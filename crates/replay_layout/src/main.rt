@@ -67,7 +67,7 @@ fn replay_case(
 // rows stand in the case, which are repeated until their size is reached, the sizes of the text and of the
 // source, the rows, the text, the source and a line feed. Numbers are decimal, each with one byte after it.
 fn take_case<'a>(left: &mut Left<'a>, rows: &mut [u8]) -> Option<Case<'a>> {
-    let letter = left.take(2)?[0];
+    let letter = *left.take(2)?.first()?;
     let options = [
         take_number(left)?,
         take_number(left)?,
@@ -79,7 +79,7 @@ fn take_case<'a>(left: &mut Left<'a>, rows: &mut [u8]) -> Option<Case<'a>> {
     let row_count = left.number()?;
     let text_size = left.number()?;
     let source_size = left.number()?;
-    take_rows(left, row_count, rows.get_mut(..row_bytes)?)?;
+    take_rows(left, row_count, rows, row_bytes)?;
     let text = left.take(text_size)?;
     let source = left.take(source_size)?;
     left.take(1)?;
@@ -101,21 +101,29 @@ fn take_number(left: &mut Left<'_>) -> Option<u32> {
     u32::try_from(left.number()?).ok()
 }
 
-// Takes so many rows into the first places of `rows`, four numbers each, and repeats them until `rows` is full.
-fn take_rows(left: &mut Left<'_>, count: usize, rows: &mut [u8]) -> Option<()> {
-    let (first, others) = rows.split_at_mut_checked(count.checked_mul(ROW_BYTES)?)?;
-    for number in first.chunks_exact_mut(4) {
+// Takes so many rows into the first places of `rows`, four numbers each, and repeats them up to `size`.
+fn take_rows(left: &mut Left<'_>, count: usize, rows: &mut [u8], size: usize) -> Option<()> {
+    let taken = count.checked_mul(ROW_BYTES)?;
+    for number in rows.get_mut(..taken)?.chunks_exact_mut(4) {
         number.copy_from_slice(&take_number(left)?.to_le_bytes());
     }
+    let used = rows.get_mut(..size)?;
+    if let Some((first, others)) = used.split_at_mut_checked(taken) {
+        repeat(first, others);
+    }
+    Some(())
+}
+
+// Repeats what stands in `first` until `others` is full.
+fn repeat(first: &[u8], others: &mut [u8]) {
     if first.is_empty() {
-        return Some(());
+        return;
     }
     for part in others.chunks_mut(first.len()) {
         for (to, from) in part.iter_mut().zip(first.iter()) {
             *to = *from;
         }
     }
-    Some(())
 }
 
 // Makes the call. The output is filled before it, so that what is unchanged can be told from what is zeroed.
@@ -129,13 +137,11 @@ fn replay_call(rt: &impl Print, case: Case<'_>, rows: &[u8], out: &mut [u8]) -> 
     out.fill(b'~');
     let answer = match case.call {
         Call::Source => format_source_with_shebang(case.source, rows, case.text, out),
-        Call::Layout {
-            options: [style, indent_width, signature_width, list_width],
-        } => format_tokens_with(
-            style,
-            indent_width,
-            signature_width,
-            list_width,
+        Call::Layout { options } => format_tokens_with(
+            options[0],
+            options[1],
+            options[2],
+            options[3],
             rows,
             case.text,
             out,
