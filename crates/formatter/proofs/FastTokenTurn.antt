@@ -10,7 +10,7 @@ use lib.Dec.{eqb, leb, ltb}
 use lib.ListN.{replicate}
 use Rattle.shared.proofs.Logic.{split, impossible', or_cases, or_left, or_right}
 use Rattle.shared.proofs.Below.{all_below, below}
-use Rattle.rows.specs.Kinds.{Eof, Newline, LeftBrace, RightBrace, LeftParen, RightParen, LeftBracket, RightBracket, Comma, Hash, Minus, Else, Fn, Record, Identifier, Other}
+use Rattle.rows.specs.Kinds.{Eof, Newline, LeftBrace, RightBrace, LeftParen, RightParen, LeftBracket, RightBracket, Comma, Hash, Else, Fn, Record, Identifier, Other}
 use Rattle.rows.specs.Options.{Options}
 use Rattle.rows.specs.Token.{Token}
 use Rattle.definition.specs.Formatter.{Formatter, set_at_line_start, set_prev, set_prev_minus_is_unary, set_fn_state, set_record_pending, set_just_closed_inline, set_group_depth, set_sig_break_depth, set_inline_close, set_returned}
@@ -22,12 +22,11 @@ use Rattle.definition.specs.PushToken.{arm, take_inline_close, turn}
 use Rattle.spaces.specs.Between.{loose_after, bit, spaces}
 use Rattle.spaces.proofs.Pairs.{spaces_are, loose_other}
 use Rattle.formatter.specs.declared.fast_tokens.FastState.{FastState}
-use Rattle.formatter.specs.declared.FnState.{FnState}
 use Rattle.formatter.specs.declared.FnState.TheVariants.{Outside, AfterFn, Named}
 use Rattle.formatter.specs.CodeState.{fn_number}
-use Rattle.formatter.specs.FastTokens.{FastKinds, is_closer, fast_kind_bits, space_before, fn_after, pending_after, group_after, fast_state_for, fast_state_after, Consistent, BeforeFastTokens, after_fast_tokens}
+use Rattle.formatter.specs.FastTokens.{FastKinds, is_closer, fast_kind_bits, space_before, fn_after, pending_after, group_after, fast_state_after, BeforeFastTokens, after_fast_tokens}
 use Rattle.formatter.proofs.Gaps.{token_gap_lem}
-use Rattle.formatter.proofs.Turn.{same, chosen_not, by_arm_lem}
+use Rattle.formatter.proofs.Turn.{chosen_not, by_arm_lem}
 
 -- ---- the kinds, by the bits of a number: one test, computed at every kind
 
@@ -111,58 +110,10 @@ space-few spaced k h = split (ltb k Hash) (λ e. rw e (omega arith)) (λ e. rw e
 
 -- ---- `fn_state`
 
-outside_is : (n : FnState) → fn_number n ≡ 0 → n ≡ Outside
-outside_is Outside e = refl
-outside_is AfterFn e = absurd (omega arith)
-outside_is Named e = absurd (omega arith)
-
 number_in : (a b : Bool) → fn_number (cond a AfterFn (cond b Named Outside)) ≡ cond a 1 (cond b 2 0)
 number_in true b = refl
 number_in false true = refl
 number_in false false = refl
-
--- ---- the kinds that change a field, by the bits of a number
-
-abbrev changes : ℕ → Bool
-changes k = is_closer k || (eqb k Minus || (eqb k Fn || eqb k Record))
-
-some_kinds : all_below 35 (λ k. eqb (bit 0x34_00a0 k) (cond (changes k) 1 0)) ≡ true
-some_kinds = refl
-
-all_kinds : all_below 35 (λ k. eqb (bit 0x7_ffff_ffff k) 1) ≡ true
-all_kinds = refl
-
-pub state-same : {n n' : FnState} {a a' b b' : Bool} {g g' : ℕ} → n ≡ n' → a ≡ a' → b ≡ b' → g ≡ g' → fast_state_for n a b g ≡ fast_state_for n' a' b' g'
-state-same n a b g = rw (n, a, b, g)
-
-right_is : {m : FastState} → Consistent m → fast_state_for m.fn_state m.record_pending m.prev_minus_is_unary m.group_depth ≡ m
-right_is ρ = rw (← ρ.changing, ← ρ.loose)
-
--- A kind whose bit is not set changes none.
-pub state_kept : {m : FastState} → Consistent m → (p k : ℕ) → k ≤ Other → bit m.changing.0 k ≡ 0 → m ≡ fast_state_after p k m
-state_kept {m} ρ p k h e =
-    split (m.record_pending || not (eqb (fn_number m.fn_state) 0))
-    (λ b.
-    let z : bit 0x7_ffff_ffff k ≡ 0 = rw (ρ.changing, b) at e in
-    let w : bit 0x7_ffff_ffff k ≡ 1 = eqb-true _ _ (below 35 (λ k. eqb (bit 0x7_ffff_ffff k) 1) all_kinds k (omega arith)) in
-    let y : ◌≡◌ {A = ℕ} 0 1 = sym z ∙ w in absurd (omega arith))
-    (λ b.
-    let z : bit 0x34_00a0 k ≡ 0 = rw (ρ.changing, b) at e in
-    let w : bit 0x34_00a0 k ≡ cond (changes k) 1 0 = eqb-true _ _ (below 35 (λ k. eqb (bit 0x34_00a0 k) (cond (changes k) 1 0)) some_kinds k (omega arith)) in
-    let none : changes k ≡ false = split (changes k) (λ x. let y : ◌≡◌ {A = ℕ} 0 1 = sym z ∙ w ∙ rw x in absurd (omega arith)) (λ x. x) in
-    let rest = or_right (is_closer k) (eqb k Minus || (eqb k Fn || eqb k Record)) none in
-    let late = or_right (eqb k Minus) (eqb k Fn || eqb k Record) rest in
-    let pending = or_left m.record_pending (not (eqb (fn_number m.fn_state) 0)) b in
-    let state : m.fn_state ≡ Outside = outside_is m.fn_state (eqb-true (fn_number m.fn_state) 0 (un_not (eqb (fn_number m.fn_state) 0) (or_right m.record_pending (not (eqb (fn_number m.fn_state) 0)) b))) in
-    sym (state-same (rw (or_left (eqb k Fn) (eqb k Record) late, state, and-false (eqb k Identifier)))
-    (rw (or_right (eqb k Fn) (eqb k Record) late, pending, and-false (eqb k Identifier)) (same (leb k Comma || eqb k Else)))
-    (rw (or_left (eqb k Minus) (eqb k Fn || eqb k Record) rest))
-    (rw (or_left (is_closer k) (eqb k Minus || (eqb k Fn || eqb k Record)) none))
-    ∙ right_is ρ))
-  where
-    un_not : (b : Bool) → not b ≡ false → b ≡ true
-    un_not true e = refl
-    un_not false e = sym e
 
 -- ---- the arm
 

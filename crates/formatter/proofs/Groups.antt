@@ -1,11 +1,10 @@
 -- Brackets: what the definition's tests come to, room on the stack, and a signature's `)`. Assumes nothing.
 use mathlib.Core.Bool.{Bool, true, false, ◌&&◌}
 use mathlib.Core.List.{List}
-use mathlib.Core.Path.{◌≡◌, refl, sym, ◌∙◌}
-use Prim.Native.Nat.{ℕ, ◌+◌, ◌-◌, ◌<◌}
-use native.Mathlib.Omega.{arith}
-use borrow.Author.Tests.{ltb-true, ltb-false, leb-false, eq-eqb, ne_eqb}
-use lib.Dec.{eqb, ltb, leb}
+use mathlib.Core.Path.{◌≡◌, refl}
+use Prim.Native.Nat.{ℕ, ◌+◌, ◌<◌}
+use borrow.Author.Tests.{leb-false}
+use lib.Dec.{leb}
 use lib.ListN.{length}
 use Rattle.shared.specs.Bytes.{line_feed}
 use Rattle.shared.proofs.Logic.{split, impossible}
@@ -37,19 +36,7 @@ its σ e a d = rw (σ.kind, e, σ.lexeme) d
 
 -- ---- one-line blocks
 
-pub outside : (d : ℕ) → ltb 0 d ≡ false → eqb d 0 ≡ true
-outside d e = let h = ltb-false 0 d e in eq-eqb d 0 (omega arith)
-
-pub inside : (d : ℕ) → ltb 0 d ≡ true → eqb d 0 ≡ false
-inside d e = let h = ltb-true 0 d e in ne_eqb d 0 (λ q. omega arith)
-
 -- ---- a signature's `)`
-
-pub below_two : (d : ℕ) → ltb d 2 ≡ eqb (d - 1) 0
-below_two d =
-    split (ltb d 2)
-    (λ e. let h = ltb-true d 2 e in e ∙ sym (eq-eqb (d - 1) 0 (omega arith)))
-    (λ e. let h = ltb-false d 2 e in e ∙ sym (ne_eqb (d - 1) 0 (λ q. omega arith)))
 
 -- The depth that the definition takes first is not looked at again.
 pub signature-closes :

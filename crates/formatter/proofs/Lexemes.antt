@@ -1,12 +1,10 @@
 -- Lexemes: bounds, tests and bytes of the methods that write them. Assumes nothing.
-use mathlib.Core.Bool.{Bool, true, false, cond, ◌&&◌}
+use mathlib.Core.Bool.{Bool}
 use mathlib.Core.List.{List, [], ◌++◌, append-nil, append_assoc}
-use mathlib.Core.Path.{◌≡◌, refl, sym}
+use mathlib.Core.Path.{◌≡◌, sym}
 use Prim.Native.Nat.{ℕ, ◌*◌, ◌≤◌, ◌<◌}
 use native.Mathlib.Nat.{lt_of_le_of_lt, mul-le-mul}
-use native.Mathlib.Omega.{arith}
-use borrow.Author.Tests.{ltb-true, ltb-false, eq-eqb, ne_eqb}
-use lib.Dec.{eqb, ltb, lit<}
+use lib.Dec.{lit<}
 use lib.ListN.{replicate}
 use Rattle.rows.specs.Options.{Options}
 use Rattle.rows.specs.Token.{Token}
@@ -25,21 +23,6 @@ use Rattle.formatter.proofs.Gaps.{token_gap_lem, gapped}
 -- The size of an indent is no large number.
 pub indent-small : {a b : ℕ} → a ≤ 16 → b ≤ 4294967295 → a * b < 68719476736
 indent-small h k = lt_of_le_of_lt (mul-le-mul h k) (lit< tt)
-
--- The definition's two ways to ask for a depth agree.
-pub some_depth : (n : ℕ) → ltb 0 n ≡ true → eqb n 0 ≡ false
-some_depth n h = ne_eqb n 0 (λ e. omega (arith, ltb-true 0 n h))
-
-pub no_depth : (n : ℕ) → ltb 0 n ≡ false → eqb n 0 ≡ true
-no_depth n h = eq-eqb n 0 (omega (arith, ltb-false 0 n h))
-
--- A state of 0 stays 0, except after `fn`.
-pub idle : (broken name line : Bool) → ◌≡◌ {A = ℕ} 0 (cond broken 0 (cond (name && false) 2 (cond line 0 0)))
-idle true n l = refl
-idle false true true = refl
-idle false true false = refl
-idle false false true = refl
-idle false false false = refl
 
 -- ---- a lexeme
 

@@ -1,13 +1,8 @@
 -- A Newline that is not swallowed: whether it writes a line feed, in one test. Assumes nothing.
-use mathlib.Core.Bool.{Bool, false, ◌&&◌, ◌||◌, and-false}
-use mathlib.Core.List.{List, [], ◌∷◌}
-use mathlib.Core.Logic.{◌⊎◌, ⊎_elim}
-use mathlib.Core.Path.{◌≡◌, refl, sym}
-use Prim.Native.Nat.{ℕ, zero, suc, ◌≤◌}
-use native.Mathlib.Omega.{arith}
-use borrow.Author.Tests.{ne_eqb}
-use lib.Dec.{eqb}
-use lib.ListN.{length, take}
+use mathlib.Core.Bool.{false, ◌&&◌, ◌||◌}
+use mathlib.Core.List.{List}
+use mathlib.Core.Path.{◌≡◌, sym}
+use Prim.Native.Nat.{ℕ}
 use Rattle.shared.proofs.Logic.{split}
 use Rattle.rows.specs.Token.{Token}
 use Rattle.lookahead.specs.Measure.{next_has_comment, is_empty}
@@ -18,16 +13,6 @@ use Rattle.formatter.specs.CodeState.{Locals, CodeState, newline_of}
 use Rattle.formatter.specs.Parts.{feeds_line}
 use Rattle.formatter.specs.Does.{Does}
 use Rattle.formatter.proofs.Does.{same-run}
-
--- The text so far is empty where its length is 0.
-pub empty-take : (n : ℕ) (l : List ℕ) → n ≤ length l → is_empty (take n l) ≡ eqb n 0
-empty-take zero l h = refl
-empty-take (suc n) [] h = absurd (omega arith)
-empty-take (suc n) (x ∷ l) h = sym (ne_eqb (suc n) 0 (λ e. omega arith))
-
--- Where the text's start before a comment was tested, two ways meet.
-pub no_start : (n : ℕ) (l : List ℕ) (b : Bool) {A B : Type 0} → n ≤ length l → A ⊎ B → (A → b ≡ false) → (B → n ≡ 0 → ⊥) → is_empty (take n l) && b ≡ false
-no_start n l b h w f g = ⊎_elim (λ y. rw (f y) (and-false (is_empty (take n l)))) (λ z. rw (empty-take n l h, ne_eqb n 0 (g z))) w
 
 run_newline : (i : ℕ) (ts : List Token) (s : State) → is_at s.formatter.suppress_newline_at i ≡ false → run (newline_arm i ts) s ≡ run (choose (feeds_line ts) feed_line nothing) s
 unfolding run newline_arm

@@ -1,9 +1,9 @@
 -- Kinds of the code: their numbers, and sets of them. Assumes nothing.
 use mathlib.Core.Bool.{true, false}
 use mathlib.Core.Path.{◌≡◌, refl, ◌∙◌}
-use Prim.Native.Nat.{ℕ, ◌≤◌, ◌<◌}
+use Prim.Native.Nat.{ℕ, ◌≤◌}
 use native.Mathlib.Omega.{arith}
-use borrow.Author.Tests.{lt-ltb, eqb-true, leb-true}
+use borrow.Author.Tests.{leb-true}
 use lib.Dec.{eqb, leb}
 use denote.Enum.Bare.{same_true}
 use Rattle.std.specs.Prelude.{min}
@@ -16,9 +16,7 @@ use Rattle.rows.specs.contracts.kind.What as whats
 use Rattle.rows.specs.declared.kind.What.{What}
 use Rattle.rows.specs.declared.kind.What.TheVariants as what_is
 use denote.Enum.Declared.{tag_of}
-use Rattle.rows.specs.KindSet.{member}
 use Rattle.rows.proofs.KindNumbers.{same_kind}
-use Rattle.spaces.specs.Between.{bit}
 
 -- Each number is at most 34.
 few : (k : Kind) → leb (kind_number k) 34 ≡ true
@@ -68,19 +66,6 @@ read_as k e h = omega arith
 -- Two kinds that differ have two numbers.
 pub other_kind : (a b : Kind) → (a ≡ b → ⊥) → eqb (kind_number a) (kind_number b) ≡ false
 other_kind a b n = split (eqb (kind_number a) (kind_number b)) (λ e. absurd (n (same_true the_type tt a b (same_kind a b ∙ e)))) (λ e. e)
-
--- A kind is in a set where its bit is not 0.
-
-pub is_member : (set : ℕ) (k : Kind) → member set (kind_number k) ≡ true → bit set (kind_number k) ≡ 0 → ⊥
-is_member set k e z =
-    let l : kind_number k < 64 = omega (arith, kind_few k) in
-    let y : ◌≡◌ {A = ℕ} 0 1 = eqb-true 0 1 (rw (lt-ltb (kind_number k) 64 l, z) at e) in absurd (omega arith)
-
-pub no_member : (set : ℕ) (k : Kind) → member set (kind_number k) ≡ false → bit set (kind_number k) ≡ 0
-no_member set k e =
-    let l : kind_number k < 64 = omega (arith, kind_few k) in
-    let m : eqb (bit set (kind_number k)) 1 ≡ false = rw (lt-ltb (kind_number k) 64 l) at e in
-    omega (arith, borrow.Author.Tests.eqb-false (bit set (kind_number k)) 1 m)
 
 -- What a row is, as a number.
 pub what_tag : (w : What) → tag_of whats.the_type w ≡ what_number w

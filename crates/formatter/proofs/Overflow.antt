@@ -3,7 +3,7 @@ use mathlib.Core.Bool.{Bool, true, false, ◌||◌}
 use mathlib.Core.List.{List}
 use mathlib.Core.Path.{◌≡◌, refl}
 use Prim.Native.Nat.{ℕ, ◌<◌, ◌≤◌}
-use borrow.Author.Tests.{lt-leb, le-leb, ne_eqb}
+use borrow.Author.Tests.{lt-leb, le-leb}
 use Rattle.rows.specs.Kinds.{LeftParen, LeftBracket}
 use Rattle.rows.specs.Options.{Options}
 use Rattle.rows.specs.Token.{Token}
@@ -21,9 +21,6 @@ module _ (o : Options) (t : Token) (ts : List Token) (f : Formatter) (s : List �
   pub not_full : f.break_count < 64 → false ≡ overflows o t ts (fields_on f s)
   not_full h = rw (top_length f.break_count s, lt-leb 64 f.break_count h)
 
-  pub full-signature : 64 ≤ f.break_count → t.kind ≡ LeftParen → at_signature (fields_of f) ≡ true → false ≡ overflows o t ts (fields_on f s)
-  full-signature h e a = rw (top_length f.break_count s, le-leb 64 f.break_count h, e, a)
-
   pub full_paren :
       {b : Bool} → 64 ≤ f.break_count → t.kind ≡ LeftParen → at_signature (fields_of f) ≡ false → b ≡ breaks_list o t ts (fields_of f)
       → b ≡ overflows o t ts (fields_on f s)
@@ -31,6 +28,3 @@ module _ (o : Options) (t : Token) (ts : List Token) (f : Formatter) (s : List �
 
   pub full_bracket : {b : Bool} → 64 ≤ f.break_count → t.kind ≡ LeftBracket → b ≡ breaks_list o t ts (fields_of f) → b ≡ overflows o t ts (fields_on f s)
   full_bracket h e r = rw (top_length f.break_count s, le-leb 64 f.break_count h, ← r, e)
-
-  pub full_other : {k : ℕ} → 64 ≤ f.break_count → t.kind ≡ k → (k ≡ LeftParen → ⊥) → (k ≡ LeftBracket → ⊥) → false ≡ overflows o t ts (fields_on f s)
-  full_other {k} h e a b = rw (top_length f.break_count s, le-leb 64 f.break_count h, e, ne_eqb k LeftParen a, ne_eqb k LeftBracket b)

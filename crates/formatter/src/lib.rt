@@ -120,7 +120,8 @@ pub struct Formatter {
 // How many numbers the broken-group stack holds.
 pub const STACK_SIZE: usize = 64;
 
-// What a layout of all tokens comes to: the text has this many bytes, and this many commas in it were inserted.
+// What a layout of all tokens comes to: the text has this many bytes, and this many commas in it were
+// inserted.
 #[derive(Clone, Copy)]
 pub struct Finished {
     pub length: usize,
