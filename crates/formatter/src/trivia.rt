@@ -13,7 +13,7 @@ ghost use Rattle.formatter.specs.Trivia.{WholeRows, trivia_in, lead_token, trail
 
 use crate::{Formatter, Options, TokenAt};
 use row_writers::comments::{write_blank_line, write_lead, write_trail};
-use rows::{ROW_BYTES, Row, kinds, row_at};
+use rows::{ROW_BYTES, Row, row_at};
 use sink::write::write_spaces;
 
 impl Formatter {
@@ -60,7 +60,7 @@ impl Formatter {
             self out.old result out.new }
         ensures indent { result.indent ≡ self.indent }
     {
-        if kinds::BLOCK_COMMENT < row.kind {
+        if row.is_blank_line() {
             let fed = write_blank_line(out, self.len, self.in_record);
             self.len = fed;
             self.at_line_start = true;
@@ -98,7 +98,7 @@ fn push_trail(out: &mut [u8], len: usize, text: &[u8], row: Row) -> usize
     ensures { Writes out.old len (trail_bytes (trivia_of text.now (row_of row)))
         out.new result }
 {
-    if kinds::BLOCK_COMMENT < row.kind {
+    if row.is_blank_line() {
         return len;
     }
     write_trail(out, len, text, row)

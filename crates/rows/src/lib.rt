@@ -1,8 +1,8 @@
 // The rows that the lexer sends, and the checks that come before a layout (specification, 'Rows').
 #![tactic(auto)]
 
-ghost use Rattle.std.specs.Prelude.{true, ◌≡◌, ◌+◌, ◌≤◌, ◌<◌, eqb, length, min, MatchOption};
-ghost use Rattle.rows.specs.Kinds.{TokenRow, Trailing, BlankLine, Other};
+ghost use Rattle.std.specs.Prelude.{true, ◌≡◌, ◌+◌, ◌≤◌, ◌<◌, eqb, ltb, length, min, MatchOption};
+ghost use Rattle.rows.specs.Kinds.{TokenRow, Trailing, BlockComment, BlankLine, Other};
 ghost use Rattle.rows.specs.KindNumber.{what_number, trivia_number, kind_number};
 ghost use Rattle.std.specs.Iterator.{YieldsFirstBy, item_count};
 ghost use Rattle.rows.specs.Row.{row_size, number, row_at, rows_of};
@@ -14,7 +14,6 @@ ghost use Rattle.rows.specs.Answer.{reported, refusal_of, check_report, rows_rep
 ghost use Rattle.shared.specs.Report.{refuse, refusal_number};
 
 pub mod kind;
-pub mod kinds;
 pub mod options;
 
 pub use kind::{Kind, KindSet, Trivia, What};
@@ -123,7 +122,7 @@ pub const ROW_BYTES: usize = 16;
 // A call takes at most 65,535 rows.
 pub const MOST_ROWS: usize = 65535;
 
-// What a row is (`kinds::LEADING` ..), its kind, and where its bytes start and end in the text.
+// What a row is, its kind, and where its bytes start and end in the text.
 #[derive(Clone, Copy)]
 pub struct Row {
     pub what: u32,
@@ -138,6 +137,13 @@ impl Row {
         ensures { result ≡ eqb (row_of self).what TokenRow }
     {
         self.what == What::Token as u32
+    }
+
+    // Tells whether the row is a blank line, where it is trivia.
+    pub fn is_blank_line(self) -> bool
+        ensures { result ≡ ltb BlockComment (row_of self).kind }
+    {
+        self.kind > Trivia::BlockComment as u32
     }
 
     // Returns what the row is. A number above 2 is nothing.

@@ -1,6 +1,5 @@
 pub mod Below
 pub mod Bytes
-pub mod Clear
 pub mod Injective
 pub mod Lines
 pub mod LittleEndian

@@ -34,46 +34,6 @@ low_first i (suc n) x =
 pub le_bytes : (n x : ℕ) → bytes_low_first 0 n x ≡ little_endian n x
 le_bytes n x = low_first 0 n x ∙ ap (λ y. little_endian n y) (omega arith)
 
--- four bytes, stored one by one
-pub four_stored : (l : List ℕ) (at x : ℕ) →
-    set (set (set (set l at (x % 256)) (at + 1) (x / 256 % 256)) (at + 2) (x / 65536 % 256)) (at + 3) (x / 16777216 % 256) ≡ sets l at (little_endian 4 x)
-unfolding little_endian
-four_stored l at x =
-    let one : at + 1 ≡ suc at = omega arith in
-    let two : at + 2 ≡ suc (suc at) = omega arith in
-    let three : at + 3 ≡ suc (suc (suc at)) = omega arith in
-    let third : x / 65536 ≡ x / 256 / 256 = omega arith in
-    let fourth : x / 16777216 ≡ x / 256 / 256 / 256 = omega arith in
-    rw (one, two, three, third, fourth)
-
--- the lowest byte of a number, and what is above it, where a multiple of 256 is added
-low_byte : (r p : ℕ) → (r + 256 * p) % 256 ≡ r % 256
-low_byte r p = omega arith
-
-above : (r p : ℕ) → (r + 256 * p) / 256 ≡ r / 256 + p
-above r p = omega arith
-
--- the bytes of a number of two halves
-half_bytes : (r q : ℕ) → r < 4294967296 →
-    little_endian 4 r ++ little_endian 4 q ≡ little_endian 8 (r + 256 * (256 * (256 * (256 * q))))
-unfolding little_endian
-half_bytes r q h =
-    let none : r / 256 / 256 / 256 / 256 ≡ 0 = omega arith in
-    let high : r / 256 / 256 / 256 / 256 + q ≡ q = omega arith in
-    simp (low_byte, above, high)
-
-halves : (x : ℕ) → little_endian 4 (x % 4294967296) ++ little_endian 4 (x / 4294967296) ≡ little_endian 8 x
-halves x =
-    let whole : x % 4294967296 + 256 * (256 * (256 * (256 * (x / 4294967296)))) ≡ x = omega arith in
-    half_bytes (x % 4294967296) (x / 4294967296) (omega arith) ∙ ap (λ n. little_endian 8 n) whole
-
--- eight bytes, stored by fours
-pub eight_stored : (l : List ℕ) (at x : ℕ) {m k : List ℕ} → m ≡ sets l at (little_endian 4 (x % 4294967296)) →
-    k ≡ sets m (at + 4) (little_endian 4 (x / 4294967296)) → k ≡ sets l at (little_endian 8 x)
-eight_stored l at x e f =
-    let n = length-little_endian 4 (x % 4294967296) in
-    f ∙ rw e (sets_after l at (at + 4) (little_endian 4 (x % 4294967296)) (little_endian 4 (x / 4294967296)) (omega arith)) ∙ ap (λ bs. sets l at bs) (halves x)
-
 -- ---- a report
 
 -- three numbers, one after another

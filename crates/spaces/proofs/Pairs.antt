@@ -5,13 +5,12 @@ use mathlib.Core.Path.{◌≡◌, refl}
 use Prim.Native.Nat.{ℕ, ◌≤◌}
 use native.Mathlib.Omega.{arith}
 use native.Mathlib.Nat.{mul-le-mul}
-use lib.Dec.{eqb, lit≤}
+use lib.Dec.{eqb}
 use borrow.Author.Tests.{eqb-true, ne_eqb}
-use Rattle.shared.proofs.Logic.{either}
 use Rattle.shared.proofs.Below.{all_below, below}
 use Rattle.rows.specs.Kinds.{RightBrace, LeftParen, LeftBracket, Other}
 use Rattle.spaces.specs.Space.{space_after}
-use Rattle.spaces.specs.Between.{loose_kinds, loose_after, bit, spaces}
+use Rattle.spaces.specs.Between.{loose_after, bit, spaces}
 
 -- ---- by one test, computed at every pair of kinds
 
@@ -33,11 +32,6 @@ bit-few mask k = omega arith
 
 pub spaces-few : (loose p k : ℕ) → spaces loose p k ≤ 1
 spaces-few loose p k = mul-le-mul (bit-few loose p) (bit-few 0x7_ffff_805f k)
-
-pub loose_large : (k : ℕ) → 0x4_0000 ≤ loose_kinds k
-loose_large k =
-    either (λ n. 0x4_0000 ≤ n) (eqb k RightBrace) (λ e. lit≤ tt)
-    (λ e. either (λ n. 0x4_0000 ≤ n) (eqb k LeftParen) (λ e. lit≤ tt) (λ e. either (λ n. 0x4_0000 ≤ n) (eqb k LeftBracket) (λ e. lit≤ tt) (λ e. lit≤ tt)))
 
 -- ---- only before three kinds another set holds
 

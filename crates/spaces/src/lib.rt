@@ -1,5 +1,5 @@
 // The space between two tokens (specification, 'Spaces'): `needs_space` and `is_value_token` of format.rs,
-// and the form of the same rule that the layout goes by (`between`).
+// and the form of the same rule that the layout goes by (`loose`).
 #![tactic(auto)]
 
 ghost use Rattle.std.specs.Prelude.{◌≡◌};
@@ -13,7 +13,6 @@ use shared::refusal::{Refusal, Refused};
 use std::error::Error;
 use std::fmt;
 
-pub mod between;
 pub mod loose;
 
 // A kind above 34: the argument at `position`, 0 or 1, is the first. It is refusal 3.
@@ -120,13 +119,6 @@ fn no_space_before(kind: Kind) -> bool
 }
 
 // Whether a token of this kind can end an expression, so that a `-` after it is binary.
-pub fn is_value_kind(kind: u32) -> bool
-    ensures { result ≡ is_value_kind kind }
-{
-    is_value(Kind::of(kind))
-}
-
-// The same of a kind by its name.
 pub fn is_value(kind: Kind) -> bool
     ensures { result ≡ is_value_kind (kind_number kind) }
 {

@@ -15,10 +15,10 @@ use mathlib.Core.Path.{refl}
 use borrow.Author.Rules.{rules}
 use Rattle.formatter.proofs.Formatter.push_lead.Goals as goal
 
-pub returns-then-row-gt-BLOCK_COMMENT : goal.returns-then-row-gt-BLOCK_COMMENT
+pub returns-then-is_blank_line : goal.returns-then-is_blank_line
 unfolding run said
-returns-then-row-gt-BLOCK_COMMENT c = record {
-  does = λ s x. rw (blank_row c.args.text.now (row_of c.args.row) c.if-row-gt-BLOCK_COMMENT.true) (does_then {a = comment (λ f. cond f.in_record [] line_feed)} {g = set_at_line_start true} {x = x} {p = code_state c.args.self s c.args.out.now} refl refl c.write_blank_line-fed.ensures);
+returns-then-is_blank_line c = record {
+  does = λ s x. rw (blank_row c.args.text.now (row_of c.args.row) (search rules)) (does_then {a = comment (λ f. cond f.in_record [] line_feed)} {g = set_at_line_start true} {x = x} {p = code_state c.args.self s c.args.out.now} refl refl c.write_blank_line-fed.ensures);
   indent = refl;
 }
 

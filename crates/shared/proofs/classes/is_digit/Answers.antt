@@ -1,9 +1,0 @@
--- `shared::classes::is_digit` meets its contract. Assumes nothing.
-use borrow.Author.Tests.{le-leb, lt-leb}
-use Rattle.shared.proofs.classes.is_digit.Goals as goal
-
-pub returns-then-b-ge48 : goal.returns-then-b-ge48
-returns-then-b-ge48 c = rw (le-leb 48 c.args.b c.if-b-ge48.true)
-
-pub returns : goal.returns
-returns c = rw (lt-leb 48 c.args.b c.if-b-ge48.false)
