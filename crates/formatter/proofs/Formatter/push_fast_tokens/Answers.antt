@@ -32,6 +32,11 @@ put_token-len-requires-clause-start_lt_end c =
     let t = taken (goal.at.put_token-len-requires-clause-start_lt_end c).In-loop-fast in
     (taken-fits c.requires.len_in_bounds.1 c.loop-fast.invariant.0 t.ahead t (few-spaces (goal.at.put_token-len-requires-clause-start_lt_end c).In-loop-fast) _ _ c.row_at-row.ensures c.token_kind-kind.ensures c.space_before-space.ensures).0
 
+pub put_token-len-requires-clause-start_in_bounds : goal.put_token-len-requires-clause-start_in_bounds
+put_token-len-requires-clause-start_in_bounds c =
+    let t = taken (goal.at.put_token-len-requires-clause-start_in_bounds c).In-loop-fast in
+    (taken-fits c.requires.len_in_bounds.1 c.loop-fast.invariant.0 t.ahead t (few-spaces (goal.at.put_token-len-requires-clause-start_in_bounds c).In-loop-fast) _ _ c.row_at-row.ensures c.token_kind-kind.ensures c.space_before-space.ensures).1.1
+
 pub fast_state_after-state-requires : goal.fast_state_after-state-requires
 fast_state_after-state-requires c = c.loop-fast.invariant.0.right
 
