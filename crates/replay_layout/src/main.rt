@@ -138,13 +138,7 @@ fn replay_call(rt: &impl Print, case: Case<'_>, rows: &[u8], out: &mut [u8]) -> 
     let answer = match case.call {
         Call::Source => format_source_with_shebang(case.source, rows, case.text, out),
         Call::Layout { options } => format_tokens_with(
-            options[0],
-            options[1],
-            options[2],
-            options[3],
-            rows,
-            case.text,
-            out,
+            options[0], options[1], options[2], options[3], rows, case.text, out,
         ),
     };
     print_answer(rt, answer)?;

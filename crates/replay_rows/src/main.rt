@@ -100,7 +100,14 @@ fn print_check(rt: &impl Print, case: Case<'_>) -> io::Result<()> {
         return Ok(());
     };
     let [style, indent_width, signature_width, list_width] = case.options;
-    let checked = check(style, indent_width, signature_width, list_width, case.rows, text);
+    let checked = check(
+        style,
+        indent_width,
+        signature_width,
+        list_width,
+        case.rows,
+        text,
+    );
     print_refused(rt, checked.map(|()| false).map_err(Refused::from))
 }
 
@@ -125,12 +132,7 @@ fn take_call(calls: &mut Left<'_>) -> Option<(Lookahead, usize)> {
     Some((call, calls.number_32()? as usize))
 }
 
-fn print_lookahead(
-    rt: &impl Print,
-    case: Case<'_>,
-    call: Lookahead,
-    row: usize,
-) -> io::Result<()> {
+fn print_lookahead(rt: &impl Print, case: Case<'_>, call: Lookahead, row: usize) -> io::Result<()> {
     let Some(rows) = case.rows.get(row.saturating_mul(ROW_BYTES)..) else {
         return Ok(());
     };

@@ -14,7 +14,10 @@ fn main(rt: HostRuntime) -> io::Result<()> {
     let mut rows = [0u8; 65536];
     let mut text = [0u8; 65536];
     let size = read_full(&mut rt.reader(), &mut input)?;
-    replay(&input[..size], |left| replay_case(&rt, left, &mut rows, &mut text))
+    replay(
+        &input[..size],
+        |left| replay_case(&rt, left, &mut rows, &mut text),
+    )
 }
 
 fn buffer() -> [u8; 1048576]
