@@ -14,8 +14,8 @@ use sink::write::{Tail, write_token};
 pub mod comments;
 
 // Writes a gap, the lexeme of the row at `own`, and a tail. Answers the length of the text after them. It is
-// called at two places, and is not small, so that it is compiled by itself: the formatter's methods that call
-// it are then small enough to be compiled into their callers.
+// compiled by itself: the formatter's methods that call it are then small enough to be compiled into theirs.
+#[inline(never)]
 pub fn write_lexeme(
     out: &mut [u8],
     len: usize,

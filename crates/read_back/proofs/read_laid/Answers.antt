@@ -1,5 +1,9 @@
 -- `read_back::read_laid` meets its contract. Assumes nothing.
+use mathlib.Core.Bool.{false}
+use mathlib.Core.Path.{◌≡◌}
 use lib.Seq.{length-take-le}
+use Rattle.shared.specs.Report.{accepted}
+use Rattle.format_tokens.specs.Answer.{reported}
 use borrow.Author.Rules.{rules}
 use Rattle.read_back.specs.ReadBack.{read_back_answer, read_back_slots}
 use Rattle.read_back.proofs.Seen.{refused, fits-text}
@@ -8,7 +12,7 @@ use Rattle.read_back.proofs.read_laid.Goals as goal
 pub returns-in_default : goal.returns-in_default
 unfolding read_back_answer read_back_slots
 returns-in_default c =
-    let a = rw c.in_default.is (refused c.in_default.field-0) in
+    let a : accepted (reported c.args.laid) ≡ false = rw c.in_default.is (refused c.in_default.field-0) in
     record {
       answer = rw a;
       slice = rw a;
