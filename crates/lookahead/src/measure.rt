@@ -46,6 +46,9 @@ impl Measure {
     pub fn stops(self, span: Span, kind: Kind) -> bool
         ensures { result ≡ stops_at span self.parens self.brackets (kind_number kind) }
     {
+        if kind as u32 > Kind::Comma as u32 {
+            return false;
+        }
         match (span, kind) {
             (_, Kind::Eof) => true,
             (Span::Signature, Kind::RightParen) => is_last(self.parens, 0),
@@ -62,6 +65,9 @@ impl Measure {
     {
         let mut m = self;
         m.width += size + 1;
+        if kind as u32 > Kind::Comma as u32 {
+            return m;
+        }
         match kind {
             Kind::LeftParen => m.parens += 1,
             Kind::RightParen => m.parens = m.parens.saturating_sub(1),
