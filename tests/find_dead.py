@@ -38,9 +38,11 @@ ATOM = re.compile(r"(\.?)(%s(?:\.%s)*)|[(){};,@]" % (NAME, NAME))
 MARKS = r"(?:(?:unfoldable|abbrev|pub|axiom) )*"
 SIGNATURE = re.compile(r"%s(%s)(?: \{[^}:]*\})?(?: :(?:\s|$)|$)" % (MARKS, NAME))
 TYPE = re.compile(r"%s(?:data|record) (%s)" % (MARKS, NAME))
+RULESET = re.compile(r"%sruleset (%s) =" % (MARKS, NAME))
 LINE = re.compile(r"^( *)(?:module \S+(.*?)\bwhere[ \t]*|(\S[^\n]*))$", re.M | re.S)
 USE = re.compile(r"^(?:(?:unfoldable|pub|ghost) )*use\s+([^\s{;]+?)(?:(?:\.|::)\{([^}]*)\})?(?:\s+as\s+([^\s;]+))?;?[ \t]*$", re.M)
 CONTRACT = re.compile(r"\b(?:requires|ensures)\b\*?(?:\s+\w+)?\s*\{")
+MEMBER = re.compile(r"\bghost\s+\w+\s*[=:]\s*\{")
 IN_CLAUSES = re.compile(r"[^\x00-\x7f]|\b(?:requires|ensures|result)\b|\.(?:now|old|new)\b")
 TACTIC = re.compile(r"#!?\[tactic\(.*?\)\]", re.S)
 HOME = re.compile(r"Rattle\.(\w+)\.(specs|proofs)\.(.+)")
@@ -120,7 +122,8 @@ class File:
             self.text = without_comments(opened.read(), self.code)
         self.imports = [found for use in USE.finditer(self.text) for found in imported(use, self)]
         self.body = USE.sub(blank, self.text)
-        self.contracts = "\n".join([*contracts(self.body), *lemmas_used(self)]) if self.code else ""
+        said = [*contracts(self.body), *contracts(self.body, MEMBER), *lemmas_used(self)] if self.code else []
+        self.contracts = "\n".join(said)
         self.edits = "\n".join(edits(self))
         self.declared = [] if self.code else declarations(self)
         self.scope, self.modules = {}, {}
@@ -130,22 +133,25 @@ class File:
 
 
 class Import:
-    """A name that a `use` line brings: the item of a module, or a module (then there is no item)."""
+    """A name that a `use` line brings: the item of a module, or a module (then there is no item). Code hands a `pub` one on."""
 
-    def __init__(self, name, module, item, line, code):
-        self.name, self.module, self.item, self.line, self.code = unmarked(name), module, item, line, code
+    def __init__(self, name, module, item, line, code, handed_on):
+        self.name, self.module, self.item, self.line = unmarked(name), module, item, line
+        self.code, self.handed_on = code, code and handed_on
 
 
 def imported(use, file):
     line, code = file.line(use.start()), file.code and not use.group().startswith("ghost")
+    handed_on = use.group().startswith("pub")
     if use[2] is None:
-        return [Import(use[3] or re.split(r"\.|::", use[1])[-1], use[1], None, line, code)]
+        return [Import(use[3] or re.split(r"\.|::", use[1])[-1], use[1], None, line, code, handed_on)]
     found = []
     for item in re.finditer(r"[^,\s][^,]*", use[2]):
         name, *other = item.group().split()
         below, _, last = name.rpartition(".")
         module = use[1] + "." + below if below else use[1]
-        found.append(Import(other[1] if other else last, module, unmarked(last), file.line(use.start(2) + item.start()), code))
+        line = file.line(use.start(2) + item.start())
+        found.append(Import(other[1] if other else last, module, unmarked(last), line, code, handed_on))
     return found
 
 
@@ -166,9 +172,9 @@ def lemmas_used(file):
             yield ".".join(["Rattle", home, place, *rest.split("::")])
 
 
-def contracts(code):
-    """What the clauses of the contracts say."""
-    for clause in CONTRACT.finditer(code):
+def contracts(code, marks=CONTRACT):
+    """What the clauses of the contracts say; by MEMBER, what the `ghost` members of traits and of their impls say."""
+    for clause in marks.finditer(code):
         depth, end = 1, clause.end()
         while depth:
             depth += {"{": 1, "}": -1}.get(code[end], 0)
@@ -177,7 +183,10 @@ def contracts(code):
 
 
 def declarations(file):
-    """A declaration is a signature or a type, and what follows it to the next one; a block's parameters belong to each in it."""
+    """A declaration is a signature, a type or a set of rules, and what follows it to the next one.
+
+    A block's parameters belong to each declaration in it.
+    """
     found, blocks = [], [[-1, 0, ""]]
     for line in LINE.finditer(file.body):
         indent, own = len(line[1]), line[3]
@@ -190,7 +199,7 @@ def declarations(file):
             blocks[-1][1] = indent
         if own.startswith(("infix", "mod ", "pub mod ")):
             continue
-        named = (TYPE.match(own) or SIGNATURE.match(own)) if indent == blocks[-1][1] else None
+        named = (TYPE.match(own) or RULESET.match(own) or SIGNATURE.match(own)) if indent == blocks[-1][1] else None
         if named:
             found.append(Declared(unmarked(named[1]), file, line.start(), indent, blocks[-1][2]))
         if found:
@@ -250,7 +259,7 @@ def idle_imports(file):
     words = set(re.findall(r"\w+", file.body))
     for one in file.imports:
         whole = one.item is None and one.module + "." in file.body  # the module is named by its whole path
-        if one.name not in words if one.code else not (spellings(one.name) & spelled or whole):
+        if not one.handed_on and (one.name not in words if one.code else not (spellings(one.name) & spelled or whole)):
             yield file.crate, file.path, one.line, "`%s` is imported and not used" % one.name
 
 
