@@ -1,7 +1,7 @@
 // What the programs share: they read standard input into fixed memory, and the replays take cases off it.
 #![tactic(auto)]
 
-ghost use Rattle.std.specs.Prelude.{◌≤◌, length, IfOk};
+ghost use Rattle.std.specs.Prelude.{if◌then◌else◌, ◌≡◌, ◌≤◌, ◌<◌, leb, length, take, drop, is_some, IfOk, OnSome, MatchOption};
 
 use std::io;
 use std::io::Read;
@@ -29,22 +29,34 @@ pub struct Left<'a> {
 
 impl<'a> Left<'a> {
     // Takes the next `size` bytes, if so many are left.
-    pub fn take(&mut self, size: usize) -> Option<&'a [u8]> {
+    pub fn take(&mut self, size: usize) -> Option<&'a [u8]>
+        ensures taken { MatchOption result (length self.old.bytes.now < size)
+            (λ taken. (size ≤ length self.old.bytes.now) × (taken.now ≡ take size self.old.bytes.now)) }
+        ensures left { self.new.bytes.now
+            ≡ (if is_some result then drop size self.old.bytes.now else self.old.bytes.now) }
+    {
         let (taken, left) = self.bytes.split_at_checked(size)?;
         self.bytes = left;
         Some(taken)
     }
 
     // Takes the next decimal number, and the byte after it.
-    pub fn number(&mut self) -> Option<usize> {
+    pub fn number(&mut self) -> Option<usize>
+        ensures { OnSome result (length self.new.bytes.now < length self.old.bytes.now) }
+    {
         let size = self.bytes.iter().take_while(|b| b.is_ascii_digit()).count();
         let digits = str::from_utf8(self.take(size)?).ok()?;
         self.take(1)?;
-        digits.parse().ok()
+        let number = digits.parse().ok()?;
+        Some(number)
     }
 
     // Takes the next 32-bit number, its lowest byte first.
-    pub fn number_32(&mut self) -> Option<u32> {
+    pub fn number_32(&mut self) -> Option<u32>
+        ensures taken { is_some result ≡ leb 4 (length self.old.bytes.now) }
+        ensures left { self.new.bytes.now
+            ≡ (if is_some result then drop 4 self.old.bytes.now else self.old.bytes.now) }
+    {
         let (bytes, left) = self.bytes.split_first_chunk()?;
         self.bytes = left;
         Some(u32::from_le_bytes(*bytes))

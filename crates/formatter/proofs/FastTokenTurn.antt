@@ -10,7 +10,7 @@ use lib.Dec.{eqb, leb, ltb}
 use lib.ListN.{replicate}
 use Rattle.shared.proofs.Logic.{split, impossible', or_cases, or_left, or_right}
 use Rattle.shared.proofs.Below.{all_below, below}
-use Rattle.rows.specs.Kinds.{Eof, Newline, LeftBrace, RightBrace, LeftParen, RightParen, LeftBracket, RightBracket, Comma, Hash, Else, Fn, Record, Identifier, Other}
+use Rattle.rows.specs.Kinds.{Eof, Newline, LeftBrace, RightBrace, LeftParen, RightParen, LeftBracket, RightBracket, Comma, Hash, Minus, Else, Fn, Record, Identifier, Other}
 use Rattle.rows.specs.Options.{Options}
 use Rattle.rows.specs.Token.{Token}
 use Rattle.definition.specs.Formatter.{Formatter, set_at_line_start, set_prev, set_prev_minus_is_unary, set_fn_state, set_record_pending, set_just_closed_inline, set_group_depth, set_sig_break_depth, set_inline_close, set_returned}
@@ -107,6 +107,14 @@ space-before t loose p k h w = times (bit loose p) (ltb k Hash) ∙ ap (λ n. bi
 
 pub space-few : (spaced k : ℕ) → spaced < 2 → space_before spaced k < 2
 space-few spaced k h = split (ltb k Hash) (λ e. rw e (omega arith)) (λ e. rw e h)
+
+-- ---- the kinds that change a field, by the bits of a number
+
+abbrev changes : ℕ → Bool
+changes k = is_closer k || (eqb k Minus || (eqb k Fn || eqb k Record))
+
+some_kinds : all_below 35 (λ k. eqb (bit 0x34_00a0 k) (cond (changes k) 1 0)) ≡ true
+some_kinds = refl
 
 -- ---- `fn_state`
 

@@ -46,7 +46,7 @@ impl Measure {
     pub fn stops(self, span: Span, kind: Kind) -> bool
         ensures { result ≡ stops_at span self.parens self.brackets (kind_number kind) }
     {
-        if kind as u32 > Kind::Comma as u32 {
+        if kind as u32 >= Kind::Comma as u32 {
             return false;
         }
         match (span, kind) {
@@ -65,7 +65,10 @@ impl Measure {
     {
         let mut m = self;
         m.width += size + 1;
-        if kind as u32 > Kind::Comma as u32 {
+        if kind as u32 >= Kind::Comma as u32 {
+            if kind == Kind::Comma && self.top_in(span) {
+                m.commas += 1;
+            }
             return m;
         }
         match kind {
@@ -73,7 +76,6 @@ impl Measure {
             Kind::RightParen => m.parens = m.parens.saturating_sub(1),
             Kind::LeftBracket => m.brackets += 1,
             Kind::RightBracket => m.brackets = m.brackets.saturating_sub(1),
-            Kind::Comma if self.top_in(span) => m.commas += 1,
             _ => {}
         }
         m

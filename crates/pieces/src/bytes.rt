@@ -83,9 +83,9 @@ pub fn is_gap(b: u8) -> bool
 // it.
 #[derive(Clone, Copy, Debug, PartialEq, Eq)]
 pub struct ByteSet {
-    low: u64,
-    high: u64,
-    upper: bool,
+    pub low: u64,
+    pub high: u64,
+    pub upper: bool,
 }
 
 impl ByteSet {
