@@ -6,7 +6,8 @@ ghost use Rattle.std.specs.Prelude.{if◌then◌else◌, ◌≡◌, ◌≤◌, �
 use std::io;
 use std::io::Read;
 
-// Reads until `buf` is full or the input ends, and returns how many bytes were read.
+// Reads until `buf` is full or the input ends, and returns how many bytes were read. The count is what `read`
+// gives, so that no `for` goes over it.
 pub fn read_full(reader: &mut impl Read, buf: &mut [u8]) -> io::Result<usize>
     ensures { IfOk result (λ n. n ≤ length buf.new) }
 {
