@@ -55,7 +55,8 @@ pub record BeforeFastBraces (f : Formatter) (b : FastBraces) : Type 0 where
 
 -- The definition's formatter f with the fields of the place b.
 abbrev pub with_fast_braces : FastBraces → Formatter → Formatter
-with_fast_braces b f = set_prev (some (kind_number b.prev)) (set_inline_depth b.depth (set_just_closed_inline b.closed f))
+with_fast_braces b f =
+    set_prev (some (kind_number b.prev)) (set_inline_depth b.depth (set_just_closed_inline b.closed f))
 
 -- The same with the locals: `taken` says whether there was a brace, and `close` is what the last one took.
 abbrev pub after_fast_braces : Bool → Bool → FastBraces → Formatter → Formatter

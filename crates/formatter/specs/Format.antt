@@ -112,7 +112,8 @@ formatted_of (finished s) = Ok (record { length = length s.out; commas = s.comma
 formatted_of (stopped n i) = Err (cond (eqb n deep) (Deep i) (Full i))
 
 -- r is the answer of a layout into the output l, and m is the output after it: the walk's text, and l after the text.
-pub record LaidOut (rows text : List ℕ) (o : Options.Options) (l : List ℕ) (r : Result Finished WalkError) (m : List ℕ) : Type 0 where
+pub record LaidOut (rows text : List ℕ) (o : Options.Options) (l : List ℕ) (r : Result Finished WalkError)
+    (m : List ℕ) : Type 0 where
   pub answer : r ≡ formatted_of (walk_of rows text o l)
   pub size : length m ≡ length l
   pub output : (s : State) → walk_of rows text o l ≡ finished s → m ≡ s.out ++ drop (length s.out) l

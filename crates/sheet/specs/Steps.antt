@@ -99,7 +99,8 @@ abbrev pub StepAt : List ℕ → ℕ → List ℕ → ℕ → List ℕ → ℕ �
 StepAt sheet at rows n text len (Ok read) rows' text' = Stored sheet at rows n text len read.next read.end rows' text'
 StepAt sheet at rows n text len (Err NoNames) rows' text' = ⊥
 StepAt sheet at rows n text len (Err (BadLine line)) rows' text' = (line ≡ n + 1) × (line_of (line_at sheet at) ≡ bad)
-StepAt sheet at rows n text len (Err (SheetFull line)) rows' text' = (line ≡ n + 1) × Unfit sheet at (length rows) n (length text) len
+StepAt sheet at rows n text len (Err (SheetFull line)) rows' text' =
+    (line ≡ n + 1) × Unfit sheet at (length rows) n (length text) len
 
 -- All lines have been read.
 pub record Whole (read : Reading) (rows text : List ℕ) (size : SheetSize) (rows' text' : List ℕ) : Type 0 where
@@ -109,6 +110,7 @@ pub record Whole (read : Reading) (rows text : List ℕ) (size : SheetSize) (row
 
 -- What `read_lines` promises, by its answer.
 abbrev pub ReadAt : List ℕ → List ℕ → List ℕ → Result SheetSize SheetError → List ℕ → List ℕ → Type 0
-ReadAt sheet rows text (Ok size) rows' text' = Whole (reading sheet (length rows) (length text)) rows text size rows' text'
+ReadAt sheet rows text (Ok size) rows' text' =
+    Whole (reading sheet (length rows) (length text)) rows text size rows' text'
 ReadAt sheet rows text (Err e) rows' text' =
     reading sheet (length rows) (length text) ≡ refused (refusal_of e).refusal (refusal_of e).first
