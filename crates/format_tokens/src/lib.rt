@@ -12,8 +12,9 @@ ghost use Rattle.formatter.specs.Format.{CheckedRows, LaidOut};
 ghost use Rattle.format_tokens.specs.Answer.{reported};
 
 pub use error::LayoutError;
-use formatter::{BraceStyle, Finished, Formatter, Options, STACK_SIZE, WalkError};
+use formatter::{BraceStyle, Finished, Formatter, Options, WalkError};
 use plain::plain_mark;
+use row_writers::Source;
 use rows::{MOST_ROWS, ROW_BYTES, check_unless_known};
 
 mod error;
@@ -117,7 +118,6 @@ fn lay_out(
     ensures { LaidOut rows.now text.now (options_of options) out.old result
         out.new }
 {
-    let mut stack = [0; STACK_SIZE];
-    let formatter = Formatter::new();
-    formatter.format(options, out, &mut stack, rows, text, plain)
+    let mut formatter = Formatter::new(options, Source { rows, text }, plain, out);
+    formatter.format()
 }

@@ -1,4 +1,5 @@
 -- A row of trivia, and rows of trivia one by one. Assumes nothing.
+use mathlib.Core.Bool.{false}
 use mathlib.Core.List.{List, [], ◌∷◌, ◌++◌, append-nil}
 use mathlib.Core.Path.{◌≡◌, refl, ap, ◌∙◌}
 use Prim.Native.Nat.{ℕ, zero, suc, ◌+◌, ◌-◌, ◌/◌, ◌≤◌, ◌<◌}
@@ -17,14 +18,15 @@ use Rattle.rows.proofs.RowList.{row_drop}
 use Rattle.definition.specs.Act.{State, run}
 use Rattle.definition.specs.Emit.{indent_or_space, leading_trivia, trailing_trivia, lead_act}
 use Rattle.definition.proofs.Said.{said}
-use Rattle.sink.specs.Sink.{Writes}
+use Rattle.sink.specs.Appends.{Appends}
 use Rattle.row_writers.specs.Comment.{comment_head, lead_tail, trail_head, trail_tail}
-use Rattle.sink.proofs.Sink.{and_then, nothing}
+use Rattle.sink.specs.declared.write.Sink.{Sink}
+use Rattle.sink.proofs.Appends.{and_then, nothing}
 use Rattle.formatter.specs.declared.Formatter.{Formatter}
-use Rattle.formatter.specs.CodeState.{Locals, CodeState, code_state, formatter_of}
-use Rattle.formatter.specs.Does.{Does, Done, Puts}
+use Rattle.formatter.specs.CodeState.{Locals, formatter_of, given, options_of}
+use Rattle.formatter.specs.Does.{Same, Does, Done}
 use Rattle.formatter.specs.Trivia.{WholeRows, trivia_in, lead_token, trail_bytes}
-use Rattle.formatter.proofs.Does.{does, seq, stays, updated}
+use Rattle.formatter.proofs.Does.{does, then, seq, stays, updated}
 
 -- ---- a row, by its kind
 
@@ -41,17 +43,17 @@ trail_bytes_lem text r h = go r.kind refl
     go (suc (suc zero)) e = rw e
     go (suc (suc (suc k))) e = absurd (omega arith)
 
-module _ (o : Options) {x : Locals} {p q : CodeState} (text : List ℕ) (r : Row) (h : r.kind < 3) (c : formatter_of p.form p.stack x ≡ formatter_of q.form q.stack x) (n : p.form.commas ≡ q.form.commas) where
+module _ (o : Options) {x : Locals} {p q : Formatter} (text : List ℕ) (r : Row) (h : r.kind < 3) (z : given q ≡ given p) (c : formatter_of p x ≡ formatter_of q x) (n : p.commas ≡ q.commas) where
   pub lead-comment :
-      Writes p.buf p.form.len (indent_or_space o (formatter_of p.form p.stack x) ++ (comment_head r.kind ++ (space ++ bytes_of text r ++ lead_tail r.kind))) q.buf q.form.len
+      Appends p.sink (indent_or_space o (formatter_of p x) ++ (comment_head r.kind ++ (space ++ bytes_of text r ++ lead_tail r.kind))) q.sink
       → Does (lead_act o (trivia_of text r)) x p q
   unfolding run said
   lead-comment w = go r.kind refl
     where
       go : (k : ℕ) → r.kind ≡ k → Does (lead_act o (trivia_of text r)) x p q
-      go zero e = rw e (does c n (rw e at w))
-      go (suc zero) e = rw e (does c n (rw e at w))
-      go (suc (suc zero)) e = rw e (does c n (rw e at w))
+      go zero e = rw e (does z c n (rw e at w))
+      go (suc zero) e = rw e (does z c n (rw e at w))
+      go (suc (suc zero)) e = rw e (does z c n (rw e at w))
       go (suc (suc (suc k))) e = absurd (omega arith)
 
 -- ---- the first of some rows
@@ -91,41 +93,48 @@ module _ {rows text : List ℕ} {at to : ℕ} (π : WholeRows rows text at to) (
 
 -- ---- leading rows
 
--- From the state f and the output `out`, the rows from `at` on do what is left of the whole.
-pub record LeadsLeft (o : Options) (rows text : List ℕ) (from to : ℕ) (f₀ : Formatter) (out₀ : List ℕ) (at : ℕ) (f : Formatter) (out : List ℕ) : Type 0 where
-  pub part : WholeRows rows text at to
-  pub size : length out ≡ length out₀
+-- From the state f, the rows from `at` on do what is left of the whole that begins in the state f₀.
+pub record LeadsLeft (from to : ℕ) (f₀ : Formatter) (at : ℕ) (f : Formatter) : Type 0 where
+  pub part : WholeRows f₀.source.rows.now f₀.source.text.now at to
+  pub same : Same f₀ f
+  pub size : length f.sink.out.now ≡ length f₀.sink.out.now
   pub indent : f.indent ≤ 4294967295
   pub rest :
-      (s : List ℕ) (q : CodeState) → Done (leading_trivia o (trivia_in rows text at to)) (code_state f s out) q
-      → Done (leading_trivia o (trivia_in rows text from to)) (code_state f₀ s out₀) q
+      (q : Formatter) → Done (leading_trivia (options_of f₀.options) (trivia_in f₀.source.rows.now f₀.source.text.now at to)) f q
+      → Done (leading_trivia (options_of f₀.options) (trivia_in f₀.source.rows.now f₀.source.text.now from to)) f₀ q
 
 pub leads-whole :
-    {o : Options} {rows text : List ℕ} {from to : ℕ} {f : Formatter} {out : List ℕ} → WholeRows rows text from to → f.indent ≤ 4294967295
-    → LeadsLeft o rows text from to f out from f out
-leads-whole π h = record { part = π; size = refl; indent = h; rest = λ s q d. d }
+    {from to : ℕ} {f : Formatter} → WholeRows f.source.rows.now f.source.text.now from to → f.indent ≤ 4294967295
+    → LeadsLeft from to f from f
+leads-whole π h = record { part = π; same = record { given = refl; lent = refl }; size = refl; indent = h; rest = λ q d. d }
 
-module _ {o : Options} {rows text : List ℕ} {from to : ℕ} {f₀ : Formatter} {out₀ : List ℕ} {at : ℕ} {f : Formatter} {out : List ℕ} (left : LeadsLeft o rows text from to f₀ out₀ at f out) where
+module _ {from to : ℕ} {f₀ : Formatter} {at : ℕ} {f : Formatter} (left : LeadsLeft from to f₀ at f) where
   pub leads-after :
-      at < to → {r : Row} → r ≡ row_at rows at → {g : Formatter} {buf : List ℕ} → length buf ≡ length out → g.indent ≡ f.indent
-      → Puts (lead_act o (trivia_of text r)) f out g buf → LeadsLeft o rows text from to f₀ out₀ (at + 16) g buf
+      at < to → {r : Row} → r ≡ row_at f₀.source.rows.now at → {g : Formatter} → g.indent ≡ f.indent
+      → Done (lead_act (options_of f₀.options) (trivia_of f₀.source.text.now r)) f g → LeadsLeft from to f₀ (at + 16) g
   unfolding leading_trivia
-  leads-after h e z i d =
+  leads-after h e {g} i d =
       record {
         part = part_after left.part h;
-        size = z ∙ left.size;
+        same = then left.same (d none).same;
+        size = (d none).size ∙ left.size;
         indent = rw i left.indent;
-        rest = λ s q y. left.rest s q (λ x. rw (first_trivia left.part h e) (seq (d s x) (y _)));
+        rest = λ q y. left.rest q (λ x. rw (first_trivia left.part h e) (seq (d x) (y _)));
       }
+    where
+      none : Locals
+      none = record { inline_close = false; returned = false; skip_next = false; too_deep = Rattle.std.proofs.Math.Option.none }
 
   -- At the end nothing is left.
   module _ (h : to ≤ at) where
-    leads-none : (s : List ℕ) → Done (leading_trivia o (trivia_in rows text from to)) (code_state f₀ s out₀) (code_state f s out)
+    leads-none : Done (leading_trivia (options_of f₀.options) (trivia_in f₀.source.rows.now f₀.source.text.now from to)) f₀ f
     unfolding leading_trivia
-    leads-none s = left.rest s (code_state f s out) (λ x. rw (no_trivia rows text h) stays)
+    leads-none = left.rest f (λ x. rw (no_trivia f₀.source.rows.now f₀.source.text.now h) stays)
 
-    pub lead_after : WholeRows rows text from to → from < to → Puts (lead_token o (trivia_in rows text from to)) f₀ out₀ f out
-    lead_after π i s x = seq (leads-none s x) (rw (first_trivia π i refl) (updated refl refl nothing))
+    pub lead_after :
+        WholeRows f₀.source.rows.now f₀.source.text.now from to → from < to
+        → Done (lead_token (options_of f₀.options) (trivia_in f₀.source.rows.now f₀.source.text.now from to)) f₀ f
+    lead_after π i x = seq (leads-none x) (rw (first_trivia π i refl) (updated refl refl refl nothing))
 
 -- ---- trailing rows
 
@@ -142,11 +151,11 @@ trailing_said (doc_comment c ∷ ts) s = rw (trailing_said ts)
 trailing_said (block_comment c ∷ ts) s = rw (trailing_said ts)
 trailing_said (blank_line ∷ ts) s = trailing_said ts s
 
-record Same (s t : State) : Type 0 where
+record SameState (s t : State) : Type 0 where
   pub formatter : t.formatter ≡ s.formatter
   pub commas : t.commas ≡ s.commas
 
-trailing-same : (ts : List Trivia) (s : State) → Same s (run (trailing_trivia ts) s)
+trailing-same : (ts : List Trivia) (s : State) → SameState s (run (trailing_trivia ts) s)
 unfolding run trailing_trivia
 trailing-same [] s = record { formatter = refl; commas = refl }
 trailing-same (line_comment c ∷ ts) s = let h = trailing-same ts _ in record { formatter = h.formatter; commas = h.commas }
@@ -155,32 +164,32 @@ trailing-same (block_comment c ∷ ts) s = let h = trailing-same ts _ in record 
 trailing-same (blank_line ∷ ts) s = let h = trailing-same ts _ in record { formatter = h.formatter; commas = h.commas }
 
 pub trailing_does :
-    (ts : List Trivia) {x : Locals} {p q : CodeState} → formatter_of p.form p.stack x ≡ formatter_of q.form q.stack x
-    → p.form.commas ≡ q.form.commas → Writes p.buf p.form.len (trails_bytes ts) q.buf q.form.len
+    (ts : List Trivia) {x : Locals} {p q : Formatter} → given q ≡ given p → formatter_of p x ≡ formatter_of q x
+    → p.commas ≡ q.commas → Appends p.sink (trails_bytes ts) q.sink
     → Does (trailing_trivia ts) x p q
-trailing_does ts c n w =
+trailing_does ts z c n w =
     let h = trailing-same ts _ in
-    does (rw h.formatter c) (h.commas ∙ n) (rw (trailing_said ts) w)
+    does z (rw h.formatter c) (h.commas ∙ n) (rw (trailing_said ts) w)
 
 -- The rows from `at` on write what is left of the whole.
-pub record TrailsLeft (rows text : List ℕ) (from to : ℕ) (out₀ : List ℕ) (len₀ : ℕ) (at : ℕ) (out : List ℕ) (len : ℕ) : Type 0 where
+pub record TrailsLeft (rows text : List ℕ) (from to : ℕ) (s₀ : Sink) (at : ℕ) (s : Sink) : Type 0 where
   pub part : WholeRows rows text at to
-  pub rest : (buf : List ℕ) (r : ℕ) → Writes out len (trails_bytes (trivia_in rows text at to)) buf r → Writes out₀ len₀ (trails_bytes (trivia_in rows text from to)) buf r
+  pub rest : (t : Sink) → Appends s (trails_bytes (trivia_in rows text at to)) t → Appends s₀ (trails_bytes (trivia_in rows text from to)) t
 
-pub trails-whole : {rows text : List ℕ} {from to : ℕ} {out : List ℕ} {len : ℕ} → WholeRows rows text from to → TrailsLeft rows text from to out len from out len
-trails-whole π = record { part = π; rest = λ buf r w. w }
+pub trails-whole : {rows text : List ℕ} {from to : ℕ} {s : Sink} → WholeRows rows text from to → TrailsLeft rows text from to s from s
+trails-whole π = record { part = π; rest = λ t w. w }
 
-module _ {rows text : List ℕ} {from to : ℕ} {out₀ : List ℕ} {len₀ : ℕ} {at : ℕ} {out : List ℕ} {len : ℕ} (left : TrailsLeft rows text from to out₀ len₀ at out len) where
+module _ {rows text : List ℕ} {from to : ℕ} {s₀ : Sink} {at : ℕ} {s : Sink} (left : TrailsLeft rows text from to s₀ at s) where
   pub trails-after :
-      at < to → {r : Row} → r ≡ row_at rows at → {buf : List ℕ} {n : ℕ} → Writes out len (trail_bytes (trivia_of text r)) buf n
-      → TrailsLeft rows text from to out₀ len₀ (at + 16) buf n
+      at < to → {r : Row} → r ≡ row_at rows at → {t : Sink} → Appends s (trail_bytes (trivia_of text r)) t
+      → TrailsLeft rows text from to s₀ (at + 16) t
   unfolding trails_bytes
   trails-after h e w =
       record {
         part = part_after left.part h;
-        rest = λ k m y. left.rest k m (rw (first_trivia left.part h e) (and_then w y));
+        rest = λ u y. left.rest u (rw (first_trivia left.part h e) (and_then w y));
       }
 
-  pub trails_none : to ≤ at → Writes out₀ len₀ (trails_bytes (trivia_in rows text from to)) out len
+  pub trails_none : to ≤ at → Appends s₀ (trails_bytes (trivia_in rows text from to)) s
   unfolding trails_bytes
-  trails_none h = left.rest out len (rw (no_trivia rows text h) nothing)
+  trails_none h = left.rest s (rw (no_trivia rows text h) nothing)

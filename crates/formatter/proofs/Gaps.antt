@@ -11,8 +11,9 @@ use Rattle.definition.specs.Formatter.{Formatter}
 use Rattle.definition.specs.Emit.{prev_is, token_gap, indent_or_space}
 use Rattle.spaces.specs.Space.{space_after}
 use Rattle.definition.specs.Arms.{inline_close_gap}
-use Rattle.sink.specs.Sink.{Writes}
-use Rattle.sink.proofs.Sink.{same_bytes_lem}
+use Rattle.sink.specs.declared.write.Sink.{Sink}
+use Rattle.sink.specs.Appends.{Appends}
+use Rattle.sink.proofs.Appends.{same_bytes}
 use Rattle.formatter.specs.Parts.{gap_size, inline_close_size, indent_or_space_size}
 
 sized : (start needed : Bool) (indent : ℕ) → cond start (replicate indent 32) (cond needed space []) ≡ replicate (cond start indent (cond needed 1 0)) 32
@@ -42,5 +43,5 @@ module _ (o : Options) (f : Formatter) where
   indent_or_space_lem = or_space f.at_line_start (o.indent_width * f.indent)
 
 -- A gap of the code's size, and bytes after it.
-pub gapped : {g : List ℕ} (size n : ℕ) (w : List ℕ) {l m : List ℕ} {i r : ℕ} → g ≡ replicate size 32 → n ≡ size → Writes l i (replicate n 32 ++ w) m r → Writes l i (g ++ w) m r
-gapped size n w e d x = same_bytes_lem (rw (e, d)) x
+pub gapped : {g : List ℕ} (size n : ℕ) (w : List ℕ) {a b : Sink} → g ≡ replicate size 32 → n ≡ size → Appends a (replicate n 32 ++ w) b → Appends a (g ++ w) b
+gapped size n w e d x = same_bytes (rw (e, d)) x

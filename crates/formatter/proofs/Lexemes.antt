@@ -12,9 +12,10 @@ use Rattle.definition.specs.Formatter.{set_prev_minus_is_unary}
 use Rattle.definition.specs.Act.{update, ◌⨾◌, run}
 use Rattle.definition.specs.Emit.{token_gap, ended_by, track_minus, push_lexeme}
 use Rattle.definition.proofs.Said.{said}
-use Rattle.sink.specs.Sink.{Writes}
-use Rattle.sink.proofs.Sink.{same_bytes_lem}
-use Rattle.formatter.specs.CodeState.{Locals, CodeState, state_of, formatter_of}
+use Rattle.sink.specs.Appends.{Appends}
+use Rattle.sink.proofs.Appends.{same_bytes}
+use Rattle.formatter.specs.declared.Formatter.{Formatter}
+use Rattle.formatter.specs.CodeState.{Locals, state_of, formatter_of, given}
 use Rattle.formatter.specs.Does.{Does}
 use Rattle.formatter.specs.Parts.{gap_size, emit_tail}
 use Rattle.formatter.proofs.Does.{does, seq, same-run}
@@ -32,17 +33,17 @@ tailed g l w = rw (append-nil l) (sym (append_assoc g l w))
 module _ (o : Options) (t : Token) where
   -- A gap of the code's size, the lexeme and a tail are one write.
   pub emitted :
-      (w : List ℕ) {n : ℕ} {x : Locals} {p q : CodeState} → ended_by t.kind (state_of x p).formatter ≡ formatter_of q.form q.stack x
-      → p.form.commas ≡ q.form.commas → n ≡ gap_size o t.kind (state_of x p).formatter
-      → Writes p.buf p.form.len (replicate n 32 ++ (t.lexeme ++ w)) q.buf q.form.len → Does (emit_tail o t w) x p q
+      (w : List ℕ) {n : ℕ} {x : Locals} {p q : Formatter} → given q ≡ given p → ended_by t.kind (state_of x p).formatter ≡ formatter_of q x
+      → p.commas ≡ q.commas → n ≡ gap_size o t.kind (state_of x p).formatter
+      → Appends p.sink (replicate n 32 ++ (t.lexeme ++ w)) q.sink → Does (emit_tail o t w) x p q
   unfolding run said
-  emitted w {n} {x} {p} c k e y =
+  emitted w {n} {x} {p} z c k e y =
       let f = (state_of x p).formatter in
-      does c k (same_bytes_lem (tailed (token_gap o t.kind f) t.lexeme w) (gapped (gap_size o t.kind f) n (t.lexeme ++ w) (token_gap_lem o f t.kind) e y))
+      does z c k (same_bytes (tailed (token_gap o t.kind f) t.lexeme w) (gapped (gap_size o t.kind f) n (t.lexeme ++ w) (token_gap_lem o f t.kind) e y))
 
   -- The same without a tail, and then whether a `-` is unary.
   pub pushed :
-      {unary : Bool} {x : Locals} {p q r : CodeState} → unary ≡ (track_minus t.kind (state_of x p).formatter).prev_minus_is_unary
+      {unary : Bool} {x : Locals} {p q r : Formatter} → unary ≡ (track_minus t.kind (state_of x p).formatter).prev_minus_is_unary
       → Does (emit_tail o t []) x p q → Does (update (set_prev_minus_is_unary unary)) x q r → Does (push_lexeme o t) x p r
   unfolding run
   pushed {unary} e d u = same-run {a = emit_tail o t [] ⨾ update (set_prev_minus_is_unary unary)} (rw (append-nil, e)) (seq {a = emit_tail o t []} d u)

@@ -2,7 +2,7 @@ pub mod Numbered
 pub mod Does
 pub mod Gaps
 pub mod Looked
-pub mod Stack
+pub mod Entries
 pub mod Lexemes
 pub mod Newlines
 pub mod Blocks
@@ -14,14 +14,6 @@ pub mod Place
 pub mod Comments
 pub mod Overflow
 pub mod Locals
-pub mod Turned
 pub mod BareRow
 pub mod Turn
-pub mod FastTokenTurn
-pub mod FastTokens
-pub mod FastBraceTurn
-pub mod FastBraces
-pub mod Going
-pub mod Ahead
-pub mod Loop
 pub mod Feeds

@@ -1,7 +1,6 @@
--- The state that the code holds, with the broken-group stack and the output beside it, and the state of the definition that
--- it stands for.
+-- The state that the code holds, and the state of the definition that it stands for.
 -- Assumes nothing.
-use Rattle.std.specs.Prelude.{Bool, false, List, [], ◌∷◌, ℕ, zero, suc, take, get_or, None, Some}
+use Rattle.std.specs.Prelude.{Bool, false, ℕ, take, None, Some}
 use Rattle.std.specs.Prelude
 use Rattle.std.proofs.Math.Option.{Option, none, some}
 use Rattle.rows.specs.Options
@@ -9,6 +8,8 @@ use Rattle.definition.specs.Formatter
 use Rattle.definition.specs.Act.{State, state}
 use Rattle.formatter.specs.declared.Formatter.{Formatter}
 use Rattle.formatter.specs.declared.Options.{Options}
+use Rattle.formatter.specs.declared.Ends.{Ends}
+use Rattle.row_writers.specs.declared.Source.{Source}
 use Rattle.formatter.specs.declared.BraceStyle.{BraceStyle}
 use Rattle.formatter.specs.declared.BraceStyle.TheVariants.{SameLine, Allman}
 use Rattle.rows.specs.declared.kind.Kind.{Kind}
@@ -35,11 +36,6 @@ newline_of n = option_of (λ i. i) n
 -- The paren depth inside a broken signature, if the walk is in one.
 abbrev pub signature_of : Prelude.Option SignatureDepth → Option ℕ
 signature_of s = option_of (λ d. d.0) s
-
--- The first n numbers of the stack, the last of them first.
-unfoldable pub top_first : ℕ → List ℕ → List ℕ
-top_first zero stack = []
-top_first (suc n) stack = get_or stack n 0 ∷ top_first n stack
 
 -- `fn_state`, as the definition has it.
 abbrev pub fn_number : FnState → ℕ
@@ -78,9 +74,9 @@ pub record Locals : Type 0 where
 abbrev pub locals_of : Formatter.Formatter → Locals
 locals_of f = record { inline_close = f.inline_close; returned = f.returned; skip_next = f.skip_next; too_deep = f.too_deep }
 
--- The definition's formatter that the code's fields, its stack and the locals x stand for.
-abbrev pub formatter_of : Formatter → List ℕ → Locals → Formatter.Formatter
-formatter_of f stack x =
+-- The definition's formatter that the code's fields and the locals x stand for.
+abbrev pub formatter_of : Formatter → Locals → Formatter.Formatter
+formatter_of f x =
     record {
       indent = f.indent;
       at_line_start = f.at_line_start;
@@ -95,7 +91,7 @@ formatter_of f stack x =
       just_closed_inline = f.just_closed_inline;
       suppress_newline_at = newline_of f.suppress_newline_at;
       group_depth = f.group_depth.0;
-      break_stack = top_first f.break_count stack;
+      break_stack = f.break_stack;
       inline_close = x.inline_close;
       returned = x.returned;
       skip_next = x.skip_next;
@@ -103,23 +99,21 @@ formatter_of f stack x =
     }
 
 -- The same for a test that reads no locals.
-abbrev pub fields_on : Formatter → List ℕ → Formatter.Formatter
-fields_on f stack = formatter_of f stack (record { inline_close = false; returned = false; skip_next = false; too_deep = none })
-
--- The same for a test that does not read the stack either.
 abbrev pub fields_of : Formatter → Formatter.Formatter
-fields_of f = fields_on f []
-
--- All that a method may change: the formatter's fields, the broken-group stack and the output.
-pub record CodeState : Type 0 where
-  pub form : Formatter
-  pub stack : List ℕ
-  pub buf : List ℕ
-
--- The three put together.
-abbrev pub code_state : Formatter → List ℕ → List ℕ → CodeState
-code_state f stack buf = record { form = f; stack = stack; buf = buf }
+fields_of f = formatter_of f (record { inline_close = false; returned = false; skip_next = false; too_deep = none })
 
 -- The state of the definition that p stands for, with the locals x: the text is the first `len` bytes of the output.
-abbrev pub state_of : Locals → CodeState → State
-state_of x p = state (formatter_of p.form p.stack x) (take p.form.len p.buf) p.form.commas
+abbrev pub state_of : Locals → Formatter → State
+state_of x p = state (formatter_of p x) (take p.sink.len p.sink.out.now) p.commas
+
+-- ---- what no method changes
+
+-- The options, the rows and the text, what all rows tell, and whether no row is trivia.
+pub record Given : Type 0 where
+  pub options : Options
+  pub source : Source
+  pub ends : Ends
+  pub bare : Bool
+
+abbrev pub given : Formatter → Given
+given f = record { options = f.options; source = f.source; ends = f.ends; bare = f.bare }

@@ -17,12 +17,13 @@ use Rattle.definition.specs.Layout.{finished, lay_from}
 use Rattle.formatter.specs.declared.Formatter as code
 use Rattle.formatter.specs.declared.fast_braces.FastBraces.{FastBraces}
 use Rattle.formatter.specs.CodeState.{fn_number}
+use Rattle.formatter.specs.FastTokens.{ChangedBy}
 
 -- ---- before fast braces
 
 -- The state is outside records and in a line, no `record` or `fn` is looked back to, and there is no trivia.
-pub record MayStartFastBraces (f : code.Formatter) (b : Bool) : Type 0 where
-  pub bare : b ≡ true
+pub record MayStartFastBraces (f : code.Formatter) : Type 0 where
+  pub bare : f.bare ≡ true
   pub mid_line : f.at_line_start ≡ false
   pub no_record : f.record_pending ≡ false
   pub outside : f.in_record ≡ false
@@ -33,7 +34,7 @@ abbrev pub fast_braces_at : code.Formatter → ℕ → FastBraces
 fast_braces_at f at =
     record {
       at = at;
-      len = f.len;
+      len = f.sink.len;
       prev = unwrap_or f.prev kinds.Eof;
       depth = f.inline_depth.0;
       closed = f.just_closed_inline;
@@ -80,6 +81,11 @@ pub record FastBracesLaidOut (rows : List ℕ) (b : FastBraces) (l m : List ℕ)
       ≡ lay_from o (length l)
       (finished (state (after_fast_braces (ltb b.at r.at) close r f) (take r.len m) c))
       (i + (r.at - b.at) / row_size) (tokens_of (drop r.at rows) text)
+
+-- From the row at `from`, the code's state p comes to q at the row at `at`.
+pub record LaysFastBraces (p : code.Formatter) (from at : ℕ) (q : code.Formatter) : Type 0 where
+  pub laid : FastBracesLaidOut p.source.rows.now (fast_braces_at p from) p.sink.out.now q.sink.out.now (fast_braces_at q at)
+  pub changed : ChangedBy (with_fast_braces (fast_braces_at q at)) p q
 
 -- ---- one brace
 

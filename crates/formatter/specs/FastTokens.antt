@@ -1,7 +1,7 @@
 -- Fast tokens: those that only write their lexeme, and a space before it, and that a tight loop lays out. It is a second form of
 -- their arms, and is proved equal: the definition's walk goes on after them as it would have from their start.
 -- Assumes nothing.
-use Rattle.std.specs.Prelude.{Bool, true, false, cond, not, ◌&&◌, ◌||◌, List, [], ◌≡◌, ℕ, ◌+◌, ◌-◌, ◌*◌, ◌/◌, ◌≤◌, ◌<◌, eqb, leb, ltb, length, take, drop}
+use Rattle.std.specs.Prelude.{Bool, true, false, cond, not, ◌&&◌, ◌||◌, List, [], ◌≡◌, ℕ, ◌+◌, ◌-◌, ◌*◌, ◌/◌, ◌≤◌, ◌<◌, eqb, leb, ltb, length, take, drop, unwrap_or}
 use Rattle.std.proofs.Math.Option.{none, some}
 use Rattle.rows.specs.Kinds.{Leading, Trailing, RightBrace, RightParen, RightBracket, Comma, Hash, Minus}
 use Rattle.rows.specs.Kinds.{Else, Fn, Record, Identifier, Other}
@@ -18,11 +18,11 @@ use Rattle.definition.specs.Arms.{at_record_fields, in_broken_list}
 use Rattle.definition.specs.Layout.{finished, lay_from}
 use Rattle.spaces.specs.Between.{loose_after, bit}
 use Rattle.formatter.specs.declared.Formatter as code
-use Rattle.formatter.specs.declared.fast_tokens.FastState.{FastState}
-use Rattle.formatter.specs.declared.fast_tokens.FastTokens as code-fast
 use Rattle.formatter.specs.declared.FnState.{FnState}
 use Rattle.formatter.specs.declared.FnState.TheVariants.{Outside, AfterFn, Named}
-use Rattle.formatter.specs.CodeState.{Locals, fn_number, prev_of, signature_of, fields_of, fields_on, formatter_of}
+use Rattle.rows.specs.declared.kind.Kind.TheVariants.{Eof}
+use Rattle.formatter.specs.CodeState.{Locals, fn_number, prev_of, signature_of, fields_of, formatter_of, given}
+use Rattle.formatter.specs.Does.{Same}
 use Rattle.formatter.specs.Format.{TokenBoundary, run_rows}
 
 -- ---- the kinds
@@ -36,13 +36,13 @@ pub record FastKinds : Type 0 where
 
 -- A Comma is fast where it does not break its line, `else` where no `}` stands before it, `fn` outside broken signatures, and
 -- `)` and `]` where no signature and no list is broken.
-abbrev pub fast_kinds_of : code.Formatter → List ℕ → FastKinds
-fast_kinds_of f stack =
+abbrev pub fast_kinds_of : code.Formatter → FastKinds
+fast_kinds_of f =
     record {
-      commas = not (at_record_fields (fields_of f) || in_broken_list (fields_on f stack));
+      commas = not (at_record_fields (fields_of f) || in_broken_list (fields_of f));
       elses = not (is_at (prev_of f.prev) RightBrace);
       fns = not (is_some (signature_of f.sig_break_depth));
-      closers = not (is_some (signature_of f.sig_break_depth)) && eqb f.break_count 0;
+      closers = not (is_some (signature_of f.sig_break_depth)) && eqb (length f.break_stack) 0;
     }
 
 -- RightParen and RightBracket.
@@ -61,6 +61,13 @@ abbrev pub space_before : ℕ → ℕ → ℕ
 space_before spaced k = cond (ltb k Hash) 0 spaced
 
 -- ---- the fields that fast tokens change
+
+-- But for the last kind.
+pub record FastState : Type 0 where
+  pub fn_state : FnState
+  pub record_pending : Bool
+  pub prev_minus_is_unary : Bool
+  pub group_depth : ℕ
 
 -- `fn_state` after a token of the kind k, where it was n.
 abbrev pub fn_after : ℕ → FnState → FnState
@@ -82,41 +89,35 @@ group_after k n = cond (is_closer k) (n - 1) n
 abbrev pub changing_kinds : FnState → Bool → ℕ
 changing_kinds fn pending = cond (pending || not (eqb (fn_number fn) 0)) 0x7_ffff_ffff 0x34_00a0
 
--- The fields with these values, and the sets of kinds that go with them.
-abbrev pub fast_state_for : FnState → Bool → Bool → ℕ → FastState
-fast_state_for fn pending unary group =
-    record {
-      fn_state = fn;
-      group_depth = group;
-      record_pending = pending;
-      changing = record { 0 = changing_kinds fn pending };
-      prev_minus_is_unary = unary;
-      loose = record { 0 = loose_after Other unary };
-    }
-
 -- These fields of the code's state f.
 abbrev pub fast_state_of : code.Formatter → FastState
 fast_state_of f =
-    fast_state_for f.fn_state f.record_pending f.prev_minus_is_unary f.group_depth.0
+    record {
+      fn_state = f.fn_state;
+      record_pending = f.record_pending;
+      prev_minus_is_unary = f.prev_minus_is_unary;
+      group_depth = f.group_depth.0;
+    }
 
 -- The fields after a token of the kind k, where the kind before is p and they were those of m.
 abbrev pub fast_state_after : ℕ → ℕ → FastState → FastState
 fast_state_after p k m =
-    fast_state_for (fn_after k m.fn_state) (pending_after k m.record_pending)
-    (unary_after p k m.prev_minus_is_unary) (group_after k m.group_depth)
+    record {
+      fn_state = fn_after k m.fn_state;
+      record_pending = pending_after k m.record_pending;
+      prev_minus_is_unary = unary_after p k m.prev_minus_is_unary;
+      group_depth = group_after k m.group_depth;
+    }
 
--- The two sets of kinds are those that go with the fields.
-pub record Consistent (m : FastState) : Type 0 where
-  pub changing : m.changing.0 ≡ changing_kinds m.fn_state m.record_pending
-  pub loose : m.loose.0 ≡ loose_after Other m.prev_minus_is_unary
-
--- The definition's formatter f with the last kind k and the fields of m.
-abbrev pub with_fast_state : ℕ → FastState → Formatter → Formatter
-with_fast_state k m f =
-    set_prev (some k)
-    (set_fn_state (fn_number m.fn_state)
+-- The definition's formatter f with the fields of m, and with the last kind k besides.
+abbrev pub with_fields : FastState → Formatter → Formatter
+with_fields m f =
+    set_fn_state (fn_number m.fn_state)
     (set_record_pending m.record_pending
-    (set_prev_minus_is_unary m.prev_minus_is_unary (set_group_depth m.group_depth f))))
+    (set_prev_minus_is_unary m.prev_minus_is_unary (set_group_depth m.group_depth f)))
+
+abbrev pub with_fast_state : ℕ → FastState → Formatter → Formatter
+with_fast_state k m f = set_prev (some k) (with_fields m f)
 
 -- ---- before fast tokens
 
@@ -131,13 +132,13 @@ RowAhead rows at =
     at < length rows
     → (at + row_size ≤ length rows) × ((at ≡ row_size * (at / row_size)) × ((row_at rows at).kind ≤ Other))
 
--- The row at the index `at` is a fast token's, of the kinds `fast`, which fits with its spaces after `len` of `size` bytes.
-pub record IsFastToken (rows : List ℕ) (fast at size len spaced : ℕ) : Type 0 where
+-- The row at the index `at` is a fast token's, of the kinds `fast`, which fits into `room` bytes with its spaces.
+pub record IsFastToken (rows : List ℕ) (fast at room spaced : ℕ) : Type 0 where
   pub ahead : at < length rows
   pub kind : bit fast (row_at rows at).kind ≡ 0 → ⊥
   pub alone : BareRow rows at
   pub byte : (row_at rows at).start < (row_at rows at).end
-  pub fits : space_before spaced (row_at rows at).kind + ((row_at rows at).end - (row_at rows at).start) ≤ size - len
+  pub fits : space_before spaced (row_at rows at).kind + ((row_at rows at).end - (row_at rows at).start) ≤ room
 
 -- The state is in a line, not right after the `}` of a one-line block, and in a broken signature no `fn` is looked back to.
 pub record MayStartFastTokens (f : code.Formatter) : Type 0 where
@@ -164,18 +165,31 @@ abbrev pub after_fast_tokens : Bool → ℕ → FastState → Formatter → Form
 after_fast_tokens taken k m f =
     with_fast_state k m (set_inline_close (not taken && f.inline_close) (set_returned (not taken && f.returned) f))
 
--- g is the code's state f with this change of the definition's formatter, and with a text of the length n.
-pub record ChangedBy (change : Formatter → Formatter) (n : ℕ) (f g : code.Formatter) : Type 0 where
-  pub form : (stack : List ℕ) (x : Locals) → formatter_of g stack x ≡ change (formatter_of f stack x)
-  pub len : g.len ≡ n
+-- g is the code's state f with this change of the definition's formatter, but for the text.
+pub record ChangedBy (change : Formatter → Formatter) (f g : code.Formatter) : Type 0 where
+  pub form : (x : Locals) → formatter_of g x ≡ change (formatter_of f x)
+  pub same : Same f g
   pub commas : g.commas ≡ f.commas
-  pub count : g.break_count ≡ f.break_count
-  pub signature : g.sig_break_depth ≡ f.sig_break_depth
+
+-- The code's fields after a fast token of the kind k, where the kind before is p: g has those, and else is f.
+pub record TracksFastToken (p k : ℕ) (f g : code.Formatter) : Type 0 where
+  pub state : fast_state_of g ≡ fast_state_after p k (fast_state_of f)
+  pub form : (x : Locals) → formatter_of g x ≡ with_fields (fast_state_of g) (formatter_of f x)
+  pub given : given g ≡ given f
+  pub sink : g.sink ≡ f.sink
+  pub commas : g.commas ≡ f.commas
+
+-- A place among fast tokens: the index of the next row, the last kind, the length of the text, and the fields.
+pub record FastTokens : Type 0 where
+  pub at : ℕ
+  pub prev : ℕ
+  pub len : ℕ
+  pub state : FastState
 
 -- Fast tokens are laid out from the row at `from`: r tells where they end, and k is the output l with their text. Before them the
 -- text's length is n, the last kind `prev`, and the fields are those of m. The definition's walk comes to the same.
 pub record FastTokensLaidOut
-    (rows text : List ℕ) (from n prev : ℕ) (m : FastState) (t : FastKinds) (l k : List ℕ) (r : code-fast.FastTokens) : Type 0 where
+    (rows text : List ℕ) (from n prev : ℕ) (m : FastState) (t : FastKinds) (l k : List ℕ) (r : FastTokens) : Type 0 where
   pub whole : r.at ≡ from + row_size * ((r.at - from) / row_size)
   pub head : TokenBoundary rows text r.at
   pub group : r.state.group_depth ≤ m.group_depth
@@ -187,5 +201,16 @@ pub record FastTokensLaidOut
       (o : Options) (f : Formatter) (c i : ℕ) → BeforeFastTokens f prev m t
       → lay_from o (length l) (finished (state f (take n l) c)) i (tokens_of (drop from rows) text)
       ≡ lay_from o (length l)
-      (finished (state (after_fast_tokens (ltb from r.at) (kind_number r.prev) r.state f) (take r.len k) c))
+      (finished (state (after_fast_tokens (ltb from r.at) r.prev r.state f) (take r.len k) c))
       (i + (r.at - from) / row_size) (tokens_of (drop r.at rows) text)
+
+-- The last kind, as a number; 0 where there was no token.
+abbrev pub last_kind : code.Formatter → ℕ
+last_kind f = kind_number (unwrap_or f.prev Eof)
+
+-- From the row at `from`, the code's state p comes to q at the row at `at`.
+pub record LaysFastTokens (p : code.Formatter) (from at : ℕ) (q : code.Formatter) : Type 0 where
+  pub laid :
+      FastTokensLaidOut p.source.rows.now p.source.text.now from p.sink.len (last_kind p) (fast_state_of p) (fast_kinds_of p)
+      p.sink.out.now q.sink.out.now (record { at = at; prev = last_kind q; len = q.sink.len; state = fast_state_of q })
+  pub changed : ChangedBy (with_fast_state (last_kind q) (fast_state_of q)) p q

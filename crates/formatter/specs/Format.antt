@@ -1,6 +1,7 @@
 -- The loop over checked rows: which rows are a token's, and what a layout comes to.
 -- Assumes nothing.
-use Rattle.std.specs.Prelude.{Bool, true, cond, ◌&&◌, List, [], ◌∷◌, ◌++◌, ◌≡◌, ℕ, zero, suc, ◌+◌, ◌*◌, ◌/◌, ◌%◌, ◌≤◌, eqb, length, drop, min, Result, Ok, Err}
+use Rattle.std.specs.Prelude.{Bool, true, false, cond, ◌&&◌, List, [], ◌∷◌, ◌++◌, ◌≡◌, ℕ, zero, suc, ◌+◌, ◌*◌, ◌/◌, ◌%◌, ◌≤◌, ◌<◌, eqb, length, drop, min, Result, Ok, Err}
+use Rattle.shared.specs.Numbers.{most32}
 use Rattle.std.proofs.Math.Option.{none}
 use Rattle.shared.specs.Report.{deep}
 use Rattle.rows.specs.Kinds.{Leading, TokenRow, Trailing, Other}
@@ -10,8 +11,9 @@ use Rattle.rows.specs.Row.{Row, row_size, row_at, rows_of}
 use Rattle.rows.specs.Checks.{Before, bad_from, GoodRows, most_row_bytes}
 use Rattle.rows.specs.Token.{tokens_of}
 use Rattle.definition.specs.Formatter.{new}
-use Rattle.definition.specs.Act.{State}
-use Rattle.definition.specs.Layout.{Ended, finished, stopped, lay}
+use Rattle.definition.specs.Act.{State, run}
+use Rattle.definition.specs.PushToken.{turn}
+use Rattle.definition.specs.Layout.{Ended, finished, stopped, checked, lay}
 use Rattle.formatter.specs.declared.Formatter.{Formatter}
 use Rattle.formatter.specs.declared.Ends.{Ends}
 use Rattle.formatter.specs.declared.TokenAt.{TokenAt}
@@ -19,8 +21,9 @@ use Rattle.formatter.specs.declared.token.Place.{Place}
 use Rattle.formatter.specs.declared.Finished.{Finished}
 use Rattle.formatter.specs.declared.WalkError.{WalkError}
 use Rattle.formatter.specs.declared.WalkError.TheVariants.{Deep, Full}
-use Rattle.formatter.specs.CodeState.{formatter_of, locals_of}
-use Rattle.formatter.specs.Token.{Ahead, stack_size}
+use Rattle.formatter.specs.CodeState.{Locals, formatter_of, locals_of, options_of, state_of}
+use Rattle.formatter.specs.Does.{Same, Does}
+use Rattle.formatter.specs.Token.{Ready, Ahead, AtToken}
 
 -- ---- rows
 
@@ -92,15 +95,46 @@ pub record NextPlace (rows : List ℕ) (token : TokenAt) (taken : Bool) (place :
 pub record Ending (rows : List ℕ) (ends : Ends) : Type 0 where
   pub ahead : (j : ℕ) → Ahead ends (row_size * j) rows
 
+-- ---- a token
+
+-- What `push_token` asks: the rows are checked, the token is the one whose rows begin at its index `lead`, what all rows tell is
+-- true, and an arm may begin.
+pub record HasToken (token : TokenAt) (f : Formatter) : Type 0 where
+  pub checked : CheckedRows f.source.rows.now f.source.text.now
+  pub boundary : TokenBoundary f.source.rows.now f.source.text.now token.lead
+  pub inside : token.lead < length f.source.rows.now
+  pub its_rows : TokenRows f.source.rows.now token.lead token.index token
+  pub index : token.index < most32
+  pub ends : Ending f.source.rows.now f.ends
+  pub ready : Ready f
+
+-- A refusal of the walk, as the code tells it.
+abbrev pub error_of : ℕ → ℕ → WalkError
+error_of n i = cond (eqb n deep) (Deep i) (Full i)
+
+-- How the code tells that a token is laid out, or that the walk stops at it.
+abbrev pub pushed_of : Ended → Result (Unit {0}) WalkError
+pushed_of (finished s) = Ok tt
+pushed_of (stopped n i) = Err (error_of n i)
+
+-- From p, laying out a token answers r and comes to q, as the turn of the definition's walk does.
+pub record TokenPushed (token : TokenAt) (p : Formatter) (r : Result (Unit {0}) WalkError) (q : Formatter) : Type 0 where
+  pub same : Same p q
+  pub size : length q.sink.out.now ≡ length p.sink.out.now
+  pub answer :
+      AtToken token p (λ t ts. (x : Locals) → x.too_deep ≡ none → x.skip_next ≡ false
+      → r ≡ pushed_of (checked (length p.sink.out.now) token.index (run (turn (options_of p.options) token.index t ts) (state_of x p))))
+  pub does :
+      r ≡ Ok tt → AtToken token p (λ t ts. (x : Locals) → x.too_deep ≡ none → x.skip_next ≡ false
+      → Does (turn (options_of p.options) token.index t ts) x p q)
+
 -- ---- the layout
 
--- A state as `Formatter::new` makes it, with an empty text, and a stack that holds 64 numbers.
-pub record Fresh (f : Formatter) (stack : List ℕ) : Type 0 where
-  pub new : formatter_of f stack (locals_of new) ≡ new
-  pub empty : f.len ≡ 0
+-- A state as `Formatter::new` makes it, with an empty text.
+pub record Fresh (f : Formatter) : Type 0 where
+  pub new : formatter_of f (locals_of new) ≡ new
+  pub empty : f.sink.len ≡ 0
   pub none : f.commas ≡ 0
-  pub count : f.break_count ≡ 0
-  pub size : stack_size ≤ length stack
 
 -- How the definition's walk over all tokens ends.
 abbrev pub walk_of : List ℕ → List ℕ → Options.Options → List ℕ → Ended
@@ -109,7 +143,7 @@ walk_of rows text o out = lay o (length out) (tokens_of rows text)
 -- The same as the code tells it.
 abbrev pub formatted_of : Ended → Result Finished WalkError
 formatted_of (finished s) = Ok (record { length = length s.out; commas = s.commas })
-formatted_of (stopped n i) = Err (cond (eqb n deep) (Deep i) (Full i))
+formatted_of (stopped n i) = Err (error_of n i)
 
 -- r is the answer of a layout into the output l, and m is the output after it: the walk's text, and l after the text.
 pub record LaidOut (rows text : List ℕ) (o : Options.Options) (l : List ℕ) (r : Result Finished WalkError)

@@ -1,4 +1,5 @@
 pub mod CodeState
+pub mod Stack
 pub mod Does
 pub mod Token
 pub mod Parts

@@ -10,7 +10,6 @@ use Rattle.rows.specs.Bounds.{Inside, InBounds}
 use Rattle.rows.specs.Token.{Token, bytes_of, tokens_of}
 use Rattle.lookahead.specs.Scan.{lacks, width_rows}
 use Rattle.formatter.specs.declared.Formatter.{Formatter}
-use Rattle.formatter.specs.declared.Options.{Options}
 use Rattle.formatter.specs.declared.Ends.{Ends}
 use Rattle.formatter.specs.declared.TokenAt.{TokenAt}
 use Rattle.formatter.specs.declared.SignatureDepth.{SignatureDepth}
@@ -23,38 +22,29 @@ depth_of None = 0
 depth_of (Some d) = d.0
 
 -- The indent width is at most 16, and the indent is a 32-bit number.
-abbrev pub IndentBounds : Options → Formatter → Type 0
-IndentBounds options f = (options.indent_width ≤ most_indent_width) × (f.indent ≤ most32)
-
--- How many numbers the broken-group stack holds.
-abbrev pub stack_size : ℕ
-stack_size = 64
+abbrev pub IndentBounds : Formatter → Type 0
+IndentBounds f = (f.options.indent_width ≤ most_indent_width) × (f.indent ≤ most32)
 
 -- The text fits the output so far, and the indent may grow by one.
-pub record CanWrite (options : Options) (f : Formatter) (out : List ℕ) : Type 0 where
-  pub within : f.len ≤ length out
-  pub width : options.indent_width ≤ most_indent_width
+pub record CanWrite (f : Formatter) : Type 0 where
+  pub within : f.sink.len ≤ length f.sink.out.now
+  pub width : f.options.indent_width ≤ most_indent_width
   pub indent : f.indent < most32
 
 -- What an arm asks: the text fits so far, and each count may grow by one.
-pub record Ready (options : Options) (f : Formatter) (out : List ℕ) : Type 0 where
-  pub fits : CanWrite options f out
+pub record Ready (f : Formatter) : Type 0 where
+  pub fits : CanWrite f
   pub group : f.group_depth.0 < most32
   pub inline : f.inline_depth.0 < most32
   pub records : f.record_depth.0 < most32
   pub signature : depth_of f.sig_break_depth < most32
   pub commas : f.commas < most32
 
--- The stack holds 64 numbers, and no more of them are in use.
-pub record StackRoom (f : Formatter) (stack : List ℕ) : Type 0 where
-  pub most : f.break_count ≤ stack_size
-  pub size : stack_size ≤ length stack
-
--- The counts that a lexeme leaves as they were.
+-- What a lexeme leaves as it was.
 pub record Kept (f g : Formatter) : Type 0 where
   pub indent : g.indent ≡ f.indent
   pub group : g.group_depth.0 ≡ f.group_depth.0
-  pub count : g.break_count ≡ f.break_count
+  pub stack : g.break_stack ≡ f.break_stack
 
 -- ---- a token
 
@@ -66,15 +56,23 @@ pub record InRows (token : TokenAt) (rows text : List ℕ) : Type 0 where
   pub inside : Inside text (row_at rows token.own)
   pub index : token.index < most32
 
+-- The same of the formatter's rows and text.
+abbrev pub HasRows : TokenAt → Formatter → Type 0
+HasRows token f = InRows token f.source.rows.now f.source.text.now
+
 -- What `ends` tells is true of the rows from the index `lead` on: which kinds they lack, and how wide their tokens are at most.
 pub record Ahead (ends : Ends) (lead : ℕ) (rows : List ℕ) : Type 0 where
   pub commas : ends.commas ≤ lead → lacks Comma (rows_of (drop lead rows)) ≡ true
   pub braces : ends.braces ≤ lead → lacks RightBrace (rows_of (drop lead rows)) ≡ true
   pub width : 0 < ends.width → width_rows (rows_of (drop lead rows)) ≤ ends.width
 
+-- The same of what the formatter was told, from the token on.
+abbrev pub HasEnds : TokenAt → Formatter → Type 0
+HasEnds token f = (token.lead ≤ length f.source.rows.now) × Ahead f.ends token.lead f.source.rows.now
+
 -- The bytes of a token's lexeme.
-abbrev pub lexeme_of : TokenAt → List ℕ → List ℕ → List ℕ
-lexeme_of token rows text = bytes_of text (row_at rows token.own)
+abbrev pub lexeme_of : TokenAt → Formatter → List ℕ
+lexeme_of token f = bytes_of f.source.text.now (row_at f.source.rows.now token.own)
 
 -- The definition's token without trivia that has this kind and lexeme.
 abbrev pub bare_token : ℕ → List ℕ → Token
@@ -83,11 +81,11 @@ bare_token kind lexeme = record { kind = kind; lexeme = lexeme; leading = []; tr
 -- The code's token stands for the definition's token t, and the tokens ts come after it.
 pub record StandsFor (token : TokenAt) (rows text : List ℕ) (t : Token) (ts : List Token) : Type 0 where
   pub kind : t.kind ≡ kind_number token.kind
-  pub lexeme : t.lexeme ≡ lexeme_of token rows text
+  pub lexeme : t.lexeme ≡ bytes_of text (row_at rows token.own)
   pub ahead : tokens_of (drop token.lead rows) text ≡ t ∷ ts
   pub after : tokens_of (drop (token.own + row_size) rows) text ≡ ts
   pub bounds : InBounds text (rows_of (drop token.lead rows))
 
 -- P holds of the definition's token that the code's token stands for, and of the tokens after it.
-abbrev pub AtToken : TokenAt → List ℕ → List ℕ → (Token → List Token → Type 0) → Type 0
-AtToken token rows text P = (t : Token) (ts : List Token) → StandsFor token rows text t ts → P t ts
+abbrev pub AtToken : TokenAt → Formatter → (Token → List Token → Type 0) → Type 0
+AtToken token f P = (t : Token) (ts : List Token) → StandsFor token f.source.rows.now f.source.text.now t ts → P t ts

@@ -5,9 +5,7 @@ ghost use Rattle.shared.specs.Bytes.{byte};
 ghost use Rattle.rows.specs.Row.{row_size, rows_of};
 ghost use Rattle.sink.specs.Sink.{Writes};
 ghost use Rattle.formatter.specs.Format.{RowsLeft, only_tokens};
-ghost use Rattle.formatter.specs.FastTokens.{ChangedBy};
-ghost use Rattle.formatter.specs.FastBraces.{MayStartFastBraces, FastBracesLaidOut};
-ghost use Rattle.formatter.specs.FastBraces.{fast_braces_at, with_fast_braces};
+ghost use Rattle.formatter.specs.FastBraces.{MayStartFastBraces, LaysFastBraces};
 ghost use Rattle.formatter.specs.FastBraces.{opener_bytes, closer_bytes, after_opener, after_closer};
 
 use crate::{FnState, Formatter, InlineDepth};
@@ -24,24 +22,23 @@ pub struct FastBraces {
     pub closed: bool,
 }
 
-impl Formatter {
+impl<'a> Formatter<'a> {
     // Whether fast braces may start at the row at `at`: in a one-line block and in a line, outside records,
     // where no `record` or `fn` is looked back to, and there is no trivia.
-    pub fn may_start_fast_braces(self, bare: bool, rows: &[u8], at: usize) -> bool
-        requires { RowsLeft rows.now at }
-        ensures { result ≡ true → MayStartFastBraces self bare }
+    pub fn may_start_fast_braces(&self, at: usize) -> bool
+        requires { RowsLeft self.now.source.rows.now at }
+        ensures { result ≡ true → MayStartFastBraces self.now }
     {
         if !self.in_one_line_block() {
             return false;
         }
-        if rows.len() <= at {
+        if self.source.rows.len() <= at {
             return false;
         }
-        let kind = row_at(rows, at).token_kind();
-        if kind != Kind::LeftBrace && kind != Kind::RightBrace {
+        if (Kind::RightBrace as u32) < row_at(self.source.rows, at).kind {
             return false;
         }
-        if !bare {
+        if !self.bare {
             return false;
         }
         if self.at_line_start {
@@ -56,47 +53,40 @@ impl Formatter {
         self.fn_state == FnState::Outside
     }
 
-    // Lays out the braces from the row at `at` on, while they stand in a one-line block and two bytes are
-    // free, and tells where they end.
-    pub fn push_fast_braces(self, out: &mut [u8], rows: &[u8], at: usize) -> FastBraces
-        requires at_in_bounds { (at ≤ length rows.now) × (self.len ≤ length out.old) }
-        requires rows_value { only_tokens (rows_of (drop at rows.now)) ≡ true }
-        requires rows_bound { self.inline_depth.0 + length rows.now < past64 }
-        ensures { FastBracesLaidOut rows.now (fast_braces_at self at)
-            out.old out.new result }
+    // Lays out the braces from the row at `from` on, while they stand in a one-line block and two bytes are
+    // free, and answers the index of the row after them.
+    pub fn push_fast_braces(&mut self, from: usize) -> usize
+        requires at_in_bounds { (from ≤ length self.old.source.rows.now)
+            × (self.old.sink.len ≤ length self.old.sink.out.now) }
+        requires rows_value { only_tokens (rows_of (drop from self.old.source.rows.now)) ≡ true }
+        requires rows_bound { self.old.inline_depth.0 + length self.old.source.rows.now < past64 }
+        ensures { LaysFastBraces self.old from result self.new }
     {
+        let rows = self.source.rows;
         let mut b = FastBraces {
-            at,
-            len: self.len,
+            at: from,
+            len: self.sink.len,
             prev: self.prev.unwrap_or(Kind::Eof),
             depth: self.inline_depth.0,
             closed: self.just_closed_inline,
         };
         while ROW_BYTES <= rows.len() - b.at {
-            if !takes_brace(b.depth, out.len() - b.len) {
-                return b;
+            if !takes_brace(b.depth, self.sink.out.len() - b.len) {
+                break;
             }
             match row_at(rows, b.at).token_kind() {
-                Kind::LeftBrace => b = open_fast_brace(out, b),
-                Kind::RightBrace => b = close_fast_brace(out, b),
-                _ => return b,
+                Kind::LeftBrace => b = open_fast_brace(self.sink.out, b),
+                Kind::RightBrace => b = close_fast_brace(self.sink.out, b),
+                _ => break,
             }
         }
-        b
-    }
-
-    // The state after fast braces that end at `b`.
-    pub fn after_fast_braces(mut self, b: FastBraces) -> Self
-        ensures { ChangedBy (with_fast_braces b) b.len self result }
-    {
-        self.len = b.len;
+        self.sink.len = b.len;
         self.prev = Some(b.prev);
         self.inline_depth = InlineDepth(b.depth);
         self.just_closed_inline = b.closed;
-        self
+        b.at
     }
 }
-
 // Whether a one-line block is open, and a space and a brace fit into `room` bytes.
 fn takes_brace(depth: usize, room: usize) -> bool
     ensures { result ≡ true → (0 < depth) × (2 ≤ room) }

@@ -1,25 +1,23 @@
 // Fast tokens: those that only write their lexeme, and a space before it, are laid out in a tight loop. It is
 // a second form of their arms.
-ghost use Rattle.std.specs.Prelude.{true, cond, not, ◌&&◌, ◌≡◌, ◌+◌, ◌-◌, ◌/◌, ◌*◌, ◌^◌, ◌≤◌, ◌<◌, eqb, length, unwrap_or};
-ghost use Rattle.rows.specs.declared.kind.Kind.TheVariants.{Eof};
+ghost use Rattle.std.specs.Prelude.{true, cond, not, ◌&&◌, ◌≡◌, ◌+◌, ◌-◌, ◌/◌, ◌*◌, ◌^◌, ◌≤◌, ◌<◌, eqb, length};
 ghost use Rattle.rows.specs.KindNumber.{kind_number};
+ghost use Rattle.rows.specs.Kinds.{Other};
+ghost use Rattle.spaces.specs.Between.{bit};
 ghost use Rattle.rows.specs.Row.{row_size};
 ghost use Rattle.definition.specs.Emit.{is_some};
 ghost use Rattle.formatter.specs.CodeState.{signature_of};
-ghost use Rattle.formatter.specs.Token.{StackRoom};
 ghost use Rattle.formatter.specs.Format.{CheckedRows, TokenBoundary, RowsLeft, NoTriviaIf};
 ghost use Rattle.formatter.specs.FastTokens.{MayStartFastTokens, BareRow, RowAhead, IsFastToken};
-ghost use Rattle.formatter.specs.FastTokens.{FastTokensLaidOut, Consistent, ChangedBy};
+ghost use Rattle.formatter.specs.FastTokens.{LaysFastTokens, TracksFastToken};
 ghost use Rattle.formatter.specs.FastTokens.{fast_kinds_of, fast_kind_bits, changing_kinds, space_before};
-ghost use Rattle.formatter.specs.FastTokens.{fast_state_of, fast_state_after, with_fast_state};
 ghost use Rattle.formatter.specs.FastTokens.{fn_after, pending_after, unary_after, group_after};
 
 use crate::lexeme::{named_after, record_pending_after};
 use crate::{FnState, Formatter, GroupDepth};
 use rows::{Kind, KindSet, ROW_BYTES, What, row_at};
-use sink::put::put_token;
 use spaces::is_value;
-use spaces::loose::{loose_after, space_after};
+use spaces::loose::loose_after;
 
 // These kinds are fast in every state: Colon to Minus, Record, Identifier to Other.
 const FAST: KindSet = KindSet(0x7_ffe7_fe00);
@@ -33,46 +31,24 @@ const FN: KindSet = KindSet(1 << Kind::Fn as u64);
 
 const CLOSERS: KindSet = KindSet(1 << Kind::RightParen as u64 | 1 << Kind::RightBracket as u64);
 
-// These change a field of `FastState` where `fn_state` is `Outside` and no record is pending: RightParen,
-// RightBracket, Minus, Fn, Record.
+// These change a field that fast tokens change where `fn_state` is `Outside` and no record is pending:
+// RightParen, RightBracket, Minus, Fn, Record.
 const CHANGING: KindSet = KindSet(
     CLOSERS.0 | FN.0 | 1 << Kind::Minus as u64 | 1 << Kind::Record as u64,
 );
 
-// The fields of the state that fast tokens change, but for the last kind; `changing`, the kinds that change
-// one of them; and `loose`, the kinds after which a space stands.
-#[derive(Clone, Copy)]
-pub struct FastState {
-    pub fn_state: FnState,
-    pub group_depth: usize,
-    pub record_pending: bool,
-    pub changing: KindSet,
-    pub prev_minus_is_unary: bool,
-    pub loose: KindSet,
-}
-
-// Where fast tokens end: the index of the first row after them, the last token's kind, the length of the
-// text, and the fields that they changed.
-#[derive(Clone, Copy)]
-pub struct FastTokens {
-    pub at: usize,
-    pub prev: Kind,
-    pub len: usize,
-    pub state: FastState,
-}
-
-impl Formatter {
+impl<'a> Formatter<'a> {
     // Whether fast tokens may start at the row at `at`: in a line, and not right after the `}` of a one-line
     // block. Braces, openers, Newline, Eof and trivia never are fast.
-    pub fn may_start_fast_tokens(self, rows: &[u8], at: usize) -> bool
-        requires { RowsLeft rows.now at }
-        ensures { result ≡ true → MayStartFastTokens self }
+    pub fn may_start_fast_tokens(&self, at: usize) -> bool
+        requires { RowsLeft self.now.source.rows.now at }
+        ensures { result ≡ true → MayStartFastTokens self.now }
     {
-        if rows.len() <= at {
+        if self.source.rows.len() <= at {
             return false;
         }
-        let kind = row_at(rows, at).token_kind();
-        if kind as u32 <= Kind::LeftParen as u32 || kind == Kind::LeftBracket {
+        let kind = row_at(self.source.rows, at).kind;
+        if kind <= Kind::LeftParen as u32 || kind == Kind::LeftBracket as u32 {
             return false;
         }
         if self.at_line_start {
@@ -87,72 +63,57 @@ impl Formatter {
         true
     }
 
-    // Lays out the fast tokens from the row at `from` on, as many as fit into `out`, and tells where they
-    // end.
-    pub fn push_fast_tokens(
-        self,
-        out: &mut [u8],
-        stack: &[u32],
-        rows: &[u8],
-        text: &[u8],
-        from: usize,
-        bare: bool,
-    ) -> FastTokens
-        requires stack_room { StackRoom self stack.now }
-        requires len_in_bounds { (self.len ≤ length out.old) × CheckedRows rows.now text.now }
-        requires token_boundary { TokenBoundary rows.now text.now from }
-        requires no_trivia_if { NoTriviaIf bare rows.now }
-        ensures { FastTokensLaidOut rows.now text.now from self.len
-            (kind_number (unwrap_or self.prev Eof)) (fast_state_of self) (fast_kinds_of self stack.now)
-            out.old out.new result }
+    // Lays out the fast tokens from the row at `from` on, as many as fit, and answers the index of the row
+    // after them. What each turn reads is in locals: in fields it takes longer.
+    pub fn push_fast_tokens(&mut self, from: usize) -> usize
+        requires len_in_bounds { self.old.sink.len ≤ length self.old.sink.out.now }
+        requires checked { CheckedRows self.old.source.rows.now self.old.source.text.now }
+        requires token_boundary { TokenBoundary self.old.source.rows.now self.old.source.text.now from }
+        requires no_trivia_if { NoTriviaIf self.old.bare self.old.source.rows.now }
+        ensures { LaysFastTokens self.old from result self.new }
     {
-        let fast = self.fast_kinds(stack);
-        let mut state = self.fast_state();
+        let bare = self.bare;
+        let rows = self.source.rows;
+        let text = self.source.text;
+        let fast = self.fast_kinds();
+        let mut changing = changing_kinds(self.fn_state, self.record_pending);
+        let mut loose = loose_after(Kind::Other, self.prev_minus_is_unary);
         let mut at = from;
-        let mut len = self.len;
-        let mut prev = self.prev.unwrap_or(Kind::Eof);
-        let mut spaced = space_after(state.loose, prev);
-        while is_fast_token(fast, rows, at, bare, out.len(), len, spaced) {
+        let mut prev = self.prev.unwrap_or(Kind::Eof) as u32;
+        let mut spaced = bit(loose, prev);
+        while is_fast_token(fast, rows, at, bare, self.sink.room(), spaced) {
             let row = row_at(rows, at);
-            let kind = row.token_kind();
-            let space = space_before(spaced, kind);
-            let start = row.start as usize;
-            let end = row.end as usize;
-            len = put_token(out, len, space, text, start, end);
-            state = fast_state_after(state, prev, kind);
-            prev = kind;
-            spaced = space_after(state.loose, kind);
+            let space = space_before(spaced, row.kind);
+            self.sink.put_token(space, text, row.start as usize, row.end as usize);
+            if bit(changing, row.kind) == 1 {
+                self.track_fast_token(Kind::of(prev), row.token_kind());
+                changing = changing_kinds(self.fn_state, self.record_pending);
+                loose = loose_after(Kind::Other, self.prev_minus_is_unary);
+            }
+            prev = row.kind;
+            spaced = bit(loose, prev);
             at += ROW_BYTES;
         }
-        FastTokens {
-            at,
-            prev,
-            len,
-            state,
-        }
+        self.prev = Some(Kind::of(prev));
+        at
     }
 
-    // The state after fast tokens that end at `ahead`.
-    pub fn after_fast_tokens(mut self, ahead: FastTokens) -> Self
-        ensures { ChangedBy (with_fast_state (kind_number ahead.prev) ahead.state) ahead.len self result }
+    // Tracks a fast token of this kind, after one of the kind `prev`.
+    fn track_fast_token(&mut self, prev: Kind, kind: Kind)
+        ensures { TracksFastToken (kind_number prev) (kind_number kind) self.old self.new }
     {
-        let state = ahead.state;
-        self.len = ahead.len;
-        self.prev = Some(ahead.prev);
-        self.fn_state = state.fn_state;
-        self.record_pending = state.record_pending;
-        self.prev_minus_is_unary = state.prev_minus_is_unary;
-        self.group_depth = GroupDepth(state.group_depth);
-        self
+        self.fn_state = fn_state_after(self.fn_state, kind);
+        self.record_pending = pending_after(self.record_pending, kind);
+        self.prev_minus_is_unary = unary_after(self.prev_minus_is_unary, prev, kind);
+        self.group_depth = GroupDepth(group_depth_after(self.group_depth.0, kind));
     }
 
     // The kinds that are fast in this state, as bits: a Comma where it does not break its line, `else` where
     // no `}` stands before it, `fn` outside broken signatures, `)` and `]` where nothing is broken.
-    fn fast_kinds(self, stack: &[u32]) -> KindSet
-        requires { StackRoom self stack.now }
-        ensures { result.0 ≡ fast_kind_bits (fast_kinds_of self stack.now) }
+    fn fast_kinds(&self) -> KindSet
+        ensures { result.0 ≡ fast_kind_bits (fast_kinds_of self.now) }
     {
-        let commas = kinds_if(!self.breaks_comma(stack), COMMA);
+        let commas = kinds_if(!self.breaks_comma(), COMMA);
         let elses = kinds_if(!self.prev_is(Kind::RightBrace), ELSE);
         let fns = kinds_if(!self.in_broken_signature(), FN);
         let closers = kinds_if(self.nothing_is_broken(), CLOSERS);
@@ -160,91 +121,62 @@ impl Formatter {
     }
 
     // Whether the walk is in no broken signature and in no broken list.
-    fn nothing_is_broken(self) -> bool
+    fn nothing_is_broken(&self) -> bool
         ensures { result
-            ≡ not (is_some (signature_of self.sig_break_depth)) && eqb self.break_count 0 }
+            ≡ not (is_some (signature_of self.now.sig_break_depth)) && eqb (length self.now.break_stack) 0 }
     {
-        !self.in_broken_signature() && self.break_count == 0
-    }
-
-    // The fields that fast tokens change, as they are now.
-    fn fast_state(self) -> FastState
-        ensures { result ≡ fast_state_of self }
-    {
-        FastState {
-            fn_state: self.fn_state,
-            group_depth: self.group_depth.0,
-            record_pending: self.record_pending,
-            changing: changing_kinds(self.fn_state, self.record_pending),
-            prev_minus_is_unary: self.prev_minus_is_unary,
-            loose: loose_after(Kind::Other, self.prev_minus_is_unary),
-        }
+        !self.in_broken_signature() && self.break_stack.is_empty()
     }
 }
 
-// Whether the row at `at` is a token of the kinds `fast`, without trivia, that fits after `len` of `size`
-// bytes. `spaced` is 1 where a space may stand before it, else 0.
+// Whether the row at `at` is a token of the kinds `fast`, without trivia, that fits into `room` bytes.
+// `spaced` is 1 where a space may stand before it, else 0.
 fn is_fast_token(
     fast: KindSet,
     rows: &[u8],
     at: usize,
     bare: bool,
-    size: usize,
-    len: usize,
+    room: usize,
     spaced: usize,
 ) -> bool
     requires row_ahead { RowAhead rows.now at }
     requires no_trivia_if { NoTriviaIf bare rows.now }
-    requires len_le_size { (len ≤ size) × (size < 2 ^ 63) × (spaced < 2) }
-    ensures { result ≡ true → IsFastToken rows.now fast.0 at size len spaced }
+    requires few_spaces { spaced < 2 }
+    ensures { result ≡ true → IsFastToken rows.now fast.0 at room spaced }
 {
     if rows.len() <= at {
         return false;
     }
     let row = row_at(rows, at);
-    let kind = row.token_kind();
-    if !fast.contains(kind) || !is_bare_row(rows, at, bare) {
+    if bit(fast, row.kind) == 0 || !is_bare_row(rows, at, bare) {
         return false;
     }
-    has_room(
-        size,
-        len,
-        space_before(spaced, kind),
+    fits(
+        room,
+        space_before(spaced, row.kind),
         row.start as usize,
         row.end as usize,
     )
 }
 
+// Whether the kind of this number is in the set: 1 or 0. The loop compares kinds as rows have them: as
+// `Kind`s they take longer.
+fn bit(set: KindSet, kind: u32) -> usize
+    requires { kind ≤ Other }
+    ensures { result ≡ bit set.0 kind }
+{
+    (set.0 >> kind) as usize % 2
+}
+
 // How many spaces stand before a fast token of this kind, where `spaced` many may: the kinds before Hash
 // (closers, separators and dots) take none.
-fn space_before(spaced: usize, kind: Kind) -> usize
-    ensures { result ≡ space_before spaced (kind_number kind) }
+fn space_before(spaced: usize, kind: u32) -> usize
+    ensures { result ≡ space_before spaced kind }
 {
-    if (kind as u32) < Kind::Hash as u32 {
+    if kind < Kind::Hash as u32 {
         return 0;
     }
     spaced
-}
-
-// The fields after a token of this kind, where the one before has the kind `prev`. Most kinds change none.
-fn fast_state_after(state: FastState, prev: Kind, kind: Kind) -> FastState
-    requires { Consistent state }
-    ensures { result ≡ fast_state_after (kind_number prev) (kind_number kind) state }
-{
-    if !state.changing.contains(kind) {
-        return state;
-    }
-    let fn_state = fn_state_after(state.fn_state, kind);
-    let record_pending = pending_after(state.record_pending, kind);
-    let unary = unary_after(state.prev_minus_is_unary, prev, kind);
-    FastState {
-        fn_state,
-        group_depth: group_depth_after(state.group_depth, kind),
-        record_pending,
-        changing: changing_kinds(fn_state, record_pending),
-        prev_minus_is_unary: unary,
-        loose: loose_after(Kind::Other, unary),
-    }
 }
 
 // The kinds that change a field, as bits: all, where `fn` or `record` is still looked back to.
@@ -327,15 +259,13 @@ fn is_bare_row(rows: &[u8], at: usize, bare: bool) -> bool
     row_at(rows, next).what != What::Trailing as u32
 }
 
-// Whether the lexeme from `start` to `end` has a byte, and fits with the space before it after `len` of
-// `size` bytes.
-fn has_room(size: usize, len: usize, space: usize, start: usize, end: usize) -> bool
-    requires len_le_size { (len ≤ size) × (size < 2 ^ 63) }
-    requires space_bound { (space < 2) × (end < 2 ^ 32) }
-    ensures { result ≡ true → (start < end) × (space + (end - start) ≤ size - len) }
+// Whether the lexeme from `start` to `end` has a byte, and fits into `room` bytes with the space before it.
+fn fits(room: usize, space: usize, start: usize, end: usize) -> bool
+    requires { (space < 2) × (end < 2 ^ 32) }
+    ensures { result ≡ true → (start < end) × (space + (end - start) ≤ room) }
 {
     if end <= start {
         return false;
     }
-    len + space + (end - start) <= size
+    space + (end - start) <= room
 }

@@ -1,173 +1,157 @@
-// `format`, the loop over the tokens, and `push_token`, the arm of a token's kind.
-ghost use Rattle.std.specs.Prelude.{true, false, not, ◌&&◌, List, ◌≡◌, ℕ, ◌+◌, ◌≤◌, ◌<◌, eqb, ltb, length};
+// `format`, the loop over the tokens, and `push_token` with the arm of a token's kind.
+ghost use Rattle.std.specs.Prelude.{true, false, not, ◌&&◌, ◌≡◌, ◌+◌, ◌≤◌, ◌<◌, eqb, ltb, length};
 ghost use Rattle.shared.specs.Numbers.{most32};
 ghost use Rattle.rows.specs.Options.{most_indent_width};
 ghost use Rattle.rows.specs.Row.{row_size};
 ghost use Rattle.definition.specs.PushToken.{arm, overflows};
-ghost use Rattle.formatter.specs.CodeState.{Locals, code_state, fields_on, options_of};
+ghost use Rattle.formatter.specs.declared.WalkError.TheVariants.{Full};
+ghost use Rattle.formatter.specs.CodeState.{Locals, fields_of, options_of};
 ghost use Rattle.formatter.specs.Does.{Does};
-ghost use Rattle.formatter.specs.Token.{Ready, StackRoom, InRows, Ahead, AtToken};
+ghost use Rattle.formatter.specs.Token.{Ready, HasRows, HasEnds, AtToken};
 ghost use Rattle.formatter.specs.Parts.{returns_early, took_next};
 ghost use Rattle.formatter.specs.Format.{Fresh, CheckedRows, LaidOut, NextToken, NextPlace, NoTriviaIf};
+ghost use Rattle.formatter.specs.Format.{HasToken, TokenPushed};
 
 use crate::token::{Place, ends_of, place_at, token_at};
-use crate::{Ends, Finished, Formatter, Options, STACK_SIZE, TokenAt, WalkError};
+use crate::{Finished, Formatter, TokenAt, WalkError};
 use rows::{Kind, ROW_BYTES};
 
-impl Formatter {
-    // Lays out all tokens of checked rows into `out`, and tells how that ends. Where `bare` is true, no row
-    // is trivia. What `push_token` of format.rs does around its arms stands here: in a method between, the
-    // state would be copied.
-    pub fn format(
-        mut self,
-        options: Options,
-        out: &mut [u8],
-        stack: &mut [u32],
-        rows: &[u8],
-        text: &[u8],
-        bare: bool,
-    ) -> Result<Finished, WalkError>
-        requires fresh { Fresh self stack.old × (options.indent_width ≤ most_indent_width) }
-        requires checked_rows { CheckedRows rows.now text.now }
-        requires no_trivia_if { NoTriviaIf bare rows.now }
-        ensures { LaidOut rows.now text.now (options_of options)
-            out.old result out.new }
+impl<'a> Formatter<'a> {
+    // Lays out all tokens of checked rows, and tells how that ends.
+    pub fn format(&mut self) -> Result<Finished, WalkError>
+        requires fresh { Fresh self.old × (self.old.options.indent_width ≤ most_indent_width) }
+        requires checked_rows { CheckedRows self.old.source.rows.now self.old.source.text.now }
+        requires no_trivia_if { NoTriviaIf self.old.bare self.old.source.rows.now }
+        ensures laid_out { LaidOut self.old.source.rows.now self.old.source.text.now
+            (options_of self.old.options) self.old.sink.out.now result self.new.sink.out.now }
+        ensures lent { self.new.sink.out.ghost_name ≡ self.old.sink.out.ghost_name }
     {
-        let ends = ends_of(rows, options.list_width);
+        self.ends = ends_of(self.source.rows, self.options.list_width);
         let mut place = Place { at: 0, index: 0 };
-        while place.at < rows.len() {
-            let index = place.index as usize;
-            let token = token_at(rows, place.at, place.index, bare);
-            let inline_close = self.takes_inline_close(token);
-            if token.lead == token.own {
-                self = self.clear_inline_close();
-            } else {
-                self = self.push_leading(options, out, rows, text, token);
-                if out.len() < self.len {
-                    return Err(WalkError::Full { index });
-                }
-            }
-            if self.overflows(options, ends, rows, token) {
-                return Err(WalkError::Deep { index });
-            }
-            let trails = self.writes_trailing(stack, rows, token);
-            self = self.push_token(options, ends, out, stack, rows, text, token, inline_close);
-            if trails {
-                self = self.push_trailing(out, rows, text, token);
-            }
-            self.fn_state = self.track_fn_state(token.kind);
-            if out.len() < self.len {
-                return Err(WalkError::Full { index });
-            }
-            place = self.next_place(rows, token, bare);
-            if self.may_start_fast_tokens(rows, place.at) {
-                let ahead = self.push_fast_tokens(out, stack, rows, text, place.at, bare);
-                self = self.after_fast_tokens(ahead);
-                place = place_at(place, ahead.at);
-            } else if self.may_start_fast_braces(bare, rows, place.at) {
-                let braces = self.push_fast_braces(out, rows, place.at);
-                self = self.after_fast_braces(braces);
-                place = place_at(place, braces.at);
+        while place.at < self.source.rows.len() {
+            let token = token_at(self.source.rows, place.at, place.index, self.bare);
+            self.push_token(token)?;
+            place = self.next_place(token);
+            if self.may_start_fast_tokens(place.at) {
+                let at = self.push_fast_tokens(place.at);
+                place = place_at(place, at);
+            } else if self.may_start_fast_braces(place.at) {
+                let at = self.push_fast_braces(place.at);
+                place = place_at(place, at);
             }
         }
-        Ok(self.finished())
+        Ok(Finished {
+            length: self.sink.len,
+            commas: self.commas,
+        })
+    }
+
+    // Lays out a token with its trivia.
+    fn push_token(&mut self, token: TokenAt) -> Result<(), WalkError>
+        requires { HasToken token self.old }
+        ensures { TokenPushed token self.old result self.new }
+    {
+        let inline_close = self.takes_inline_close(token);
+        if token.lead == token.own {
+            self.just_closed_inline = false;
+        } else {
+            self.push_leading(token);
+            if self.sink.is_full() {
+                return Err(full_at(token));
+            }
+        }
+        if self.overflows(token) {
+            return Err(WalkError::Deep {
+                index: token.index as usize,
+            });
+        }
+        let trails = self.writes_trailing(token);
+        self.push_arm(token, inline_close);
+        if trails {
+            self.push_trailing(token);
+        }
+        self.track_fn_state(token.kind);
+        if self.sink.is_full() {
+            return Err(full_at(token));
+        }
+        Ok(())
     }
 
     // Does the arm of the token's kind; they stand in the order of format.rs. `inline_close` is true where
     // the `}` of a one-line block stands right before the token.
-    fn push_token(
-        mut self,
-        options: Options,
-        ends: Ends,
-        out: &mut [u8],
-        stack: &mut [u32],
-        rows: &[u8],
-        text: &[u8],
-        token: TokenAt,
-        inline_close: bool,
-    ) -> Self
-        requires ready { Ready options self out.old × StackRoom self stack.old }
-        requires in_rows { InRows token rows.now text.now × Ahead ends token.lead rows.now }
-        ensures { AtToken token rows.now text.now
-            (λ t ts. (x : Locals) → x.inline_close ≡ inline_close
-            → overflows (options_of options) t ts (fields_on self stack.old) ≡ false
-            → Does (arm (options_of options) token.index t ts) x
-            (code_state self stack.old out.old)
-            (code_state result stack.new out.new)) }
+    fn push_arm(&mut self, token: TokenAt, inline_close: bool)
+        requires ready { Ready self.old }
+        requires in_rows { HasRows token self.old × HasEnds token self.old }
+        ensures { AtToken token self.old (λ t ts. (x : Locals) → x.inline_close ≡ inline_close
+            → overflows (options_of self.old.options) t ts (fields_of self.old) ≡ false
+            → Does (arm (options_of self.old.options) token.index t ts) x self.old self.new) }
     {
         match token.kind {
-            Kind::Eof => self.eof_arm(),
-            Kind::Newline => self.newline_arm(out, rows, token),
-            Kind::RightBrace => self.right_brace_arm(options, out),
-            Kind::LeftBrace => self.left_brace_arm(options, ends, out, rows, text, token),
-            Kind::LeftParen => self.left_paren_arm(options, ends, out, stack, rows, text, token),
-            Kind::LeftBracket => self.left_bracket_arm(
-                options, ends, out, stack, rows, text, token,
-            ),
-            Kind::RightParen => self.right_paren_arm(options, out, stack, rows, text, token),
-            Kind::RightBracket => self.right_bracket_arm(options, out, stack, rows, text, token),
-            Kind::Comma => self.comma_arm(options, out, stack, rows, text, token),
-            Kind::Else => self.else_arm(options, out, rows, text, token, inline_close),
-            _ => self.other_arm(options, out, rows, text, token),
+            Kind::Eof => {}
+            Kind::Newline => self.newline_arm(token),
+            Kind::RightBrace => self.right_brace_arm(),
+            Kind::LeftBrace => self.left_brace_arm(token),
+            Kind::LeftParen => self.left_paren_arm(token),
+            Kind::LeftBracket => self.left_bracket_arm(token),
+            Kind::RightParen => self.right_paren_arm(token),
+            Kind::RightBracket => self.right_bracket_arm(token),
+            Kind::Comma => self.comma_arm(token),
+            Kind::Else => self.else_arm(token, inline_close),
+            _ => self.other_arm(token),
         }
     }
 
     // Whether the `}` of a one-line block stands right before the token, without trivia between.
-    fn takes_inline_close(self, token: TokenAt) -> bool
-        ensures { result ≡ eqb token.lead token.own && self.just_closed_inline }
+    fn takes_inline_close(&self, token: TokenAt) -> bool
+        ensures { result ≡ eqb token.lead token.own && self.now.just_closed_inline }
     {
         token.lead == token.own && self.just_closed_inline
     }
 
     // Whether refusal 4 is due: the stack is full, and the token would open one more broken list.
-    fn overflows(self, options: Options, ends: Ends, rows: &[u8], token: TokenAt) -> bool
-        requires lead_in_bounds { token.lead ≤ length rows.now }
-        requires ahead { Ahead ends token.lead rows.now }
-        ensures { (s text : List ℕ) → AtToken token rows.now text
-            (λ t ts. result ≡ overflows (options_of options) t ts (fields_on self s)) }
+    fn overflows(&self, token: TokenAt) -> bool
+        requires { HasEnds token self.now }
+        ensures { AtToken token self.now
+            (λ t ts. result ≡ overflows (options_of self.now.options) t ts (fields_of self.now)) }
     {
-        if self.break_count < STACK_SIZE {
+        if !self.break_stack.is_full() {
             return false;
         }
         match token.kind {
-            Kind::LeftParen => {
-                !self.at_signature() && self.breaks_list(options, ends, rows, token)
-            }
-            Kind::LeftBracket => self.breaks_list(options, ends, rows, token),
+            Kind::LeftParen => !self.at_signature() && self.breaks_list(token),
+            Kind::LeftBracket => self.breaks_list(token),
             _ => false,
         }
     }
 
     // Whether the token has trailing trivia, and its arm does not return before them.
-    fn writes_trailing(self, stack: &[u32], rows: &[u8], token: TokenAt) -> bool
-        requires stack_room { StackRoom self stack.now }
-        requires row_size_bound { (token.own + row_size ≤ token.next) × (token.next ≤ length rows.now) }
-        ensures { (text : List ℕ) → AtToken token rows.now text
-            (λ t ts. result ≡ ltb (token.own + row_size) token.next
-            && not (returns_early t ts (fields_on self stack.now))) }
+    fn writes_trailing(&self, token: TokenAt) -> bool
+        requires { (token.own + row_size ≤ token.next) × (token.next ≤ length self.now.source.rows.now) }
+        ensures { AtToken token self.now (λ t ts. result ≡ ltb (token.own + row_size) token.next
+            && not (returns_early t ts (fields_of self.now))) }
     {
         if token.next == token.own + ROW_BYTES {
             return false;
         }
         match token.kind {
-            Kind::LeftBrace => !self.empties_record(rows, token),
-            Kind::RightParen => !self.closes_broken(stack),
-            Kind::RightBracket => !self.in_broken_list(stack),
+            Kind::LeftBrace => !self.empties_record(token),
+            Kind::RightParen => !self.closes_broken(),
+            Kind::RightBracket => !self.in_broken_list(),
             _ => true,
         }
     }
 
     // Where the next token's rows start, and its index. The `{` of `record E {}` took the `}` along.
-    fn next_place(self, rows: &[u8], token: TokenAt, bare: bool) -> Place
-        requires next_in_bounds { (token.next ≤ length rows.now) × (token.index + 1 < most32) }
-        requires next_token { took_next token.kind self.prev ≡ true
-            → NextToken rows.now token.next bare }
-        ensures { NextPlace rows.now token (took_next token.kind self.prev) result }
+    fn next_place(&self, token: TokenAt) -> Place
+        requires next_in_bounds { (token.next ≤ length self.now.source.rows.now) × (token.index + 1 < most32) }
+        requires next_token { took_next token.kind self.now.prev ≡ true
+            → NextToken self.now.source.rows.now token.next self.now.bare }
+        ensures { NextPlace self.now.source.rows.now token (took_next token.kind self.now.prev) result }
     {
         let at = token.next;
         let index = token.index + 1;
         if token.kind == Kind::LeftBrace && self.prev_is(Kind::RightBrace) {
-            let taken = token_at(rows, at, index, bare);
+            let taken = token_at(self.source.rows, at, index, self.bare);
             return Place {
                 at: taken.next,
                 index: index + 1,
@@ -175,14 +159,13 @@ impl Formatter {
         }
         Place { at, index }
     }
+}
 
-    // What a layout that is not refused comes to.
-    fn finished(self) -> Finished
-        ensures { (result.length ≡ self.len) × (result.commas ≡ self.commas) }
-    {
-        Finished {
-            length: self.len,
-            commas: self.commas,
-        }
+// Refusal 5 at this token.
+fn full_at(token: TokenAt) -> WalkError
+    ensures { result ≡ Full token.index }
+{
+    WalkError::Full {
+        index: token.index as usize,
     }
 }

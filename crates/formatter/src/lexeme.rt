@@ -1,59 +1,48 @@
 // The arms of `else` and of all other tokens, `push_lexeme`, `emit_token_text` and `track_fn_state`.
-ghost use Rattle.std.specs.Prelude.{cond, ◌&&◌, ◌||◌, List, ◌≡◌, ℕ, ◌≤◌, ◌<◌, eqb};
+ghost use Rattle.std.specs.Prelude.{cond, ◌&&◌, ◌||◌, ◌≡◌, ◌<◌, eqb};
 ghost use Rattle.rows.specs.Kinds.{Else, Record, Identifier};
 ghost use Rattle.rows.specs.KindNumber.{kind_number};
-ghost use Rattle.definition.specs.Emit.{is_some, track_fn_state, track_minus, push_lexeme};
+ghost use Rattle.definition.specs.Act.{update};
+ghost use Rattle.definition.specs.Emit.{track_fn_state, track_minus, push_lexeme};
 ghost use Rattle.definition.specs.Arms.{else_arm, else_on_new_line, other_arm};
 ghost use Rattle.sink.specs.Tail.{tail_bytes};
 ghost use Rattle.sink.specs.Sink.{past_gap};
-ghost use Rattle.formatter.specs.CodeState.{Locals, code_state, fields_of, fn_number, formatter_of};
-ghost use Rattle.formatter.specs.CodeState.{options_of, signature_of};
-ghost use Rattle.formatter.specs.Does.{Does, Puts};
-ghost use Rattle.formatter.specs.Token.{CanWrite, Ready, InRows, Kept};
-ghost use Rattle.formatter.specs.Token.{IndentBounds, AtToken, bare_token, lexeme_of};
+ghost use Rattle.formatter.specs.CodeState.{Locals, fields_of, fn_number, formatter_of, options_of};
+ghost use Rattle.formatter.specs.Does.{Does, Done};
+ghost use Rattle.formatter.specs.Token.{CanWrite, Ready, HasRows, Kept, IndentBounds, AtToken};
+ghost use Rattle.formatter.specs.Token.{bare_token, lexeme_of};
 ghost use Rattle.formatter.specs.Parts.{gap_size, indent_or_space_size, emit_tail};
 
-use crate::{FnState, Formatter, Options, TokenAt};
+use crate::{FnState, Formatter, TokenAt};
 use row_writers::write_lexeme;
 use rows::Kind;
-use sink::write::{Tail, write_else};
+use sink::write::Tail;
 use spaces::is_value;
 use spaces::loose::{loose_after, spaces_between};
 
-impl Formatter {
+impl<'a> Formatter<'a> {
     // `else` starts a line after the `}` of a block over several lines, or is a lexeme like others.
     // `inline_close` is true where the `}` of a one-line block stands right before it.
-    pub fn else_arm(
-        mut self,
-        options: Options,
-        out: &mut [u8],
-        rows: &[u8],
-        text: &[u8],
-        token: TokenAt,
-        inline_close: bool,
-    ) -> Self
-        requires ready { Ready options self out.old }
-        requires in_rows { InRows token rows.now text.now × (kind_number token.kind ≡ Else) }
-        ensures { AtToken token rows.now text.now
-            (λ t ts. (s : List ℕ) (x : Locals) → x.inline_close ≡ inline_close
-            → Does (else_arm (options_of options) t) x (code_state self s out.old)
-            (code_state result s out.new)) }
+    pub fn else_arm(&mut self, token: TokenAt, inline_close: bool)
+        requires ready { Ready self.old }
+        requires in_rows { HasRows token self.old × (kind_number token.kind ≡ Else) }
+        ensures { AtToken token self.old (λ t ts. (x : Locals) → x.inline_close ≡ inline_close
+            → Does (else_arm (options_of self.old.options) t) x self.old self.new) }
     {
         if self.else_on_new_line(inline_close) {
-            let spaces = self.indent_size(options);
-            self.len = write_else(out, self.len, spaces);
+            let spaces = self.indent_size();
+            self.sink.write_else(spaces);
             self.at_line_start = false;
             self.prev = Some(Kind::Else);
         } else {
-            self = self.push_lexeme(options, out, rows, text, token, Kind::Else);
+            self.push_lexeme(token, Kind::Else);
         }
-        self
     }
 
     // Whether `else` starts a line.
-    fn else_on_new_line(self, inline_close: bool) -> bool
-        ensures { (s : List ℕ) (x : Locals) → x.inline_close ≡ inline_close
-            → result ≡ else_on_new_line (formatter_of self s x) }
+    fn else_on_new_line(&self, inline_close: bool) -> bool
+        ensures { (x : Locals) → x.inline_close ≡ inline_close
+            → result ≡ else_on_new_line (formatter_of self.now x) }
     {
         !self.in_one_line_block()
             && !self.in_record
@@ -63,82 +52,53 @@ impl Formatter {
 
     // Any other token writes its lexeme. `record` sets `record_pending`, a name leaves it, anything else
     // clears it.
-    pub fn other_arm(
-        mut self,
-        options: Options,
-        out: &mut [u8],
-        rows: &[u8],
-        text: &[u8],
-        token: TokenAt,
-    ) -> Self
-        requires ready { Ready options self out.old }
-        requires in_rows { InRows token rows.now text.now }
-        ensures { AtToken token rows.now text.now
-            (λ t ts. Puts (other_arm (options_of options) t) self out.old result out.new) }
+    pub fn other_arm(&mut self, token: TokenAt)
+        requires ready { Ready self.old }
+        requires in_rows { HasRows token self.old }
+        ensures { AtToken token self.old
+            (λ t ts. Done (other_arm (options_of self.old.options) t) self.old self.new) }
     {
-        let kind = token.kind;
-        self.record_pending = record_pending_after(self.record_pending, kind);
-        self.push_lexeme(options, out, rows, text, token, kind)
+        self.record_pending = record_pending_after(self.record_pending, token.kind);
+        self.push_lexeme(token, token.kind);
     }
 
     // Writes the spaces and the token's lexeme, and tracks `prev` and whether a `-` is unary. `kind` is the
     // token's, a constant in most arms.
-    pub fn push_lexeme(
-        mut self,
-        options: Options,
-        out: &mut [u8],
-        rows: &[u8],
-        text: &[u8],
-        token: TokenAt,
-        kind: Kind,
-    ) -> Self
-        requires can_write_lexeme { CanWrite options self out.old }
-        requires in_rows { InRows token rows.now text.now × (kind ≡ token.kind) }
-        ensures does { Puts (push_lexeme (options_of options)
-            (bare_token (kind_number kind) (lexeme_of token rows.now text.now)))
-            self out.old result out.new }
-        ensures kept { Kept self result }
+    pub fn push_lexeme(&mut self, token: TokenAt, kind: Kind)
+        requires can_write { CanWrite self.old }
+        requires in_rows { HasRows token self.old × (kind ≡ token.kind) }
+        ensures does { Done (push_lexeme (options_of self.old.options)
+            (bare_token (kind_number kind) (lexeme_of token self.old))) self.old self.new }
+        ensures kept { Kept self.old self.new }
     {
         let unary = self.minus_is_unary_after(kind);
-        self = self.emit_token_text(options, out, rows, text, token, kind, Tail::Nothing);
+        self.emit_token_text(token, kind, Tail::Nothing);
         self.prev_minus_is_unary = unary;
-        self
     }
 
     // Writes the spaces, the token's lexeme and the tail after it, and tracks `prev`; it does not track
     // whether a `-` is unary.
-    pub fn emit_token_text(
-        mut self,
-        options: Options,
-        out: &mut [u8],
-        rows: &[u8],
-        text: &[u8],
-        token: TokenAt,
-        kind: Kind,
-        tail: Tail,
-    ) -> Self
-        requires can_write_lexeme { CanWrite options self out.old }
-        requires in_rows { InRows token rows.now text.now × (kind ≡ token.kind) }
-        ensures does { Puts (emit_tail (options_of options)
-            (bare_token (kind_number kind) (lexeme_of token rows.now text.now)) (tail_bytes tail))
-            self out.old result out.new }
-        ensures kept { Kept self result }
+    pub fn emit_token_text(&mut self, token: TokenAt, kind: Kind, tail: Tail)
+        requires can_write { CanWrite self.old }
+        requires in_rows { HasRows token self.old × (kind ≡ token.kind) }
+        ensures does { Done (emit_tail (options_of self.old.options)
+            (bare_token (kind_number kind) (lexeme_of token self.old)) (tail_bytes tail)) self.old self.new }
+        ensures kept { Kept self.old self.new }
     {
-        let gap = self.gap_before(options, kind);
-        self.len = write_lexeme(out, self.len, gap, rows, text, token.own, tail);
+        let gap = self.gap_before(kind);
+        write_lexeme(&mut self.sink, gap, self.source, token.own, tail);
         self.at_line_start = false;
         self.prev = Some(kind);
-        self
     }
 
     // How many spaces stand before a token of this kind: the indent at a line's start, else one or none.
-    pub fn gap_before(self, options: Options, kind: Kind) -> usize
-        requires { IndentBounds options self }
-        ensures { (result ≡ gap_size (options_of options) (kind_number kind) (fields_of self))
+    pub fn gap_before(&self, kind: Kind) -> usize
+        requires { IndentBounds self.now }
+        ensures { (result ≡ gap_size (options_of self.now.options) (kind_number kind) (fields_of self.now))
             × (result < past_gap) }
     {
         if self.at_line_start {
-            return self.indent_size(options);
+            return self.indent_size();
         }
         match self.prev {
             None => 0,
@@ -149,20 +109,20 @@ impl Formatter {
     }
 
     // How many spaces `push_trivia_gap` of format.rs writes: the indent at a line's start, else one.
-    pub fn indent_or_space(self, options: Options) -> usize
-        requires { IndentBounds options self }
-        ensures { (result ≡ indent_or_space_size (options_of options) (fields_of self))
+    pub fn indent_or_space(&self) -> usize
+        requires { IndentBounds self.now }
+        ensures { (result ≡ indent_or_space_size (options_of self.now.options) (fields_of self.now))
             × (result < past_gap) }
     {
         if self.at_line_start {
-            return self.indent_size(options);
+            return self.indent_size();
         }
         1
     }
 
     // `prev_minus_is_unary` after a token of this kind.
-    fn minus_is_unary_after(self, kind: Kind) -> bool
-        ensures { result ≡ (track_minus (kind_number kind) (fields_of self)).prev_minus_is_unary }
+    fn minus_is_unary_after(&self, kind: Kind) -> bool
+        ensures { result ≡ (track_minus (kind_number kind) (fields_of self.now)).prev_minus_is_unary }
     {
         if kind == Kind::Minus {
             !self.prev.is_some_and(|prev| is_value(prev))
@@ -171,31 +131,22 @@ impl Formatter {
         }
     }
 
-    // `fn_state` after a token of this kind, which tracks `fn name (`. `Outside`, which is most frequent, is
-    // asked for first.
-    pub fn track_fn_state(self, kind: Kind) -> FnState
-        ensures { fn_number result ≡ (track_fn_state (kind_number kind) (fields_of self)).fn_state }
+    // Tracks `fn name (`. `Outside`, which is most frequent, is asked for first.
+    pub fn track_fn_state(&mut self, kind: Kind)
+        ensures { Done (update (track_fn_state (kind_number kind))) self.old self.new }
     {
-        let state = self.fn_state;
-        if kind != Kind::Fn && state == FnState::Outside {
-            return FnState::Outside;
+        if kind != Kind::Fn && self.fn_state == FnState::Outside {
+            return;
         }
         if self.in_broken_signature() {
-            return state;
+            return;
         }
         match kind {
-            Kind::Fn => FnState::AfterFn,
-            Kind::Identifier => named_after(state),
-            Kind::Newline => state,
-            _ => FnState::Outside,
+            Kind::Fn => self.fn_state = FnState::AfterFn,
+            Kind::Identifier => self.fn_state = named_after(self.fn_state),
+            Kind::Newline => {}
+            _ => self.fn_state = FnState::Outside,
         }
-    }
-
-    // Whether the walk is in a broken signature.
-    pub fn in_broken_signature(self) -> bool
-        ensures { result ≡ is_some (signature_of self.sig_break_depth) }
-    {
-        self.sig_break_depth.is_some()
     }
 }
 

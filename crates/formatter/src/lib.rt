@@ -1,16 +1,13 @@
-// The formatter of format.rs: its state and its methods, under the names that they have there. A method takes
-// the state by value and returns it. The output, the broken-group stack, the rows and the text are lent to
-// it.
+// The formatter of format.rs: its state and its methods, under the names that they have there.
 #![tactic(auto)]
 
-ghost use Rattle.std.specs.Prelude.{List, ◌≡◌, ℕ, ◌+◌, ◌*◌, ◌≤◌, ◌<◌, length};
-ghost use Rattle.shared.specs.Numbers.{most32};
+ghost use Rattle.std.specs.Prelude.{◌≡◌, ◌*◌, ◌<◌};
 ghost use Rattle.rows.specs.KindNumber.{kind_number};
-ghost use Rattle.definition.specs.Emit.{is_at};
+ghost use Rattle.definition.specs.Emit.{is_at, is_some};
 ghost use Rattle.definition.specs.Arms.{at_record_fields, in_broken_list, in_one_line_block};
 ghost use Rattle.sink.specs.Sink.{past_gap};
-ghost use Rattle.formatter.specs.CodeState.{prev_of, fields_of, fields_on};
-ghost use Rattle.formatter.specs.Token.{IndentBounds, StackRoom, stack_size};
+ghost use Rattle.formatter.specs.CodeState.{prev_of, signature_of, fields_of};
+ghost use Rattle.formatter.specs.Token.{IndentBounds};
 ghost use Rattle.formatter.specs.Format.{Fresh};
 
 pub mod braces;
@@ -20,10 +17,15 @@ pub mod fast_tokens;
 pub mod format;
 pub mod lexeme;
 pub mod lines;
+pub mod stack;
 pub mod token;
 pub mod trivia;
 
+use crate::stack::Stack;
+use crate::token::ends_not_sought;
+use row_writers::Source;
 use rows::Kind;
+use sink::write::Sink;
 
 // How far the walk has come in `fn name (`: `fn_state`, a number in format.rs.
 #[derive(Clone, Copy, Debug, PartialEq, Eq)]
@@ -93,32 +95,32 @@ pub struct Ends {
     pub width: usize,
 }
 
-// The fields of format.rs under its names. The port adds `len`, the length of the text, which is one past the
-// output's end once something did not fit; `break_count`, the number of entries on the broken-group stack;
-// and `commas`, the number of inserted commas. The order of the fields was found by counting instructions
-// (docs/BENCHMARKS.md); the order of format.rs takes a tenth more.
-#[derive(Clone, Copy)]
-pub struct Formatter {
-    pub fn_state: FnState,
-    pub inline_depth: InlineDepth,
-    pub in_record: bool,
-    pub just_closed_inline: bool,
-    pub prev_minus_is_unary: bool,
-    pub sig_break_depth: Option<SignatureDepth>,
-    pub record_depth: RecordDepth,
-    pub record_pending: bool,
-    pub at_line_start: bool,
+// The fields of format.rs under its names. The port adds what format.rs has in parameters: the options, the
+// rows and the text, what all rows tell, and whether no row is trivia; and `commas`, the number of inserted
+// commas.
+#[derive(Drop)]
+pub struct Formatter<'a> {
+    pub options: Options,
+    pub source: Source<'a>,
+    pub ends: Ends,
+    pub bare: bool,
+    pub sink: Sink<'a>,
     pub indent: usize,
-    pub len: usize,
-    pub commas: usize,
+    pub at_line_start: bool,
+    pub prev: Option<Kind>,
+    pub prev_minus_is_unary: bool,
+    pub inline_depth: InlineDepth,
+    pub fn_state: FnState,
+    pub sig_break_depth: Option<SignatureDepth>,
+    pub record_pending: bool,
+    pub in_record: bool,
+    pub record_depth: RecordDepth,
+    pub just_closed_inline: bool,
     pub suppress_newline_at: Option<u32>,
     pub group_depth: GroupDepth,
-    pub break_count: usize,
-    pub prev: Option<Kind>,
+    pub break_stack: Stack,
+    pub commas: usize,
 }
-
-// How many numbers the broken-group stack holds.
-pub const STACK_SIZE: usize = 64;
 
 // What a layout of all tokens comes to: the text has this many bytes, and this many commas in it were
 // inserted.
@@ -137,68 +139,81 @@ pub enum WalkError {
     Full { index: usize },
 }
 
-impl Formatter {
-    // The state before the first token.
-    pub fn new() -> Self
-        ensures { (stack : List ℕ) → stack_size ≤ length stack → Fresh result stack }
+impl<'a> Formatter<'a> {
+    // The state before the first token of `source`, which is laid out into `out`. Where `bare` is true, no row
+    // is trivia.
+    pub fn new(options: Options, source: Source<'a>, bare: bool, out: &'a mut [u8]) -> Self
+        ensures fresh { Fresh result }
+        ensures given { (result.options ≡ options) × (result.source ≡ source.entry) × (result.bare ≡ bare) }
+        ensures output { (result.sink.out.now ≡ out.old)
+            × (result.sink.out.ghost_name ≡ out.entry.ghost_name) }
     {
         Formatter {
-            fn_state: FnState::Outside,
-            inline_depth: InlineDepth(0),
-            in_record: false,
-            just_closed_inline: false,
-            prev_minus_is_unary: false,
-            sig_break_depth: None,
-            record_depth: RecordDepth(0),
-            record_pending: false,
-            at_line_start: true,
+            options,
+            source,
+            ends: ends_not_sought(source.rows),
+            bare,
+            sink: Sink { out, len: 0 },
             indent: 0,
-            len: 0,
-            commas: 0,
+            at_line_start: true,
+            prev: None,
+            prev_minus_is_unary: false,
+            inline_depth: InlineDepth(0),
+            fn_state: FnState::Outside,
+            sig_break_depth: None,
+            record_pending: false,
+            in_record: false,
+            record_depth: RecordDepth(0),
+            just_closed_inline: false,
             suppress_newline_at: None,
             group_depth: GroupDepth(0),
-            break_count: 0,
-            prev: None,
+            break_stack: Stack::new(),
+            commas: 0,
         }
     }
 
     // ---- tests that several arms make
 
     // Whether the last token has this kind.
-    pub fn prev_is(self, kind: Kind) -> bool
-        ensures { result ≡ is_at (prev_of self.prev) (kind_number kind) }
+    pub fn prev_is(&self, kind: Kind) -> bool
+        ensures { result ≡ is_at (prev_of self.now.prev) (kind_number kind) }
     {
         self.prev == Some(kind)
     }
 
     // Whether the walk is inside a block that stays on its line.
-    pub fn in_one_line_block(self) -> bool
-        ensures { result ≡ in_one_line_block (fields_of self) }
+    pub fn in_one_line_block(&self) -> bool
+        ensures { result ≡ in_one_line_block (fields_of self.now) }
     {
         0 < self.inline_depth.0
     }
 
     // Whether the walk is directly inside a record, and in no brace within it.
-    pub fn at_record_fields(self) -> bool
-        ensures { result ≡ at_record_fields (fields_of self) }
+    pub fn at_record_fields(&self) -> bool
+        ensures { result ≡ at_record_fields (fields_of self.now) }
     {
         self.in_record && self.record_depth.0 == 1
     }
 
     // Whether the walk is directly inside the innermost broken list, and in no group within it.
-    pub fn in_broken_list(self, stack: &[u32]) -> bool
-        requires { StackRoom self stack.now }
-        ensures { result ≡ in_broken_list (fields_on self stack.now) }
+    pub fn in_broken_list(&self) -> bool
+        ensures { result ≡ in_broken_list (fields_of self.now) }
     {
-        let count = self.break_count;
-        0 < count && stack[count - 1] as usize == self.group_depth.0
+        self.break_stack.has_last(self.group_depth.0)
+    }
+
+    // Whether the walk is in a broken signature.
+    pub fn in_broken_signature(&self) -> bool
+        ensures { result ≡ is_some (signature_of self.now.sig_break_depth) }
+    {
+        self.sig_break_depth.is_some()
     }
 
     // How many spaces an indent has: the length of `indent_str` in format.rs.
-    pub fn indent_size(self, options: Options) -> usize
-        requires { IndentBounds options self }
-        ensures { (result ≡ options.indent_width * self.indent) × (result < past_gap) }
+    pub fn indent_size(&self) -> usize
+        requires { IndentBounds self.now }
+        ensures { (result ≡ self.now.options.indent_width * self.now.indent) × (result < past_gap) }
     {
-        (options.indent_width as usize) * self.indent
+        (self.options.indent_width as usize) * self.indent
     }
 }

@@ -1,75 +1,68 @@
-// The arms of Eof and Newline.
-ghost use Rattle.std.specs.Prelude.{List, ◌≡◌, ℕ, ◌+◌, ◌≤◌, length, take};
+// The arm of Newline.
+ghost use Rattle.std.specs.Prelude.{◌≡◌, ◌+◌, ◌≤◌, length, take, drop};
 ghost use Rattle.rows.specs.Row.{row_size};
 ghost use Rattle.rows.specs.Token.{tokens_of};
-ghost use Rattle.definition.specs.Act.{nothing};
 ghost use Rattle.definition.specs.Emit.{is_at};
 ghost use Rattle.definition.specs.Arms.{ends_with_two_feeds, newline_arm};
-ghost use Rattle.formatter.specs.CodeState.{Locals, code_state, newline_of, state_of};
-ghost use Rattle.formatter.specs.Does.{Puts};
+ghost use Rattle.formatter.specs.CodeState.{Locals, newline_of, state_of};
+ghost use Rattle.formatter.specs.Does.{Done};
 ghost use Rattle.formatter.specs.Token.{AtToken};
 ghost use Rattle.formatter.specs.Parts.{feeds_line};
 
 use crate::{Formatter, TokenAt};
 use lookahead::next_has_comment;
 use rows::{Kind, ROW_BYTES};
-use sink::write::write_byte;
+use sink::write::Sink;
 
-impl Formatter {
-    // Eof changes nothing.
-    pub fn eof_arm(self) -> Self
-        ensures { (l : List ℕ) → Puts nothing self l result l }
-    {
-        self
-    }
-
+impl<'a> Formatter<'a> {
     // Newline: it is swallowed, or writes a line feed, or is left out.
-    pub fn newline_arm(mut self, out: &mut [u8], rows: &[u8], token: TokenAt) -> Self
-        requires { token.own + row_size ≤ length rows.now }
-        ensures { (text : List ℕ) → AtToken token rows.now text
-            (λ t ts. Puts (newline_arm token.index ts) self out.old result out.new) }
+    pub fn newline_arm(&mut self, token: TokenAt)
+        requires { token.own + row_size ≤ length self.old.source.rows.now }
+        ensures { AtToken token self.old (λ t ts. Done (newline_arm token.index ts) self.old self.new) }
     {
         if self.suppresses(token.index) {
             self.suppress_newline_at = None;
-        } else if self.feeds(out, &rows[token.own + ROW_BYTES..]) {
-            self.len = write_byte(out, self.len, b'\n');
+        } else if self.feeds(token.own + ROW_BYTES) {
+            self.sink.write_byte(b'\n');
             self.at_line_start = true;
             self.prev = Some(Kind::Newline);
         }
-        self
     }
 
     // Whether a Newline at this index is swallowed.
-    fn suppresses(self, index: u32) -> bool
-        ensures { result ≡ is_at (newline_of self.suppress_newline_at) index }
+    fn suppresses(&self, index: u32) -> bool
+        ensures { result ≡ is_at (newline_of self.now.suppress_newline_at) index }
     {
         self.suppress_newline_at == Some(index)
     }
 
-    // Whether a Newline that is not swallowed writes a line feed, before the tokens of `rows`: not at the
-    // text's start before a comment, not in a record or a one-line block, and never a third line feed.
-    fn feeds(self, out: &[u8], rows: &[u8]) -> bool
-        ensures { (s text : List ℕ) (x : Locals) → self.len ≤ length out.now
-            → result ≡ feeds_line (tokens_of rows.now text) (state_of x
-            (code_state self s out.now)) }
+    // Whether a Newline that is not swallowed writes a line feed, before the tokens of the rows from `after`
+    // on: not at the text's start before a comment, not in a record or a one-line block, and never a third
+    // line feed.
+    fn feeds(&self, after: usize) -> bool
+        requires { after ≤ length self.now.source.rows.now }
+        ensures { (x : Locals) → self.now.sink.len ≤ length self.now.sink.out.now
+            → result ≡ feeds_line (tokens_of (drop after self.now.source.rows.now) self.now.source.text.now)
+            (state_of x self.now) }
     {
-        if self.len == 0 && next_has_comment(rows) {
+        if self.sink.len == 0 && next_has_comment(&self.source.rows[after..]) {
             return false;
         }
         if self.in_record || self.in_one_line_block() {
             return false;
         }
-        !self.at_line_start || !ends_with_two_feeds(out, self.len)
+        !self.at_line_start || !ends_with_two_feeds(&self.sink)
     }
 }
 
-// Whether the text so far, of `len` bytes, ends with two line feeds.
-fn ends_with_two_feeds(out: &[u8], len: usize) -> bool
-    ensures { len ≤ length out.now
-        → result ≡ ends_with_two_feeds (take len out.now) }
+// Whether the text so far ends with two line feeds.
+fn ends_with_two_feeds(sink: &Sink) -> bool
+    ensures { sink.now.len ≤ length sink.now.out.now
+        → result ≡ ends_with_two_feeds (take sink.now.len sink.now.out.now) }
 {
-    if len < 2 || out.len() < len {
+    let len = sink.len;
+    if len < 2 || sink.out.len() < len {
         return false;
     }
-    out[len - 2] == b'\n' && out[len - 1] == b'\n'
+    sink.out[len - 2] == b'\n' && sink.out[len - 1] == b'\n'
 }

@@ -74,11 +74,7 @@ pub fn ends_of(rows: &[u8], list_width: u32) -> Ends
     ensures { Ending rows.now result }
 {
     if rows.len() <= FEW {
-        return Ends {
-            commas: rows.len(),
-            braces: rows.len(),
-            width: 0,
-        };
+        return ends_not_sought(rows);
     }
     let commas = after_last(rows, Kind::Comma as u32);
     let braces = after_last(rows, Kind::RightBrace as u32);
@@ -94,6 +90,17 @@ pub fn ends_of(rows: &[u8], list_width: u32) -> Ends
         commas,
         braces,
         width,
+    }
+}
+
+// What is told of rows in which nothing was looked for.
+pub fn ends_not_sought(rows: &[u8]) -> Ends
+    ensures { Ending rows.now result }
+{
+    Ends {
+        commas: rows.len(),
+        braces: rows.len(),
+        width: 0,
     }
 }
 

@@ -1,3 +1,4 @@
 pub mod Sink
 pub mod Sizes
 pub mod Over
+pub mod Appends

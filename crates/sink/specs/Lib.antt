@@ -1,2 +1,3 @@
 pub mod Sink
 pub mod Tail
+pub mod Appends

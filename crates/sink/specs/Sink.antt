@@ -19,11 +19,6 @@ pub record Writes (l : List ℕ) (n : ℕ) (xs : List ℕ) (m : List ℕ) (r : �
 abbrev pub past_gap : ℕ
 past_gap = 68719476736
 
--- the text fits the output so far, and a gap is no large number: what a writer asks
-pub record Room (out : List ℕ) (len gap : ℕ) : Type 0 where
-  pub within : len ≤ length out
-  pub small : gap < past_gap
-
 -- so many spaces
 abbrev pub spaces : ℕ → List ℕ
 spaces n = replicate n (byte " ")

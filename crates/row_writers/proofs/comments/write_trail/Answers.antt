@@ -1,19 +1,19 @@
 -- `row_writers::comments::write_trail` meets its contract. Assumes nothing.
 use mathlib.Core.Path.{sym, ◌∙◌}
 use Rattle.row_writers.proofs.Marks.{numbered, is_block, trail_head_block, trail_tail_block, trail_head_line, trail_tail_line}
-use Rattle.sink.proofs.Sink.{and_then, same_bytes_lem}
+use Rattle.sink.proofs.Appends.{and_then, same_bytes}
 use Rattle.row_writers.proofs.comments.write_trail.Goals as goal
 
 pub returns-then-eq : goal.returns-then-eq
 returns-then-eq c =
     let kind = c.args.row.kind in
-    let head = rw (numbered c.trivia-kind.result kind c.trivia-kind.ensures c.requires.kind_bound) at c.write_head-headed.ensures in
+    let head = rw (numbered c.trivia-kind.result kind c.trivia-kind.ensures c.requires.kind_bound) at c.write_head.ensures in
     let block = sym (is_block c.trivia-kind.result kind c.trivia-kind.ensures c.requires.kind_bound) ∙ sym c.if-eq.ensures in
-    and_then (same_bytes_lem (trail_head_block kind block) head) (and_then c.write_part-written.ensures (same_bytes_lem (trail_tail_block kind block) c.write_tail.ensures))
+    and_then (same_bytes (trail_head_block kind block) head) (and_then c.write_part.ensures (same_bytes (trail_tail_block kind block) c.write_tail.ensures))
 
-pub returns : goal.returns
-returns c =
+pub returns-else-eq : goal.returns-else-eq
+returns-else-eq c =
     let kind = c.args.row.kind in
-    let head = rw (numbered c.trivia-kind.result kind c.trivia-kind.ensures c.requires.kind_bound) at c.write_head-headed.ensures in
+    let head = rw (numbered c.trivia-kind.result kind c.trivia-kind.ensures c.requires.kind_bound) at c.write_head.ensures in
     let line = sym (is_block c.trivia-kind.result kind c.trivia-kind.ensures c.requires.kind_bound) ∙ sym c.if-eq.ensures in
-    and_then (same_bytes_lem (trail_head_line kind line) (and_then head c.write_byte-spaced.ensures)) (same_bytes_lem (trail_tail_line kind line _) c.write_part.ensures)
+    and_then (same_bytes (trail_head_line kind line) (and_then head c.write_byte.ensures)) (same_bytes (trail_tail_line kind line _) c.write_part-else-eq.ensures)

@@ -1,8 +1,0 @@
--- `formatter::Formatter::close_group` meets its contract. Assumes nothing.
-use mathlib.Core.Path.{refl, sym}
-use Rattle.sink.proofs.Sink.{nothing}
-use Rattle.formatter.proofs.Does.{seq, updated}
-use Rattle.formatter.proofs.Formatter.close_group.Goals as goal
-
-pub returns : goal.returns
-returns c = λ s x. seq (c.push_lexeme-self.ensures.does s x) (updated (sym (rw c.saturating_sub-self.ensures)) refl nothing)

@@ -1,8 +1,0 @@
--- `formatter::Formatter::open_group` meets its contract. Assumes nothing.
-use mathlib.Core.Path.{refl}
-use Rattle.sink.proofs.Sink.{nothing}
-use Rattle.formatter.proofs.Does.{seq, updated}
-use Rattle.formatter.proofs.Formatter.open_group.Goals as goal
-
-pub returns : goal.returns
-returns c = λ s x. seq (c.push_lexeme-self.ensures.does s x) (updated refl refl nothing)

@@ -1,9 +1,0 @@
-use Rattle.formatter.proofs.Comments.{TrailsLeft}
-use Prim.Native.Nat.{◌-◌}
-use Rattle.formatter.proofs.Formatter.push_trailing.Given as goal
-
-abbrev pub invariant-loop-at : goal.invariant-loop-at
-invariant-loop-at l = TrailsLeft l.rows l.text l.initial.at l.end l.initial.out l.initial.len l.at l.out l.len
-
-abbrev pub decreases-loop-at : goal.decreases-loop-at
-decreases-loop-at l = l.end - l.at

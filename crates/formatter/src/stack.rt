@@ -1,0 +1,78 @@
+// The broken-group stack: `break_stack`, a Vec in format.rs. It has a fixed size here.
+ghost use Rattle.std.specs.Prelude.{cond, [], ◌∷◌, ◌≡◌, ltb, leb, eqb, length, drop};
+ghost use mathlib.Core.List.{head?};
+ghost use Rattle.definition.specs.Emit.{is_at};
+ghost use Rattle.formatter.specs.Stack.{stack_size};
+
+use std::marker::Model;
+
+// How many numbers the broken-group stack holds.
+pub const STACK_SIZE: usize = 64;
+
+// Up to 64 depths, of which the first `count` are there. A contract sees them as a list, the last one first.
+#[derive(Drop)]
+pub struct Stack {
+    entries: [u32; STACK_SIZE],
+    count: usize,
+}
+
+impl Model for Stack {
+    ghost use Rattle.std.specs.Prelude.{List, ℕ, ◌≤◌};
+    ghost use Rattle.formatter.specs.Stack.{top_first, stack_size};
+
+    ghost Value = { List ℕ };
+
+    ghost view = { λ s. top_first s.count s.entries };
+
+    ghost invariant = { λ s. s.count ≤ stack_size };
+}
+
+impl Stack {
+    // The empty stack.
+    pub fn new() -> Self
+        ensures { result ≡ [] }
+    {
+        Stack {
+            entries: [0; STACK_SIZE],
+            count: 0,
+        }
+    }
+
+    // Whether no depth is there.
+    pub fn is_empty(&self) -> bool
+        ensures { result ≡ eqb (length self.now) 0 }
+    {
+        self.count == 0
+    }
+
+    // Whether there is no room for one more.
+    pub fn is_full(&self) -> bool
+        ensures { result ≡ leb stack_size (length self.now) }
+    {
+        STACK_SIZE <= self.count
+    }
+
+    // Whether the last depth is this one.
+    pub fn has_last(&self, depth: usize) -> bool
+        ensures { result ≡ is_at (head? self.now) depth }
+    {
+        0 < self.count && self.entries[self.count - 1] as usize == depth
+    }
+
+    // Puts a depth on the stack. A full one stays as it is.
+    pub fn push(&mut self, depth: u32)
+        ensures { self.new ≡ cond (ltb (length self.old) stack_size) (depth ∷ self.old) self.old }
+    {
+        if self.count < STACK_SIZE {
+            self.entries[self.count] = depth;
+            self.count += 1;
+        }
+    }
+
+    // Takes the last depth away, if there is one.
+    pub fn pop(&mut self)
+        ensures { self.new ≡ drop 1 self.old }
+    {
+        self.count = self.count.saturating_sub(1);
+    }
+}

@@ -1,7 +1,0 @@
--- `sink::write::write_signature_line` meets its contract. Assumes nothing.
-use native.Mathlib.Omega.{arith}
-use Rattle.sink.proofs.Sink.{and_then, fills}
-use Rattle.sink.proofs.write.write_signature_line.Goals as goal
-
-pub returns : goal.returns
-returns c = and_then (fills (omega arith) (omega arith) (omega arith) c.copy_from_slice.ensures.after) c.put_gap.ensures
