@@ -14,6 +14,10 @@ pub mod Place
 pub mod Comments
 pub mod Overflow
 pub mod Locals
+pub mod Turned
+pub mod Pushed
+pub mod Going
+pub mod Ahead
 pub mod BareRow
 pub mod Turn
 pub mod Feeds

@@ -22,7 +22,7 @@ use Rattle.definition.proofs.After.{After, chosen, first}
 -- ---- trivia
 
 -- All fields but `at_line_start` agree.
-pub record Same (f g : Formatter) : Type 0 where
+pub record SameFields (f g : Formatter) : Type 0 where
   pub indent : g.indent ≡ f.indent
   pub prev : g.prev ≡ f.prev
   pub prev_minus_is_unary : g.prev_minus_is_unary ≡ f.prev_minus_is_unary
@@ -52,7 +52,7 @@ lead-start o (doc_comment c ∷ ls) s = lead-start o ls _
 lead-start o (block_comment c ∷ ls) s = lead-start o ls _
 lead-start o (blank_line ∷ ls) s = lead-start o ls _
 
-same : (b : Bool) (f g : Formatter) → g ≡ set_at_line_start b f → Same f g
+same : (b : Bool) (f g : Formatter) → g ≡ set_at_line_start b f → SameFields f g
 same b f g e = rw e (record {
   indent = refl;
   prev = refl;
@@ -73,7 +73,7 @@ same b f g e = rw e (record {
   too_deep = refl;
 })
 
-pub lead-same : (o : Options) (ls : List Trivia) (s : State) → Same s.formatter (run (leading_trivia o ls) s).formatter
+pub lead-same : (o : Options) (ls : List Trivia) (s : State) → SameFields s.formatter (run (leading_trivia o ls) s).formatter
 lead-same o ls s = same _ s.formatter _ (lead-start o ls s)
 
 pub lead-commas : (o : Options) (ls : List Trivia) (s : State) → (run (leading_trivia o ls) s).commas ≡ s.commas

@@ -1,0 +1,311 @@
+-- `push_token`: from its parts to the turn of the definition's walk. Assumes nothing.
+use mathlib.Core.Bool.{Bool, true, false, not, ◌&&◌}
+use mathlib.Core.List.{List, [], ◌∷◌, map}
+use mathlib.Core.Option.{none, some}
+use mathlib.Core.Path.{◌≡◌, refl, sym, ap, subst, ◌∙◌}
+use Prim.Native.Nat.{ℕ, zero, suc, ◌+◌, ◌*◌, ◌≤◌, ◌<◌, ◌-◌, ◌/◌}
+use native.Mathlib.Omega.{arith}
+use borrow.Author.Tests.{leb-true, leb-false, le-ltb, lt-ltb, ltb-false, eq-eqb, ne_eqb}
+use lib.Dec.{leb, eqb, ltb}
+use lib.ListN.{length, take, drop}
+use lib.Seq.{length-take-le}
+use Rattle.std.specs.Prelude.{Result, Ok, Err}
+use Rattle.shared.specs.Report.{deep, full}
+use Rattle.shared.proofs.Logic.{split}
+use Rattle.rows.specs.Options
+use Rattle.rows.specs.Row.{first_rows}
+use Rattle.rows.specs.Token.{Token, Trivia, trivia_of, tokens_of}
+use Rattle.lookahead.specs.Measure.{is_empty}
+use Rattle.definition.specs.Formatter as definition
+use Rattle.definition.specs.Act.{State, run, update}
+use Rattle.definition.specs.Emit.{track_fn_state, trailing_trivia, leading_trivia}
+use Rattle.definition.specs.PushToken.{arm, overflows, turn}
+use Rattle.definition.specs.Layout.{finished, stopped, checked}
+use Rattle.definition.proofs.Growth.{depth}
+use Rattle.rows.specs.KindNumber.{kind_number}
+use Rattle.formatter.specs.declared.Formatter.{Formatter}
+use Rattle.formatter.specs.declared.TokenAt.{TokenAt}
+use Rattle.formatter.specs.declared.WalkError.{WalkError}
+use Rattle.formatter.specs.declared.WalkError.TheVariants.{Deep, Full}
+use Rattle.std.specs.declared.option.Option.{Option}
+use Rattle.std.specs.declared.option.Option.TheVariants.{None, Some}
+use Rattle.formatter.specs.declared.SignatureDepth.{SignatureDepth}
+use Rattle.formatter.specs.CodeState.{Locals, Given, state_of, locals_of, formatter_of, fields_of, options_of, signature_of, given}
+use Rattle.formatter.specs.Does.{Does, Done, Arrives, Same}
+use Rattle.formatter.specs.Token.{Ready, HasRows, HasEnds, InRows, Ahead, AtToken, StandsFor, depth_of}
+use Rattle.formatter.specs.Trivia.{WholeRows, trivia_in, lead_token}
+use Rattle.formatter.specs.Parts.{returns_early}
+use Rattle.formatter.specs.Format.{HasToken, TokenPushed, pushed_of, CheckedRows, TokenBoundary, TokenRows}
+use Rattle.formatter.proofs.Does.{seq, reached, then}
+use Rattle.formatter.proofs.Locals.{SameFields, lead-same, lead-commas}
+use Rattle.formatter.proofs.Turned.{trail_token, led, led_within, turns, trails, trails_not, turn-shallow, turn-deep}
+use Rattle.formatter.proofs.Comments.{no_trivia}
+use Rattle.formatter.proofs.Place
+use Rattle.formatter.proofs.Place.{token_here, tokens_next, tokens_here, stands, leading_is, trailing_is, in_rows, leads, ahead}
+
+-- ---- what the calls of `push_token` say
+
+-- The trailing trivia are written or left out, by the test b.
+pub data Trailed (tr : List Trivia) (b : Bool) (f g : Formatter) : Type 0 where
+  written : b ≡ true → Done (trailing_trivia tr) f g → Trailed tr b f g
+  left_out : b ≡ false → g ≡ f → Trailed tr b f g
+
+-- P holds of the token and of those after it, in the rows of z.
+abbrev pub At : TokenAt → Given → (Token → List Token → Type 0) → Type 0
+At token z P = (t : Token) (ts : List Token) → StandsFor token z.source.rows.now z.source.text.now t ts → P t ts
+
+-- After the leading trivia: refusal 4's test, whether a one-line block's `}` stands before, the test for trailing trivia, the
+-- arm, the trailing trivia, and `fn_state`. f is the state before the token, g that after its leading trivia.
+pub record Calls (z : Given) (token : TokenAt) (f g : Formatter) (r close b : Bool) (g₂ g₃ g₄ : Formatter) : Type 0 where
+  pub overflow : At token z (λ t ts. r ≡ overflows (options_of z.options) t ts (fields_of g))
+  pub calm : r ≡ false
+  pub taken : close ≡ (eqb token.lead token.own && f.just_closed_inline)
+  pub trailing : At token z (λ t ts. b ≡ (ltb (token.own + 16) token.next && not (returns_early t ts (fields_of g))))
+  pub arms :
+      At token z (λ t ts. (y : Locals) → y.inline_close ≡ close → overflows (options_of z.options) t ts (fields_of g) ≡ false
+      → Does (arm (options_of z.options) token.index t ts) y g g₂)
+  pub trailed : Trailed (trivia_in g₂.source.rows.now g₂.source.text.now (token.own + 16) token.next) b g₂ g₃
+  pub tracked : Done (update (track_fn_state (kind_number token.kind))) g₃ g₄
+
+-- A token without leading rows has no leading trivia.
+empty_is : (rows text : List ℕ) (from to : ℕ) → WholeRows rows text from to → eqb from to ≡ is_empty (trivia_in rows text from to)
+unfolding first_rows
+empty_is rows text from to π = go ((to - from) / 16) π.whole
+  where
+    go : (n : ℕ) → to ≡ from + 16 * n → eqb from to ≡ is_empty (map (trivia_of text) (first_rows n (drop from rows)))
+    go zero e = eq-eqb from to (omega arith)
+    go (suc n) e = ne_eqb from to (λ x. omega arith)
+
+-- No locals are set.
+abbrev pub quiet : Locals
+quiet = record { inline_close = false; returned = false; skip_next = false; too_deep = none }
+
+pub depth-signature : (b : Option SignatureDepth) → depth (signature_of b) ≡ depth_of b
+depth-signature None = refl
+depth-signature (Some d) = refl
+
+-- ---- how a state ends the walk
+
+module _ (size i : ℕ) (s : State) where
+  pub past-full : size < length s.out → Err (Full i) ≡ pushed_of (checked size i s)
+  past-full g = rw (lt-ltb size (length s.out) g)
+
+  pub within-deep : length s.out ≤ size → s.formatter.too_deep ≡ some i → Err (Deep i) ≡ pushed_of (checked size i s)
+  within-deep g e = rw (le-ltb size (length s.out) g, e)
+
+  pub within-ok : length s.out ≤ size → s.formatter.too_deep ≡ none → Ok tt ≡ pushed_of (checked size i s)
+  within-ok g e = rw (le-ltb size (length s.out) g, e)
+
+-- ---- a token
+
+module _ {token : TokenAt} {p : Formatter} (θ : HasToken token p) where
+  abbrev rows : List ℕ
+  rows = p.source.rows.now
+
+  abbrev text : List ℕ
+  text = p.source.text.now
+
+  abbrev o : Options.Options
+  o = options_of p.options
+
+  abbrev i : ℕ
+  i = token.index
+
+  abbrev t : Token
+  t = token_here rows text token.lead
+
+  abbrev ts : List Token
+  ts = tokens_next rows text token.lead
+
+  abbrev ω : CheckedRows rows text
+  ω = θ.checked
+
+  abbrev η : TokenBoundary rows text token.lead
+  η = θ.boundary
+
+  abbrev h : token.lead < length rows
+  h = θ.inside
+
+  abbrev τ : TokenRows rows token.lead token.index token
+  τ = θ.its_rows
+
+  abbrev here : StandsFor token rows text t ts
+  here = stands ω η h τ
+
+  pub has_rows : HasRows token p
+  has_rows = in_rows ω η h τ θ.index
+
+  pub has_ends : HasEnds token p
+  has_ends = (η.within, ahead ω η h τ θ.ends)
+
+  pub lead_rows : WholeRows rows text token.lead token.own
+  lead_rows = leads ω η h τ
+
+  pub trail_rows : WholeRows rows text (token.own + 16) token.next
+  trail_rows = Place.trails ω η h τ
+
+  -- The token that the code's token stands for is the one here.
+  pub at_here : (P : Token → List Token → Type 0) → P t ts → AtToken token p P
+  at_here P π a us σ =
+      let e : ◌≡◌ {A = List Token} (a ∷ us) (t ∷ ts) = sym σ.ahead ∙ tokens_here ω η h in
+      let x : a ≡ t = cc in
+      let y : us ≡ ts = cc in
+      subst (λ l. P a l) (sym y) (subst (λ z. P z ts) (sym x) π)
+
+  -- ---- after the leading trivia
+
+  module _ {g : Formatter} (δ : Done (lead_token o (trivia_in rows text token.lead token.own)) p g) where
+    its_lead : (x : Locals) → Does (lead_token o t.leading) x p g
+    its_lead x = subst (λ ls. Does (lead_token o ls) x p g) (sym (leading_is ω η h τ)) (δ x)
+
+    pub lead_same : Same p g
+    lead_same = (δ quiet).same
+
+    pub lead_size : length g.sink.out.now ≡ length p.sink.out.now
+    lead_size = (δ quiet).size
+
+    module _ (x : Locals) (d : x.too_deep ≡ none) (k : x.skip_next ≡ false) where
+      abbrev begins : State
+      begins = led o i t ts (state_of x p)
+
+      abbrev after : State
+      after = run (turn o i t ts) (state_of x p)
+
+      abbrev size : ℕ
+      size = length p.sink.out.now
+
+      -- The leading trivia alone do not fit.
+      pub leads-full : length g.sink.out.now < g.sink.len → Err (Full i) ≡ pushed_of (checked size i after)
+      leads-full l =
+          past-full size i after
+          (split (leb (length begins.out) size)
+          (λ e. absurd (let u = (its_lead x).fits θ.ready.fits.within (leb-true _ _ e) in let w = u.within in omega arith))
+          (λ e. let a = leb-false (length begins.out) size e in let b = led_within o i t ts (state_of x p) d k in omega arith))
+
+      module _ (room : g.sink.len ≤ length g.sink.out.now) where
+        pub arrives : Arrives begins p g
+        arrives =
+            split (leb (length begins.out) size)
+            (λ e. (its_lead x).fits θ.ready.fits.within (leb-true _ _ e))
+            (λ e. absurd (let z = (its_lead x).over θ.ready.fits.within (leb-false _ _ e) in omega arith))
+
+        form : formatter_of g (locals_of begins.formatter) ≡ begins.formatter
+        form = ap (λ (v : State). v.formatter) arrives.state
+
+        same : SameFields (state_of x p).formatter (run (leading_trivia o t.leading) (state_of x p)).formatter
+        same = lead-same o t.leading (state_of x p)
+
+        pub field : {A : Type 0} (φ : definition.Formatter → A) → φ begins.formatter ≡ φ (state_of x p).formatter → φ (formatter_of g (locals_of begins.formatter)) ≡ φ (state_of x p).formatter
+        field φ e = ap φ form ∙ e
+
+        overflow_is : {b : Bool} → overflows o t ts (fields_of g) ≡ b → overflows o t ts begins.formatter ≡ b
+        overflow_is e = ap (overflows o t ts) (sym form) ∙ e
+
+        -- Refusal 4: the stack is full.
+        pub leads-deep : overflows o t ts (fields_of g) ≡ true → Err (Deep i) ≡ pushed_of (checked size i after)
+        unfolding run
+        leads-deep v =
+            let e = turn-deep o i t ts x p d k (overflow_is v) in
+            let r : length begins.out ≤ size = omega (arith, reached begins p g arrives, arrives.within, lead_size) in
+            within-deep size i after (rw e r) (rw e refl)
+
+        closes : {close : Bool} → close ≡ (eqb token.lead token.own && p.just_closed_inline) → (locals_of begins.formatter).inline_close ≡ close
+        unfolding run
+        closes e =
+            ap (λ y. is_empty t.leading && y) same.just_closed_inline
+            ∙ ap (λ y. y && p.just_closed_inline) (ap is_empty (leading_is ω η h τ) ∙ sym (empty_is rows text token.lead token.own lead_rows))
+            ∙ sym e
+
+        -- ---- the whole turn
+
+        module _ {r close b : Bool} {g₂ g₃ g₄ : Formatter} (κ : Calls (given p) token p g r close b g₂ g₃ g₄) where
+          calm : overflows o t ts begins.formatter ≡ false
+          calm = overflow_is (sym (κ.overflow t ts here) ∙ κ.calm)
+
+          abbrev y : Locals
+          y = locals_of begins.formatter
+
+          not_returned : y.returned ≡ false
+          unfolding run
+          not_returned = refl
+
+          its_arm : Does (arm o i t ts) y g g₂
+          its_arm = κ.arms t ts here y (closes κ.taken) (sym (κ.overflow t ts here) ∙ κ.calm)
+
+          second : given g₂ ≡ given p
+          second = its_arm.same.given ∙ lead_same.given
+
+          abbrev left : Locals
+          left = locals_of (run (arm o i t ts) (state_of y g)).formatter
+
+          its_trail : Does (trail_token t.trailing) left g₂ g₃
+          its_trail = go (subst (λ z. Trailed (trivia_in z.source.rows.now z.source.text.now (token.own + 16) token.next) b g₂ g₃) second κ.trailed)
+            where
+              go : Trailed (trivia_in rows text (token.own + 16) token.next) b g₂ g₃ → Does (trail_token t.trailing) left g₂ g₃
+              go (written e z) =
+                  trails o i t ts y g not_returned (ltb (token.own + 16) token.next) (κ.trailing t ts here) e
+                  (subst (λ ls. Does (trailing_trivia ls) left g₂ g₃) (sym (trailing_is ω η h τ)) (z left))
+              go (left_out e z) =
+                  rw z
+                  (trails_not o i t ts y g not_returned (ltb (token.own + 16) token.next) (κ.trailing t ts here) e
+                  (λ n. trailing_is ω η h τ ∙ no_trivia rows text (ltb-false (token.own + 16) token.next n)))
+
+          its_track : (z : Locals) → Does (update (track_fn_state t.kind)) z g₃ g₄
+          its_track z = subst (λ n. Does (update (track_fn_state n)) z g₃ g₄) (sym here.kind) (κ.tracked z)
+
+          pub turned : Does (turn o i t ts) x p g₄
+          turned = turns o i t ts x p d k (its_lead x) calm (seq its_arm (seq its_trail (its_track _)))
+
+          pub turn-full : length g₄.sink.out.now < g₄.sink.len → Err (Full i) ≡ pushed_of (checked size i after)
+          turn-full g =
+              past-full size i after
+              (split (leb (length after.out) size)
+              (λ e. absurd (let u = turned.fits θ.ready.fits.within (leb-true _ _ e) in let w = u.within in omega arith))
+              (λ e. leb-false (length after.out) size e))
+
+          pub turn-ok : g₄.sink.len ≤ length g₄.sink.out.now → Ok tt ≡ pushed_of (checked size i after)
+          turn-ok g =
+              within-ok size i after
+              (split (leb (length after.out) size) (λ e. leb-true _ _ e) (λ e. absurd (let z = turned.over θ.ready.fits.within (leb-false _ _ e) in omega arith)))
+              (turn-shallow o i t ts (state_of x p) d k calm)
+
+    -- ---- for any locals
+
+    module _ (room : g.sink.len ≤ length g.sink.out.now) where
+      commas-same : g.commas ≡ p.commas
+      unfolding run
+      commas-same = ap (λ (v : State). v.commas) (arrives quiet refl refl room).state ∙ lead-commas o t.leading (state_of quiet p)
+
+      kept : {A : Type 0} (φ : definition.Formatter → A) → φ (begins quiet refl refl).formatter ≡ φ (state_of quiet p).formatter → φ (formatter_of g (locals_of (begins quiet refl refl).formatter)) ≡ φ (state_of quiet p).formatter
+      kept φ e = field quiet refl refl room φ e
+
+      -- Leading trivia change no count.
+      pub ready : Ready g
+      unfolding run
+      ready =
+          let c = θ.ready in
+          let s = lead-same o t.leading (state_of quiet p) in
+          let width : g.options.indent_width ≡ p.options.indent_width = ap (λ z. z.options.indent_width) lead_same.given in
+          let indent : g.indent ≡ p.indent = kept (λ v. v.indent) s.indent in
+          let group : g.group_depth.0 ≡ p.group_depth.0 = kept (λ v. v.group_depth) s.group_depth in
+          let inline : g.inline_depth.0 ≡ p.inline_depth.0 = kept (λ v. v.inline_depth) s.inline_depth in
+          let records : g.record_depth.0 ≡ p.record_depth.0 = kept (λ v. v.record_depth) s.record_depth in
+          let signature : depth_of g.sig_break_depth ≡ depth_of p.sig_break_depth = sym (depth-signature g.sig_break_depth) ∙ kept (λ v. depth v.sig_break_depth) (ap depth s.sig_break_depth) ∙ depth-signature p.sig_break_depth in
+          record {
+            fits = record { within = room; width = rw width c.fits.width; indent = rw indent c.fits.indent };
+            group = rw group c.group;
+            inline = rw inline c.inline;
+            records = rw records c.records;
+            signature = rw signature c.signature;
+            commas = rw commas-same c.commas;
+          }
+
+      pub rows_there : HasRows token g
+      rows_there = subst (λ (z : Given). InRows token z.source.rows.now z.source.text.now) (sym lead_same.given) has_rows
+
+      pub ends_there : HasEnds token g
+      ends_there = subst (λ (z : Given). (token.lead ≤ length z.source.rows.now) × Ahead z.ends token.lead z.source.rows.now) (sym lead_same.given) has_ends
+
+  -- A token without leading rows.
+  pub no_leading : token.lead ≡ token.own → {g : Formatter} → Done (lead_token o []) p g → Done (lead_token o (trivia_in rows text token.lead token.own)) p g
+  no_leading e {g} δ x = subst (λ ls. Does (lead_token o ls) x p g) (sym (no_trivia rows text {at = token.lead} {to = token.own} (omega arith))) (δ x)
