@@ -17,3 +17,7 @@ pub mod Locals
 pub mod BareRow
 pub mod Turn
 pub mod Feeds
+pub mod FastTokenTurn
+pub mod FastTokens
+pub mod FastBraceTurn
+pub mod FastBraces
