@@ -216,6 +216,18 @@ module _ {rows text l k : List ℕ} {from n before at len fast prev : ℕ} {m₀
       let far = (α.done t x).whole in
       rw (d, e) (more τ.alone (rw (q, s) at τ.fits) (rw (g, e) at w) only (omega arith))
 
+-- ---- the same of the code's states
+
+-- From the code's state f at the call, fast tokens are laid out up to the state g: with the loop's sets, and whether a space may stand next.
+pub record FastTokensLoop (rows text : List ℕ) (f g : code.Formatter) (from fast changing loose at prev spaced : ℕ) : Type 0 where
+  pub so_far : FastTokensSoFar rows text from f.sink.len (last_kind f) (fast_state_of f) fast f.sink.out.now at g.sink.len prev (fast_state_of g) g.sink.out.now
+  pub changing : changing ≡ changing_kinds g.fn_state g.record_pending
+  pub loose : loose ≡ loose_after Other g.prev_minus_is_unary
+  pub spaced : spaced ≡ bit loose prev
+  pub form : (x : Locals) → formatter_of g x ≡ with_fields (fast_state_of g) (formatter_of f x)
+  pub same : Same f g
+  pub commas : g.commas ≡ f.commas
+
 -- ---- what the walk has before fast tokens
 
 unbroken : (b : Option SignatureDepth) → not (is_some (signature_of b)) ≡ true → signature_of b ≡ none

@@ -1,6 +1,7 @@
 -- `formatter::Formatter::push_fast_braces` meets its contract. Assumes nothing.
-use mathlib.Core.Path.{sym}
+use mathlib.Core.Path.{sym, ap}
 use Rattle.formatter.proofs.FastBraces.{goes_open, goes_close}
+use Rattle.formatter.specs.FastBraces.{with_fast_braces}
 use Rattle.formatter.proofs.Formatter.push_fast_braces.Goals as goal
 
 pub loop-b-preserved-in-LeftBrace : goal.loop-b-preserved-in-LeftBrace
@@ -23,4 +24,12 @@ loop-b-preserved c =
       form = i.form;
       same = record { given = i.same.given; lent = i.same.lent };
       commas = i.commas;
+    }
+
+pub returns : goal.returns
+returns c =
+    let i = c.loop-b.invariant in
+    record {
+      laid = rw c.unwrap_or.ensures at i.so_far.done;
+      changed = record { form = λ x. ap (with_fast_braces c.loop-b.b) (i.form x); same = record { given = i.same.given; lent = i.same.lent }; commas = i.commas };
     }
