@@ -219,11 +219,11 @@ module _ {rows text l k : List ℕ} {from n before at len fast prev : ℕ} {m₀
 -- ---- the same of the code's states
 
 -- From the code's state f at the call, fast tokens are laid out up to the state g: with the loop's sets, and whether a space may stand next.
-pub record FastTokensLoop (rows text : List ℕ) (f g : code.Formatter) (from fast changing loose at prev spaced : ℕ) : Type 0 where
+pub record FastTokensLoop (rows text : List ℕ) (f g : code.Formatter) (from fast change after at prev spaced : ℕ) : Type 0 where
   pub so_far : FastTokensSoFar rows text from f.sink.len (last_kind f) (fast_state_of f) fast f.sink.out.now at g.sink.len prev (fast_state_of g) g.sink.out.now
-  pub changing : changing ≡ changing_kinds g.fn_state g.record_pending
-  pub loose : loose ≡ loose_after Other g.prev_minus_is_unary
-  pub spaced : spaced ≡ bit loose prev
+  pub changing : change ≡ changing_kinds g.fn_state g.record_pending
+  pub loose : after ≡ loose_after Other g.prev_minus_is_unary
+  pub gap : spaced ≡ bit after prev
   pub form : (x : Locals) → formatter_of g x ≡ with_fields (fast_state_of g) (formatter_of f x)
   pub same : Same f g
   pub commas : g.commas ≡ f.commas
@@ -234,9 +234,9 @@ unbroken : (b : Option SignatureDepth) → not (is_some (signature_of b)) ≡ tr
 unbroken None e = refl
 unbroken (Some d) e = impossible' e
 
-is_nil : (l : List ℕ) → eqb (length l) 0 ≡ true → l ≡ []
+is_nil : (l : List ℕ) → length l ≡ 0 → l ≡ []
 is_nil [] e = refl
-is_nil (x ∷ l) e = impossible' e
+is_nil (x ∷ l) e = absurd (omega arith)
 
 pub before_fast_tokens :
     {f : code.Formatter} → MayStartFastTokens f → (x : Locals) → prev_of f.prev ≡ some (last_kind f) → x.skip_next ≡ false → x.too_deep ≡ none
@@ -254,5 +254,5 @@ before_fast_tokens {f} β x p s d =
       whole = λ e.
           let a = and_left (not (is_some (signature_of f.sig_break_depth))) (eqb (length f.break_stack) 0) e in
           let b = and_right (not (is_some (signature_of f.sig_break_depth))) (eqb (length f.break_stack) 0) e in
-          (unbroken f.sig_break_depth a, is_nil f.break_stack b);
+          (unbroken f.sig_break_depth a, is_nil f.break_stack (eqb-true (length f.break_stack) 0 b));
     }
