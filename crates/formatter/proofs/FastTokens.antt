@@ -5,7 +5,7 @@ use mathlib.Core.Option.{none, some}
 use mathlib.Core.Path.{◌≡◌, refl, sym, ap, ◌∙◌}
 use Prim.Native.Nat.{ℕ, ◌+◌, ◌-◌, ◌/◌, ◌≤◌, ◌<◌}
 use native.Mathlib.Omega.{arith}
-use borrow.Author.Tests.{lt-ltb, eqb-true, not-true}
+use borrow.Author.Tests.{lt-ltb, le-ltb, eqb-true, not-true}
 use lib.Dec.{eqb, ltb}
 use lib.ListN.{length, take, drop, replicate, length-append, length-replicate}
 use lib.Seq.{length-slice, length-take-le}
@@ -26,7 +26,10 @@ use Rattle.definition.specs.Arms.{at_record_fields, in_broken_list}
 use Rattle.definition.specs.PushToken.{turn}
 use Rattle.definition.specs.Layout.{finished, lay_from}
 use Rattle.sink.specs.Sink.{Writes}
+use Rattle.sink.specs.declared.write.Sink.{Sink}
+use Rattle.sink.specs.Appends.{Appends}
 use Rattle.spaces.specs.Between.{loose_after, bit, spaces}
+use Rattle.spaces.proofs.Pairs.{bit-few}
 use Rattle.sink.proofs.Sink.{later}
 use Rattle.rows.specs.declared.kind.Kind.{Kind}
 use Rattle.rows.specs.declared.kind.Kind.TheVariants as kinds
@@ -227,6 +230,81 @@ pub record FastTokensLoop (rows text : List ℕ) (f g : code.Formatter) (from fa
   pub form : (x : Locals) → formatter_of g x ≡ with_fields (fast_state_of g) (formatter_of f x)
   pub same : Same f g
   pub commas : g.commas ≡ f.commas
+
+-- Before the first fast token.
+pub starts :
+    {rows text : List ℕ} {f : code.Formatter} {from fast change after prev spaced : ℕ} → TokenBoundary rows text from → f.sink.len ≤ length f.sink.out.now → prev ≡ last_kind f
+    → change ≡ changing_kinds f.fn_state f.record_pending → after ≡ loose_after Other f.prev_minus_is_unary → spaced ≡ bit after prev
+    → FastTokensLoop rows text f f from fast change after from prev spaced
+starts {f = f} {from} head within e c a z =
+    let none_yet : ltb from from ≡ false = le-ltb from from (omega arith) in
+    record {
+      so_far =
+          rw e (record {
+            known = kind_few (unwrap_or f.prev kinds.Eof);
+            room = within;
+            size = refl;
+            head = head;
+            done = λ t q.
+                record {
+                  whole = omega arith;
+                  head = head;
+                  group = omega arith;
+                  size = refl;
+                  far = omega arith;
+                  room = within;
+                  rest = refl;
+                  lays = λ o g c i σ. let n : i + (from - from) / 16 ≡ i = omega arith in rw (none_yet, n, σ.with_state);
+                };
+            still = λ t q g σ. rw (none_yet, σ.with_state) σ;
+          });
+      changing = c;
+      loose = a;
+      gap = z;
+      form = λ x. refl;
+      same = record { given = refl; lent = refl };
+      commas = refl;
+    }
+
+-- From the code's state g, a fast token of the kind k is written after one of the kind p, and h keeps the fields.
+pub record FastTokenWritten (p k : ℕ) (xs : List ℕ) (g h : code.Formatter) : Type 0 where
+  pub state : fast_state_of h ≡ fast_state_after p k (fast_state_of g)
+  pub form : (x : Locals) → formatter_of h x ≡ with_fields (fast_state_of h) (formatter_of g x)
+  pub given : given h ≡ given g
+  pub sink : Appends g.sink xs h.sink
+  pub commas : h.commas ≡ g.commas
+
+pub appended : {s t u : Sink} {xs : List ℕ} → u ≡ t → Appends s xs t → Appends s xs u
+appended e w = rw e w
+
+module _ {rows text : List ℕ} {f g : code.Formatter} {from fast change after at prev spaced : ℕ} (ω : CheckedRows rows text) (β : FastTokensLoop rows text f g from fast change after at prev spaced) where
+  -- A kind that changes no field.
+  pub unchanged : (k : ℕ) → k ≤ Other → (bit change k ≡ 1 → ⊥) → fast_state_of g ≡ fast_state_after prev k (fast_state_of g)
+  unchanged k h n =
+      let b = bit-few change k in
+      let z : bit change k ≡ 0 = omega arith in
+      sym (kept prev k (fast_state_of g) h (rw β.changing at z))
+
+  pub few : spaced < 2
+  few = let b = bit-few after prev in let e = β.gap in omega arith
+
+  -- After one more fast token the same holds: by the code's row and its number of spaces.
+  pub goes_on :
+      {g' h : code.Formatter} {room change' after' spaced' space : ℕ} → g' ≡ h → IsFastToken rows fast at room spaced → room ≡ length g.sink.out.now - g.sink.len
+      → (r : Row) → r ≡ row_at rows at → space ≡ space_before spaced r.kind → fast ≡ fast_kind_bits (fast_kinds_of f)
+      → FastTokenWritten prev r.kind (replicate space 32 ++ bytes_of text r) g h
+      → change' ≡ changing_kinds h.fn_state h.record_pending → after' ≡ loose_after Other h.prev_minus_is_unary → spaced' ≡ bit after' r.kind
+      → FastTokensLoop rows text f g' from fast change' after' (at + 16) r.kind spaced'
+  goes_on {h = h} e τ q r s z t w c a y =
+      rw e (record {
+        so_far = again ω β.so_far τ.ahead τ q β.gap β.loose r (fast_kinds_of f) t s z w.sink.writes w.state;
+        changing = c;
+        loose = a;
+        gap = y;
+        form = λ x. w.form x ∙ ap (with_fields (fast_state_of h)) (β.form x);
+        same = record { given = w.given ∙ β.same.given; lent = w.sink.lent ∙ β.same.lent };
+        commas = w.commas ∙ β.commas;
+      })
 
 -- ---- what the walk has before fast tokens
 
