@@ -21,3 +21,7 @@ pub mod Ahead
 pub mod BareRow
 pub mod Turn
 pub mod Feeds
+pub mod FastTokenTurn
+pub mod FastTokens
+pub mod FastBraceTurn
+pub mod FastBraces

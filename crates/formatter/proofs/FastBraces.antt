@@ -1,0 +1,150 @@
+-- The loop over fast braces: what holds at each turn, and what a turn does with it. Assumes nothing.
+use mathlib.Core.Bool.{Bool, true, false}
+use mathlib.Core.List.{List}
+use mathlib.Core.Option.{none, some}
+use mathlib.Core.Path.{◌≡◌, refl, sym, ap, ◌∙◌}
+use Prim.Native.Nat.{ℕ, ◌+◌, ◌-◌, ◌/◌, ◌≤◌, ◌<◌}
+use native.Mathlib.Omega.{arith}
+use borrow.Author.Tests.{lt-ltb}
+use lib.Dec.{eqb, ltb}
+use lib.ListN.{length, take, drop}
+use lib.Seq.{length-take-le}
+use Rattle.shared.proofs.Logic.{split}
+use Rattle.rows.specs.Kinds.{LeftBrace, RightBrace, Other}
+use Rattle.rows.specs.Row.{Row, row_at, rows_of}
+use Rattle.rows.specs.Options.{Options}
+use Rattle.rows.specs.Token.{tokens_of}
+use Rattle.definition.specs.Formatter.{Formatter}
+use Rattle.definition.specs.Act.{state}
+use Rattle.definition.specs.Layout.{finished, lay_from}
+use Rattle.sink.specs.Sink.{Writes}
+use Rattle.sink.proofs.Sink.{later}
+use Rattle.rows.specs.declared.kind.Kind.TheVariants as kinds
+use Rattle.rows.specs.KindNumber.{kind_number}
+use Rattle.std.specs.Prelude.{unwrap_or, min}
+use Rattle.formatter.specs.declared.Formatter as code
+use Rattle.formatter.specs.declared.fast_braces.FastBraces.{FastBraces}
+use Rattle.formatter.specs.CodeState.{Locals, prev_of, formatter_of}
+use Rattle.formatter.specs.Does.{Same}
+use Rattle.formatter.specs.Format.{only_tokens}
+use Rattle.formatter.specs.FastBraces.{MayStartFastBraces, BeforeFastBraces, after_fast_braces, fast_braces_at, FastBracesLaidOut, opener_bytes, closer_bytes, after_opener, after_closer}
+use Rattle.formatter.proofs.BareRow.{row_token, only_after, lay-turn}
+use Rattle.formatter.proofs.FastBraceTurn.{Turns, open_turns, close_turns}
+
+-- ---- what holds at the loop's head
+
+-- From the place `from` and the output l, fast braces are laid out up to the place b and the output m.
+pub record FastBracesSoFar (rows : List ℕ) (from : FastBraces) (l : List ℕ) (b : FastBraces) (m : List ℕ) : Type 0 where
+  pub far : from.at ≤ b.at
+  pub only : only_tokens (rows_of (drop b.at rows)) ≡ true
+  pub done : FastBracesLaidOut rows from l m b
+
+-- The same of the code's states: f at the call, g at the loop's head, where the output alone may differ.
+pub record FastBracesLoop (rows : List ℕ) (from b : FastBraces) (f g : code.Formatter) : Type 0 where
+  pub so_far : FastBracesSoFar rows from f.sink.out.now b g.sink.out.now
+  pub form : (x : Locals) → formatter_of g x ≡ formatter_of f x
+  pub same : Same f g
+  pub commas : g.commas ≡ f.commas
+
+-- ---- one brace
+
+still_before_fast_braces : {f : Formatter} {b : FastBraces} (taken close : Bool) (r : FastBraces) → BeforeFastBraces f b → BeforeFastBraces (after_fast_braces taken close r f) r
+still_before_fast_braces taken close r σ =
+    record {
+      mid_line = σ.mid_line;
+      prev = refl;
+      no_fn = σ.no_fn;
+      no_record = σ.no_record;
+      outside = σ.outside;
+      depth = refl;
+      closed = refl;
+      no_skip = σ.no_skip;
+      shallow = σ.shallow;
+    }
+
+module _ {rows l m : List ℕ} {from b : FastBraces} (α : FastBracesSoFar rows from l b m) (h : 16 ≤ length rows - b.at) where
+  here : b.at + 16 ≤ length rows
+  here = let w = α.done.within in omega arith
+
+  module _ {k : ℕ} {xs m' : List ℕ} (r : FastBraces) (kind : (row_at rows b.at).kind ≡ k) (turns : Turns k b xs r) (next : r.at ≡ b.at + 16) (deep : r.depth ≤ b.depth + 1) (fits : b.len + length xs ≤ length m) (w : Writes m b.len xs m' r.len) where
+    text-fits : length (take r.len m') ≤ length l
+    text-fits =
+        let u = (w.fits fits).far in
+        let s = w.size in
+        let z = α.done.size in
+        omega (arith, length-take-le r.len m' (omega arith))
+
+    step : (text : List ℕ) (o : Options) (f : Formatter) (c j : ℕ) → BeforeFastBraces f from
+        → lay_from o (length l) (finished (state (after_fast_braces (ltb from.at b.at) α.done.close b f) (take b.len m) c)) j (tokens_of (drop b.at rows) text)
+        ≡ lay_from o (length l) (finished (state (after_fast_braces true b.closed r f) (take r.len m') c)) (j + 1) (tokens_of (drop (b.at + 16) rows) text)
+    step text o f c j σ =
+        let g = after_fast_braces (ltb from.at b.at) α.done.close b f in
+        let e = turns o j (row_token text (row_at rows b.at)) (tokens_of (drop (b.at + 16) rows) text) g (take b.len m) c (still_before_fast_braces (ltb from.at b.at) α.done.close b σ) kind refl refl in
+        lay-turn rows b.at α.only here text o (length l) j (state g (take b.len m) c) (e ∙ ap (λ x. state (after_fast_braces true b.closed r f) x c) (sym (w.fits fits).text)) text-fits σ.shallow
+
+    more : FastBracesSoFar rows from l r m'
+    more =
+        let u = w.fits fits in
+        let uf = u.far in
+        let z = w.size in
+        let δ = α.done in
+        let g = α.far in
+        record {
+          far = omega arith;
+          only = rw next (only_after rows b.at α.only here);
+          done =
+              record {
+                whole = let x = δ.whole in omega arith;
+                within = let x = here in omega arith;
+                size = w.size ∙ δ.size;
+                far = let y = δ.far in omega arith;
+                room = omega arith;
+                rest = u.rest ∙ later b.len r.len m l (omega arith) δ.rest;
+                deep = let x = δ.deep in omega arith;
+                close = b.closed;
+                lays = λ text o f c i σ.
+                    let j : i + (r.at - from.at) / 16 ≡ i + (b.at - from.at) / 16 + 1 = omega arith in
+                    let e : ltb from.at r.at ≡ true = lt-ltb from.at r.at (omega arith) in
+                    rw (j, e, next) (δ.lays text o f c i σ ∙ step text o f c (i + (b.at - from.at) / 16) σ);
+              };
+        }
+
+  -- The same by the code's row, and by the place that it comes to.
+
+  read : {n : ℕ} (k : ℕ) → k < Other → min n Other ≡ k → n ≡ k
+  read k h e = omega arith
+
+  pub goes_open :
+      (row : Row) {r : FastBraces} {m' : List ℕ} → row ≡ row_at rows b.at → min row.kind Other ≡ LeftBrace → 0 < b.depth → 2 ≤ length m - b.len
+      → Writes m b.len opener_bytes m' r.len × (r ≡ after_opener b r.len) → FastBracesSoFar rows from l r m'
+  goes_open row {r} {m'} e k d f w =
+      rw w.1 (more _ (rw e at (read LeftBrace (omega arith) k)) (open_turns b r.len d) refl (omega arith) (let x = α.done.room in omega arith) w.0)
+
+  closer-fits : 2 ≤ length m - b.len → b.len + length (closer_bytes b.prev) ≤ length m
+  closer-fits f =
+      let x = α.done.room in
+      split (eqb (kind_number b.prev) LeftBrace) (λ e. rw e (omega arith)) (λ e. rw e (omega arith))
+
+  pub goes_close :
+      (row : Row) {r : FastBraces} {m' : List ℕ} → row ≡ row_at rows b.at → min row.kind Other ≡ RightBrace → 0 < b.depth → 2 ≤ length m - b.len
+      → Writes m b.len (closer_bytes b.prev) m' r.len × (r ≡ after_closer b r.len) → FastBracesSoFar rows from l r m'
+  goes_close row {r} {m'} e k d f w =
+      rw w.1 (more _ (rw e at (read RightBrace (omega arith) k)) (close_turns b r.len d) refl (omega arith) (closer-fits f) w.0)
+
+-- ---- where they begin
+
+pub before_fast_braces :
+    {f : code.Formatter} → MayStartFastBraces f → (at : ℕ) (x : Locals) → prev_of f.prev ≡ some (kind_number (unwrap_or f.prev kinds.Eof)) → x.skip_next ≡ false → x.too_deep ≡ none
+    → BeforeFastBraces (formatter_of f x) (fast_braces_at f at)
+before_fast_braces ν at x p s d =
+    record {
+      mid_line = ν.mid_line;
+      prev = p;
+      no_fn = ν.no_fn;
+      no_record = ν.no_record;
+      outside = ν.outside;
+      depth = refl;
+      closed = refl;
+      no_skip = s;
+      shallow = d;
+    }

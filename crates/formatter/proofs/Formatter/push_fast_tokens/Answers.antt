@@ -1,0 +1,85 @@
+-- `formatter::Formatter::push_fast_tokens` meets its contract. Assumes nothing.
+use mathlib.Core.Path.{◌≡◌, refl, sym, ap, ◌∙◌}
+use Prim.Native.Nat.{ℕ, ◌≤◌}
+use native.Mathlib.Omega.{arith}
+use Rattle.rows.specs.Kinds.{Other}
+use Rattle.rows.specs.KindNumber.{kind_number}
+use Rattle.rows.specs.Row.{Row, row_at}
+use Rattle.rows.proofs.KindNumbers.{tag_is}
+use Rattle.definition.specs.Formatter.{set_prev}
+use Rattle.formatter.specs.FastTokens.{IsFastToken, fast_kinds_of}
+use Rattle.formatter.proofs.Numbered.{read_as}
+use Rattle.formatter.proofs.FastTokens.{taken-fits, whole_row, row_known, starts, appended, unchanged, few, goes_on}
+use Rattle.formatter.proofs.Formatter.push_fast_tokens.Goals as goal
+use Rattle.formatter.proofs.Formatter.push_fast_tokens.Goals.{then-bit-eq1, else-bit-eq1}
+
+pub loop-rows-init : goal.loop-rows-init
+loop-rows-init c =
+    starts c.requires.token_boundary c.requires.len_in_bounds (tag_is c.unwrap_or-prev.result ∙ ap kind_number c.unwrap_or-prev.ensures)
+    c.changing_kinds-changing.ensures c.loose_after-loose.ensures c.bit-spaced.ensures
+
+pub is_fast_token-requires-clause-row_ahead : goal.is_fast_token-requires-clause-row_ahead
+is_fast_token-requires-clause-row_ahead c =
+    let α = c.loop-rows.invariant.so_far in
+    λ h. (whole_row c.requires.checked α.head h, (α.head.whole, row_known c.requires.checked α.head h _ refl))
+
+pub put_token-requires-clause-start_lt_end : goal.put_token-requires-clause-start_lt_end
+put_token-requires-clause-start_lt_end c =
+    let t = c.is_fast_token.ensures c.loop-rows-test.true in
+    let i = c.loop-rows.invariant in
+    (taken-fits c.requires.checked i.so_far t.ahead t c.room.ensures (few c.requires.checked i) _ c.row_at-row.ensures c.space_before-space.ensures).0
+
+pub bit-requires : goal.bit-requires
+bit-requires c =
+    let t = c.is_fast_token.ensures c.loop-rows-test.true in
+    row_known c.requires.checked c.loop-rows.invariant.so_far.head t.ahead _ c.row_at-row.ensures
+
+pub bit-spaced-requires-in-loop-rows : goal.bit-spaced-requires-in-loop-rows
+bit-spaced-requires-in-loop-rows c =
+    let t = c.is_fast_token.ensures c.loop-rows-test.true in
+    row_known c.requires.checked c.loop-rows.invariant.so_far.head t.ahead _ c.row_at-row.ensures
+
+pub returns : goal.returns
+returns c =
+    let i = c.loop-rows.invariant in
+    let k : kind_number c.of-2.result ≡ c.loop-rows.prev = read_as c.of-2.result c.of-2.ensures i.so_far.known in
+    record {
+      laid = rw k (i.so_far.done (fast_kinds_of c.args.self.now) c.fast_kinds-fast.ensures);
+      changed = record { form = λ x. ap (set_prev _) (i.form x); same = record { given = i.same.given; lent = i.same.lent }; commas = i.commas };
+    }
+
+pub loop-rows-preserved : goal.loop-rows-preserved
+loop-rows-preserved c =
+    let t = c.is_fast_token.ensures c.loop-rows-test.true in
+    let i = c.loop-rows.invariant in
+    let ω = c.requires.checked in
+    let known : c.row_at-row.result.kind ≤ Other = row_known ω i.so_far.head t.ahead _ c.row_at-row.ensures in
+    elim c.if-bit-eq1.branch
+      [ then-bit-eq1 w ↦
+          let τ = w.track_fast_token.ensures in
+          let p : kind_number w.of.result ≡ c.loop-rows.prev = read_as w.of.result w.of.ensures i.so_far.known in
+          let k : kind_number w.token_kind.result ≡ c.row_at-row.result.kind = read_as w.token_kind.result w.token_kind.ensures known in
+          goes_on ω i w.self-is t c.room.ensures _ c.row_at-row.ensures c.space_before-space.ensures c.fast_kinds-fast.ensures
+          (record {
+            state = rw (p, k) at τ.state;
+            form = τ.form;
+            given = τ.given;
+            sink = appended τ.sink c.put_token.ensures;
+            commas = τ.commas;
+          })
+          (ap (λ s. s.0) w.changing-is ∙ w.changing_kinds-changing-then-bit-eq1.ensures)
+          (ap (λ s. s.0) w.loose-is ∙ w.loose_after-loose-then-bit-eq1.ensures)
+          c.bit-spaced-in-loop-rows.ensures
+      | else-bit-eq1 w ↦
+          goes_on ω i w.self-is t c.room.ensures _ c.row_at-row.ensures c.space_before-space.ensures c.fast_kinds-fast.ensures
+          (record {
+            state = unchanged ω i c.row_at-row.result.kind known (λ e. w.if-bit-eq1.false (c.bit.ensures ∙ e));
+            form = λ x. refl;
+            given = refl;
+            sink = c.put_token.ensures;
+            commas = refl;
+          })
+          (ap (λ s. s.0) w.changing-is ∙ i.changing)
+          (ap (λ s. s.0) w.loose-is ∙ i.loose)
+          c.bit-spaced-in-loop-rows.ensures
+      ]
