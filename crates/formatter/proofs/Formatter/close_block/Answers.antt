@@ -9,5 +9,5 @@ pub returns : goal.returns
 unfolding run said
 returns c = λ x.
     does
-    refl (sym (rw (c.record_depth_outside.ensures, c.saturating_sub-self.ensures))) refl
+    refl (sym (rw (c.record_depth_outside-self.ensures, c.saturating_sub-self.ensures))) refl
     (rw (← c.saturating_sub-self.ensures, ← c.indent_size-spaces.ensures.0) c.write_closer.ensures)

@@ -1,5 +1,5 @@
 -- `formatter::Formatter::close_list` meets its contract. Assumes nothing.
-use mathlib.Core.Path.{sym}
+use mathlib.Core.Path.{refl, sym}
 use Rattle.definition.specs.Emit.{on_new_line}
 use Rattle.formatter.specs.CodeState.{options_of}
 use Rattle.formatter.proofs.Does.{closing}

@@ -1,6 +1,6 @@
 -- `formatter::Formatter::close_record` meets its contract. Assumes nothing.
 use mathlib.Core.Bool.{◌||◌}
-use mathlib.Core.Path.{sym}
+use mathlib.Core.Path.{refl, sym}
 use Rattle.shared.specs.Bytes.{right_brace}
 use Rattle.rows.specs.Kinds.{Comma, LeftBrace}
 use Rattle.definition.specs.Emit.{prev_is, on_new_line}

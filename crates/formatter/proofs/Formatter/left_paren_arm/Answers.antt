@@ -33,5 +33,5 @@ returns-else-breaks_list c = λ t ts σ v x.
     (no
     (λ n. told (c.breaks_list.ensures t ts σ) c.if-breaks_list.false)
     (seq
-    (updated refl (sym (rw c.deeper.ensures)) refl nothing)
-    (its σ c.requires.kind_value (open_group (options_of c.args.self.now.options)) (c.open_group.ensures _))))
+    (updated refl (sym (rw c.deeper-self.ensures)) refl nothing)
+    (its c.args.self.now σ c.requires.kind_value (open_group (options_of c.args.self.now.options)) (c.open_group.ensures _))))

@@ -32,4 +32,4 @@ returns-else-should_break_sig c = λ t ts σ x.
     (should_break_sig c.args.self.now.options.fn_sig_width) (part_is c.args.token.lead c.args.self.now.source.rows.now)
     (sig_tokens _ _ _ c.should_break_sig.ensures))
     c.if-should_break_sig.false)
-    (its σ c.requires.kind_value (open_group (options_of c.args.self.now.options)) (c.open_group.ensures _)))
+    (its c.args.self.now σ c.requires.kind_value (open_group (options_of c.args.self.now.options)) (c.open_group.ensures _)))

@@ -17,18 +17,18 @@ pub returns-then-in_broken_list : goal.returns-then-in_broken_list
 unfolding right_paren_arm run
 returns-then-in_broken_list c = λ t ts σ x.
     seq
-    (updated refl (sym (rw c.shallower.ensures)) refl nothing)
+    (updated refl (sym (rw c.shallower-self.ensures)) refl nothing)
     (no
-    (λ n. rw c.shallower.ensures (told c.closes_signature.ensures c.if-closes_signature.false))
+    (λ n. rw c.shallower-self.ensures (told c.closes_signature.ensures c.if-closes_signature.false))
     (yes (λ n. told c.in_broken_list.ensures c.if-in_broken_list.true) (same-run refl (c.close_list.ensures _))))
 
 pub returns-else-in_broken_list : goal.returns-else-in_broken_list
 unfolding right_paren_arm
 returns-else-in_broken_list c = λ t ts σ x.
     seq
-    (updated refl (sym (rw c.shallower.ensures)) refl nothing)
+    (updated refl (sym (rw c.shallower-self.ensures)) refl nothing)
     (no
-    (λ n. rw c.shallower.ensures (told c.closes_signature.ensures c.if-closes_signature.false))
+    (λ n. rw c.shallower-self.ensures (told c.closes_signature.ensures c.if-closes_signature.false))
     (no
     (λ n. told c.in_broken_list.ensures c.if-in_broken_list.false)
-    (its σ c.requires.in_rows.1 (close_group (options_of c.args.self.now.options)) (c.close_group.ensures _))))
+    (its c.args.self.now σ c.requires.in_rows.1 (close_group (options_of c.args.self.now.options)) (c.close_group.ensures _))))
