@@ -4,7 +4,7 @@ use mathlib.Core.Path.{refl, sym, ap}
 use Rattle.lookahead.proofs.Lacks.{no_brace}
 use Rattle.lookahead.specs.Measure.{block_is_single_line}
 use Rattle.formatter.proofs.Does.{told}
-use Rattle.formatter.proofs.Looked.{looked, part_is}
+use Rattle.formatter.proofs.Looked.{looked}
 use Rattle.formatter.proofs.Formatter.opens_block.Goals as goal
 
 pub returns-then-self-lead : goal.returns-then-self-lead
