@@ -2,7 +2,7 @@
 -- Assumes nothing.
 use mathlib.Core.Bool.{true, false, ◌&&◌}
 use mathlib.Core.List.{List, [], ◌∷◌, ◌++◌, append-nil, append_assoc}
-use mathlib.Core.Path.{◌≡◌, sym}
+use mathlib.Core.Path.{◌≡◌, sym, ap}
 use Prim.Native.Nat.{ℕ, ◌+◌}
 use native.Mathlib.Omega.{arith}
 use borrow.Author.Tests.{ltb-false}
@@ -19,10 +19,18 @@ use Rattle.lookahead.specs.Measure.{next_is}
 use Rattle.definition.proofs.Said.{said}
 use Rattle.sink.specs.Appends.{Appends}
 use Rattle.formatter.specs.declared.Formatter.{Formatter}
-use Rattle.formatter.specs.CodeState.{Locals, state_of, formatter_of, given}
+use Rattle.formatter.specs.CodeState.{Locals, Given, options_of, state_of, formatter_of, given}
 use Rattle.formatter.specs.Parts.{opens_block, record_entered, open_one_line, one_line_bytes, braced}
 use Rattle.formatter.specs.Does.{Does}
 use Rattle.formatter.proofs.Does.{same-run, does, yes, no}
+
+-- ---- the options, which a method that was called left as they were
+
+same-act : {a b : Act} {x : Locals} {p q : Formatter} → a ≡ b → Does a x p q → Does b x p q
+same-act e d = rw e at d
+
+pub same-options : (a : Options → Act) (p : Formatter) {x : Locals} {m q : Formatter} → given m ≡ given p → Does (a (options_of m.options)) x m q → Does (a (options_of p.options)) x m q
+same-options a p e d = same-act (ap (λ (g : Given). a (options_of g.options)) e) d
 
 -- ---- a block over several lines, by its style
 

@@ -1,0 +1,10 @@
+-- `formatter::Formatter::open_allman` meets its contract. Assumes nothing.
+use mathlib.Core.Path.{refl}
+use Rattle.definition.specs.Act.{run}
+use Rattle.definition.proofs.Said.{said}
+use Rattle.formatter.proofs.Does.{does_then}
+use Rattle.formatter.proofs.Formatter.open_allman.Goals as goal
+
+pub returns : goal.returns
+unfolding run said
+returns c = λ x. does_then refl refl refl (rw (← c.indent_size-spaces.ensures.0) c.write_opener_line.ensures)
