@@ -5,4 +5,4 @@ use Rattle.formatter.proofs.Does.{seq, updated}
 use Rattle.formatter.proofs.Formatter.other_arm.Goals as goal
 
 pub returns : goal.returns
-returns c = λ t ts σ x. rw (σ.kind, σ.lexeme) (seq (updated refl (rw c.record_pending_after.ensures) refl nothing) (c.push_lexeme.ensures.does _))
+returns c = λ t ts σ x. rw (σ.kind, σ.lexeme) (seq (updated refl (rw c.record_pending_after-self.ensures) refl nothing) (c.push_lexeme.ensures.does _))
