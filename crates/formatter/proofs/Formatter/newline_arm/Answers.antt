@@ -1,6 +1,5 @@
 -- `formatter::Formatter::newline_arm` meets its contract. Assumes nothing.
 use mathlib.Core.Path.{refl}
-use Prim.Native.Nat.{◌+◌}
 use Rattle.definition.specs.Act.{run}
 use Rattle.definition.specs.Arms.{newline_arm}
 use Rattle.definition.proofs.Said.{said}
@@ -8,7 +7,7 @@ use Rattle.sink.proofs.Appends.{nothing}
 use Rattle.formatter.specs.Parts.{feeds_line}
 use Rattle.formatter.specs.CodeState.{state_of}
 use Rattle.formatter.proofs.Does.{told, yes, no, stays, does, updated}
-use Rattle.formatter.proofs.Looked.{looked_after, part_is}
+use Rattle.formatter.proofs.Looked.{looked_after}
 use Rattle.formatter.proofs.Newlines.{newline}
 use Rattle.formatter.proofs.Formatter.newline_arm.Goals as goal
 
@@ -26,7 +25,7 @@ returns-then-feeds c = λ t ts σ x.
     told
     (looked_after σ
     (λ l. feeds_line l (state_of x c.args.self.now))
-    (part_is (c.args.token.own + 16) c.args.self.now.source.rows.now) (c.feeds.ensures x n))
+    refl (c.feeds.ensures x n))
     c.if-feeds.true)
     (does refl refl refl c.write_byte.ensures))
 
@@ -39,6 +38,9 @@ returns-else-feeds c = λ t ts σ x.
     told
     (looked_after σ
     (λ l. feeds_line l (state_of x c.args.self.now))
-    (part_is (c.args.token.own + 16) c.args.self.now.source.rows.now) (c.feeds.ensures x n))
+    refl (c.feeds.ensures x n))
     c.if-feeds.false)
     stays)
+
+pub overflow_add-token : goal.overflow_add-token
+overflow_add-token c = ?

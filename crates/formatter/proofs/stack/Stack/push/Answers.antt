@@ -10,7 +10,7 @@ pub returns-then-self-lt-STACK_SIZE : goal.returns-then-self-lt-STACK_SIZE
 returns-then-self-lt-STACK_SIZE c =
     let k = c.self.inside in
     rw (← c.self.view_is, top_length k.count k.entries, lt-ltb k.count 64 c.if-self-lt-STACK_SIZE.true)
-    (top_pushed k.count k.entries c.args.depth ?)
+    (top_pushed k.count k.entries c.args.depth (rw c.self.told c.if-self-lt-STACK_SIZE.true))
 
 pub returns-else-self-lt-STACK_SIZE : goal.returns-else-self-lt-STACK_SIZE
 returns-else-self-lt-STACK_SIZE c =
