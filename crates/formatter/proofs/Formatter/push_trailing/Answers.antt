@@ -1,7 +1,6 @@
 -- `formatter::Formatter::push_trailing` meets its contract. Assumes nothing.
-use Rattle.formatter.proofs.Comments.{row_inside, row_within, trailing_does, trails-after, trails_none, trails-whole}
+use Rattle.formatter.proofs.Comments.{row_inside, row_within, trail_text, trails-after, trails-whole, trails_done}
 use native.Mathlib.Omega.{arith}
-use mathlib.Core.Path.{refl}
 use Rattle.formatter.proofs.Formatter.push_trailing.Goals as goal
 
 pub overflow_add-at : goal.overflow_add-at
@@ -14,7 +13,7 @@ pub row_at-requires : goal.row_at-requires
 row_at-requires c = row_within c.loop-at.invariant.part c.loop-at-test.true
 
 pub push_trail-requires : goal.push_trail-requires
-push_trail-requires c = row_inside c.loop-at.invariant.part c.loop-at-test.true c.row_at.ensures
+push_trail-requires c = rw (trail_text c.loop-at.invariant) (row_inside c.loop-at.invariant.part c.loop-at-test.true c.row_at.ensures)
 
 pub overflow_add-at-in-loop-at : goal.overflow_add-at-in-loop-at
 overflow_add-at-in-loop-at c = let b = row_within c.loop-at.invariant.part c.loop-at-test.true in omega arith
@@ -26,4 +25,4 @@ pub loop-at-preserved : goal.loop-at-preserved
 loop-at-preserved c = trails-after c.loop-at.invariant c.loop-at-test.true c.row_at.ensures c.push_trail.ensures
 
 pub returns : goal.returns
-returns c = λ x. trailing_does _ refl refl refl (trails_none c.loop-at.invariant c.loop-at-test.false)
+returns c = trails_done c.loop-at.invariant c.loop-at-test.false
