@@ -1,7 +1,7 @@
 -- A row of trivia, and rows of trivia one by one. Assumes nothing.
 use mathlib.Core.Bool.{false}
 use mathlib.Core.List.{List, [], ◌∷◌, ◌++◌, append-nil}
-use mathlib.Core.Path.{◌≡◌, refl, ap, ◌∙◌}
+use mathlib.Core.Path.{◌≡◌, refl, sym, ap, ◌∙◌}
 use Prim.Native.Nat.{ℕ, zero, suc, ◌+◌, ◌-◌, ◌/◌, ◌≤◌, ◌<◌}
 use native.Mathlib.Nat.{add-zero}
 use native.Mathlib.Omega.{arith}
@@ -23,7 +23,8 @@ use Rattle.row_writers.specs.Comment.{comment_head, lead_tail, trail_head, trail
 use Rattle.sink.specs.declared.write.Sink.{Sink}
 use Rattle.sink.proofs.Appends.{and_then, nothing}
 use Rattle.formatter.specs.declared.Formatter.{Formatter}
-use Rattle.formatter.specs.CodeState.{Locals, formatter_of, given, options_of}
+use Rattle.row_writers.specs.declared.Source.{Source}
+use Rattle.formatter.specs.CodeState.{Locals, formatter_of, Given, given, options_of}
 use Rattle.formatter.specs.Does.{Same, Does, Done}
 use Rattle.formatter.specs.Trivia.{WholeRows, trivia_in, lead_token, trail_bytes}
 use Rattle.formatter.proofs.Does.{does, then, seq, stays, updated}
@@ -103,6 +104,13 @@ pub record LeadsLeft (from to : ℕ) (f₀ : Formatter) (at : ℕ) (f : Formatte
       (q : Formatter) → Done (leading_trivia (options_of f₀.options) (trivia_in f₀.source.rows.now f₀.source.text.now at to)) f q
       → Done (leading_trivia (options_of f₀.options) (trivia_in f₀.source.rows.now f₀.source.text.now from to)) f₀ q
 
+-- What stays as given, by its fields.
+pub same_options : {p q : Formatter} → Same p q → q.options ≡ p.options
+same_options s = ap (λ (z : Given). z.options) s.given
+
+pub same_source : {p q : Formatter} → Same p q → q.source ≡ p.source
+same_source s = ap (λ (z : Given). z.source) s.given
+
 pub leads-whole :
     {from to : ℕ} {f : Formatter} → WholeRows f.source.rows.now f.source.text.now from to → f.indent ≤ 4294967295
     → LeadsLeft from to f from f
@@ -111,19 +119,22 @@ leads-whole π h = record { part = π; same = record { given = refl; lent = refl
 module _ {from to : ℕ} {f₀ : Formatter} {at : ℕ} {f : Formatter} (left : LeadsLeft from to f₀ at f) where
   pub leads-after :
       at < to → {r : Row} → r ≡ row_at f₀.source.rows.now at → {g : Formatter} → g.indent ≡ f.indent
-      → Done (lead_act (options_of f₀.options) (trivia_of f₀.source.text.now r)) f g → LeadsLeft from to f₀ (at + 16) g
+      → Done (lead_act (options_of f.options) (trivia_of f.source.text.now r)) f g → LeadsLeft from to f₀ (at + 16) g
   unfolding leading_trivia
-  leads-after h e {g} i d =
+  leads-after h {r} e {g} i d =
       record {
         part = part_after left.part h;
         same = then left.same (d none).same;
         size = (d none).size ∙ left.size;
         indent = rw i left.indent;
-        rest = λ q y. left.rest q (λ x. rw (first_trivia left.part h e) (seq (d x) (y _)));
+        rest = λ q y. left.rest q (λ x. rw (first_trivia left.part h e) (seq (same-lead x) (y _)));
       }
     where
       none : Locals
       none = record { inline_close = false; returned = false; skip_next = false; too_deep = Rattle.std.proofs.Math.Option.none }
+
+      same-lead : Done (lead_act (options_of f₀.options) (trivia_of f₀.source.text.now r)) f g
+      same-lead = rw (sym (same_options left.same), sym (ap (λ (z : Source). z.text.now) (same_source left.same))) d
 
   -- At the end nothing is left.
   module _ (h : to ≤ at) where
@@ -171,25 +182,35 @@ trailing_does ts z c n w =
     let h = trailing-same ts _ in
     does z (rw h.formatter c) (h.commas ∙ n) (rw (trailing_said ts) w)
 
--- The rows from `at` on write what is left of the whole.
-pub record TrailsLeft (rows text : List ℕ) (from to : ℕ) (s₀ : Sink) (at : ℕ) (s : Sink) : Type 0 where
-  pub part : WholeRows rows text at to
-  pub rest : (t : Sink) → Appends s (trails_bytes (trivia_in rows text at to)) t → Appends s₀ (trails_bytes (trivia_in rows text from to)) t
+-- From the state f, the rows from `at` on write what is left of the whole that begins in the state f₀; f has another sink
+-- alone.
+pub record TrailsLeft (from to : ℕ) (f₀ : Formatter) (at : ℕ) (f : Formatter) : Type 0 where
+  pub part : WholeRows f₀.source.rows.now f₀.source.text.now at to
+  pub kept : f ≡ record f₀ { sink = f.sink }
+  pub rest :
+      (t : Sink) → Appends f.sink (trails_bytes (trivia_in f₀.source.rows.now f₀.source.text.now at to)) t
+      → Appends f₀.sink (trails_bytes (trivia_in f₀.source.rows.now f₀.source.text.now from to)) t
 
-pub trails-whole : {rows text : List ℕ} {from to : ℕ} {s : Sink} → WholeRows rows text from to → TrailsLeft rows text from to s from s
-trails-whole π = record { part = π; rest = λ t w. w }
+pub trails-whole : {from to : ℕ} {f : Formatter} → WholeRows f.source.rows.now f.source.text.now from to → TrailsLeft from to f from f
+trails-whole π = record { part = π; kept = refl; rest = λ t w. w }
 
-module _ {rows text : List ℕ} {from to : ℕ} {s₀ : Sink} {at : ℕ} {s : Sink} (left : TrailsLeft rows text from to s₀ at s) where
+module _ {from to : ℕ} {f₀ : Formatter} {at : ℕ} {f : Formatter} (left : TrailsLeft from to f₀ at f) where
+  pub trail_text : f.source.text.now ≡ f₀.source.text.now
+  trail_text = ap (λ (z : Formatter). z.source.text.now) left.kept
+
   pub trails-after :
-      at < to → {r : Row} → r ≡ row_at rows at → {t : Sink} → Appends s (trail_bytes (trivia_of text r)) t
-      → TrailsLeft rows text from to s₀ (at + 16) t
+      at < to → {r : Row} → r ≡ row_at f₀.source.rows.now at → {t : Sink}
+      → Appends f.sink (trail_bytes (trivia_of f.source.text.now r)) t → TrailsLeft from to f₀ (at + 16) (record f { sink = t })
   unfolding trails_bytes
-  trails-after h e w =
+  trails-after h e {t} w =
       record {
         part = part_after left.part h;
-        rest = λ u y. left.rest u (rw (first_trivia left.part h e) (and_then w y));
+        kept = ap (λ (z : Formatter). record z { sink = t }) left.kept;
+        rest = λ u y. left.rest u (rw (first_trivia left.part h e) (and_then (rw trail_text at w) y));
       }
 
-  pub trails_none : to ≤ at → Appends s₀ (trails_bytes (trivia_in rows text from to)) s
+  pub trails_done : to ≤ at → Done (trailing_trivia (trivia_in f₀.source.rows.now f₀.source.text.now from to)) f₀ f
   unfolding trails_bytes
-  trails_none h = left.rest s (rw (no_trivia rows text h) nothing)
+  trails_done h x =
+      trailing_does _ (ap given left.kept) (sym (ap (λ (z : Formatter). formatter_of z x) left.kept)) (sym (ap (λ (z : Formatter). z.commas) left.kept))
+      (left.rest f.sink (rw (no_trivia f₀.source.rows.now f₀.source.text.now h) nothing))

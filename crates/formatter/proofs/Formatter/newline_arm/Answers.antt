@@ -1,0 +1,46 @@
+-- `formatter::Formatter::newline_arm` meets its contract. Assumes nothing.
+use mathlib.Core.Path.{refl}
+use Rattle.definition.specs.Act.{run}
+use Rattle.definition.specs.Arms.{newline_arm}
+use Rattle.definition.proofs.Said.{said}
+use Rattle.sink.proofs.Appends.{nothing}
+use Rattle.formatter.specs.Parts.{feeds_line}
+use Rattle.formatter.specs.CodeState.{state_of}
+use Rattle.formatter.proofs.Does.{told, yes, no, stays, does, updated}
+use Rattle.formatter.proofs.Looked.{looked_after}
+use Rattle.formatter.proofs.Newlines.{newline}
+use Rattle.formatter.proofs.Formatter.newline_arm.Goals as goal
+
+pub returns-then-suppresses : goal.returns-then-suppresses
+unfolding newline_arm
+returns-then-suppresses c = λ t ts σ x. yes (λ n. told c.suppresses.ensures c.if-suppresses.true) (updated refl refl refl nothing)
+
+pub returns-then-feeds : goal.returns-then-feeds
+unfolding run said
+returns-then-feeds c = λ t ts σ x.
+    newline c.args.token.index ts
+    (told c.suppresses.ensures c.if-suppresses.false)
+    (yes
+    (λ n.
+    told
+    (looked_after σ
+    (λ l. feeds_line l (state_of x c.args.self.now))
+    refl (c.feeds.ensures x n))
+    c.if-feeds.true)
+    (does refl refl refl c.write_byte.ensures))
+
+pub returns-else-feeds : goal.returns-else-feeds
+returns-else-feeds c = λ t ts σ x.
+    newline c.args.token.index ts
+    (told c.suppresses.ensures c.if-suppresses.false)
+    (no
+    (λ n.
+    told
+    (looked_after σ
+    (λ l. feeds_line l (state_of x c.args.self.now))
+    refl (c.feeds.ensures x n))
+    c.if-feeds.false)
+    stays)
+
+pub overflow_add-token : goal.overflow_add-token
+overflow_add-token c = let w = c.well_formed.0 in let v = c.well_formed.1 in let l0 = c.struct_known-1.given in ?

@@ -1,0 +1,9 @@
+use Rattle.formatter.proofs.Comments.{LeadsLeft}
+use Prim.Native.Nat.{◌-◌}
+use Rattle.formatter.proofs.Formatter.push_leading.Given as goal
+
+abbrev pub invariant-loop-at : goal.invariant-loop-at
+invariant-loop-at l = LeadsLeft l.initial.at l.end l.initial.self l.at l.self
+
+abbrev pub decreases-loop-at : goal.decreases-loop-at
+decreases-loop-at l = l.end - l.at
