@@ -17,7 +17,6 @@ pub mod Locals
 pub mod Turned
 pub mod Pushed
 pub mod Going
-pub mod Ahead
 pub mod BareRow
 pub mod Turn
 pub mod Feeds
@@ -25,3 +24,5 @@ pub mod FastTokenTurn
 pub mod FastTokens
 pub mod FastBraceTurn
 pub mod FastBraces
+pub mod Ahead
+pub mod Loop

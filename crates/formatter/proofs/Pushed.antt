@@ -5,7 +5,7 @@ use mathlib.Core.Option.{none, some}
 use mathlib.Core.Path.{◌≡◌, refl, sym, ap, subst, ◌∙◌}
 use Prim.Native.Nat.{ℕ, zero, suc, ◌+◌, ◌*◌, ◌≤◌, ◌<◌, ◌-◌, ◌/◌}
 use native.Mathlib.Omega.{arith}
-use borrow.Author.Tests.{leb-true, leb-false, le-ltb, lt-ltb, ltb-false, eq-eqb, ne_eqb}
+use borrow.Author.Tests.{leb-true, leb-false, le-ltb, lt-ltb, ltb-true, ltb-false, eq-eqb, ne_eqb}
 use lib.Dec.{leb, eqb, ltb}
 use lib.ListN.{length, take, drop}
 use lib.Seq.{length-take-le}
@@ -95,6 +95,9 @@ module _ (size i : ℕ) (s : State) where
 
   pub within-ok : length s.out ≤ size → s.formatter.too_deep ≡ none → Ok tt ≡ pushed_of (checked size i s)
   within-ok g e = rw (le-ltb size (length s.out) g, e)
+
+not-ok : {A : Type 0} {e : WalkError} → ◌≡◌ {A = Result (Unit {0}) WalkError} (Err e) (Ok tt) → A
+not-ok e = let y : ◌≡◌ {A = ℕ} 0 1 = cc in absurd (omega arith)
 
 -- ---- a token
 
@@ -309,3 +312,66 @@ module _ {token : TokenAt} {p : Formatter} (θ : HasToken token p) where
   -- A token without leading rows.
   pub no_leading : token.lead ≡ token.own → {g : Formatter} → Done (lead_token o []) p g → Done (lead_token o (trivia_in rows text token.lead token.own)) p g
   no_leading e {g} δ x = subst (λ ls. Does (lead_token o ls) x p g) (sym (no_trivia rows text {at = token.lead} {to = token.own} (omega arith))) (δ x)
+
+  -- ---- what `push_token` answers
+
+  module _ {g : Formatter} (δ : Done (lead_token o (trivia_in rows text token.lead token.own)) p g) where
+    -- The leading trivia do not fit.
+    pub pushed-lead-full : ltb (length g.sink.out.now) g.sink.len ≡ true → TokenPushed token p (Err (Full i)) g
+    pushed-lead-full l =
+        record {
+          same = lead_same δ;
+          size = lead_size δ;
+          answer = at_here _ (λ x d k. leads-full δ x d k (ltb-true _ _ l));
+          does = λ e. not-ok e;
+        }
+
+    module _ (fits : ltb (length g.sink.out.now) g.sink.len ≡ false) where
+      room : g.sink.len ≤ length g.sink.out.now
+      room = ltb-false _ _ fits
+
+      pub pushed_ready : Ready g
+      pushed_ready = ready δ room
+
+      pub pushed_rows : HasRows token g
+      pushed_rows = rows_there δ room
+
+      pub pushed_ends : HasEnds token g
+      pushed_ends = ends_there δ room
+
+      -- The stack is full.
+      pub pushed_deep : AtToken token g (λ t ts. true ≡ overflows (options_of g.options) t ts (fields_of g)) → TokenPushed token p (Err (Deep i)) g
+      pushed_deep v =
+          let e = subst (λ (z : Given). At token z (λ t ts. true ≡ overflows (options_of z.options) t ts (fields_of g))) (lead_same δ).given v in
+          record {
+            same = lead_same δ;
+            size = lead_size δ;
+            answer = at_here _ (λ x d k. leads-deep δ x d k room (sym (e t ts here)));
+            does = λ e. not-ok e;
+          }
+
+      module _ {r close b : Bool} {g₂ g₃ g₄ : Formatter} (κ : Calls (given g) token p g r close b g₂ g₃ g₄) where
+        κ₀ : Calls (given p) token p g r close b g₂ g₃ g₄
+        κ₀ = subst (λ z. Calls z token p g r close b g₂ g₃ g₄) (lead_same δ).given κ
+
+        did : (x : Locals) → x.too_deep ≡ none → x.skip_next ≡ false → Does (turn o i t ts) x p g₄
+        did x d k = turned δ x d k room κ₀
+
+        -- The trailing trivia's rows.
+        pub pushed_full : ltb (length g₄.sink.out.now) g₄.sink.len ≡ true → TokenPushed token p (Err (Full i)) g₄
+        pushed_full l =
+            record {
+              same = (did quiet refl refl).same;
+              size = (did quiet refl refl).size;
+              answer = at_here _ (λ x d k. turn-full δ x d k room κ₀ (ltb-true _ _ l));
+              does = λ e. not-ok e;
+            }
+
+        pub pushed_ok : ltb (length g₄.sink.out.now) g₄.sink.len ≡ false → TokenPushed token p (Ok tt) g₄
+        pushed_ok l =
+            record {
+              same = (did quiet refl refl).same;
+              size = (did quiet refl refl).size;
+              answer = at_here _ (λ x d k. turn-ok δ x d k room κ₀ (ltb-false _ _ l));
+              does = λ e. at_here _ did;
+            }
