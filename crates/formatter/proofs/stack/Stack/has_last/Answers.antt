@@ -1,8 +1,6 @@
 -- `formatter::stack::Stack::has_last` meets its contract. Assumes nothing.
-use mathlib.Core.Bool.{false}
 use mathlib.Core.List.{head?}
-use mathlib.Core.Path.{◌≡◌, sym, ap, ◌∙◌}
-use lib.Dec.{ltb}
+use mathlib.Core.Path.{sym, ap, ◌∙◌}
 use borrow.Author.Tests.{le-ltb}
 use Rattle.definition.specs.Emit.{is_at}
 use Rattle.formatter.proofs.Entries.{top_is, top_isnt}
