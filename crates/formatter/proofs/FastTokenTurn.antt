@@ -24,7 +24,7 @@ use Rattle.spaces.proofs.Pairs.{spaces_are, loose_other}
 use Rattle.formatter.specs.declared.FnState.{FnState}
 use Rattle.formatter.specs.declared.FnState.TheVariants.{Outside, AfterFn, Named}
 use Rattle.formatter.specs.CodeState.{fn_number}
-use Rattle.formatter.specs.FastTokens.{FastKinds, is_closer, fast_kind_bits, space_before, FastState, fn_after, pending_after, unary_after, group_after, changing_kinds, fast_state_after, BeforeFastTokens, after_fast_tokens}
+use Rattle.formatter.specs.FastTokens.{FastKinds, is_closer, fast_kind_bits, space_before, FastState, fn_after, pending_after, group_after, changing_kinds, fast_state_after, BeforeFastTokens, after_fast_tokens}
 use Rattle.formatter.proofs.Gaps.{token_gap_lem}
 use Rattle.formatter.proofs.Turn.{same, chosen_not, by_arm_lem}
 

@@ -31,11 +31,9 @@ use Rattle.sink.specs.Appends.{Appends}
 use Rattle.spaces.specs.Between.{loose_after, bit, spaces}
 use Rattle.spaces.proofs.Pairs.{bit-few}
 use Rattle.sink.proofs.Sink.{later}
-use Rattle.rows.specs.declared.kind.Kind.{Kind}
 use Rattle.rows.specs.declared.kind.Kind.TheVariants as kinds
-use Rattle.rows.specs.KindNumber.{kind_number}
-use Rattle.std.specs.Prelude.{unwrap_or, min}
-use Rattle.formatter.proofs.Numbered.{kind_few, read_as}
+use Rattle.std.specs.Prelude.{unwrap_or}
+use Rattle.formatter.proofs.Numbered.{kind_few}
 use Rattle.formatter.specs.declared.Formatter as code
 use Rattle.std.specs.declared.option.Option.{Option}
 use Rattle.std.specs.declared.option.Option.TheVariants.{None, Some}
@@ -44,7 +42,7 @@ use Rattle.formatter.specs.CodeState.{Locals, prev_of, signature_of, formatter_o
 use Rattle.formatter.specs.Does.{Same}
 use Rattle.formatter.specs.Trivia.{trivia_in}
 use Rattle.formatter.specs.Format.{CheckedRows, TokenBoundary, own_row, next_row}
-use Rattle.formatter.specs.FastTokens.{FastKinds, fast_kinds_of, fast_kind_bits, space_before, group_after, is_closer, FastState, changing_kinds, fast_state_of, fast_state_after, with_fields, with_fast_state, BareRow, IsFastToken, MayStartFastTokens, BeforeFastTokens, after_fast_tokens, ChangedBy, TracksFastToken, FastTokens, FastTokensLaidOut, last_kind, LaysFastTokens}
+use Rattle.formatter.specs.FastTokens.{FastKinds, fast_kinds_of, fast_kind_bits, space_before, group_after, is_closer, FastState, changing_kinds, fast_state_of, fast_state_after, with_fields, BareRow, IsFastToken, MayStartFastTokens, BeforeFastTokens, after_fast_tokens, FastTokens, FastTokensLaidOut, last_kind}
 use Rattle.formatter.proofs.Comments.{no_trivia}
 use Rattle.formatter.proofs.Place.{tokens_here, head-next, row_in}
 use Rattle.formatter.proofs.BareRow.{row_token, lay-first}

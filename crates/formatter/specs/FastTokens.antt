@@ -16,7 +16,7 @@ use Rattle.definition.specs.Act.{state}
 use Rattle.definition.specs.Emit.{is_some, is_at}
 use Rattle.definition.specs.Arms.{at_record_fields, in_broken_list}
 use Rattle.definition.specs.Layout.{finished, lay_from}
-use Rattle.spaces.specs.Between.{loose_after, bit}
+use Rattle.spaces.specs.Between.{bit}
 use Rattle.formatter.specs.declared.Formatter as code
 use Rattle.formatter.specs.declared.FnState.{FnState}
 use Rattle.formatter.specs.declared.FnState.TheVariants.{Outside, AfterFn, Named}

@@ -1,13 +1,11 @@
 -- `formatter::Formatter::push_fast_tokens` meets its contract. Assumes nothing.
-use mathlib.Core.Path.{◌≡◌, refl, sym, ap, ◌∙◌}
-use Prim.Native.Nat.{ℕ, ◌≤◌}
-use native.Mathlib.Omega.{arith}
+use mathlib.Core.Path.{◌≡◌, refl, ap, ◌∙◌}
+use Prim.Native.Nat.{◌≤◌}
 use Rattle.rows.specs.Kinds.{Other}
 use Rattle.rows.specs.KindNumber.{kind_number}
-use Rattle.rows.specs.Row.{Row, row_at}
 use Rattle.rows.proofs.KindNumbers.{tag_is}
 use Rattle.definition.specs.Formatter.{set_prev}
-use Rattle.formatter.specs.FastTokens.{IsFastToken, fast_kinds_of}
+use Rattle.formatter.specs.FastTokens.{fast_kinds_of}
 use Rattle.formatter.proofs.Numbered.{read_as}
 use Rattle.formatter.proofs.FastTokens.{taken-fits, whole_row, row_known, starts, appended, unchanged, few, goes_on}
 use Rattle.formatter.proofs.Formatter.push_fast_tokens.Goals as goal
