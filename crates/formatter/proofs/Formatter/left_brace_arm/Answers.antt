@@ -1,8 +1,8 @@
 -- `formatter::Formatter::left_brace_arm` meets its contract. Assumes nothing.
-use Rattle.definition.specs.Arms.{empty_record, open_block}
-use mathlib.Core.Path.{ap}
 use mathlib.Core.Bool.{false}
+use mathlib.Core.Path.{ap}
 use Rattle.std.proofs.Math.Option.{none}
+use Rattle.definition.specs.Arms.{empty_record, open_block}
 use Rattle.formatter.specs.CodeState.{Given, options_of}
 use Rattle.formatter.proofs.Blocks.{brace, same-options}
 use Rattle.formatter.proofs.Does.{told, yes, no, seq}
