@@ -1,24 +1,25 @@
 -- Lexemes: bounds, tests and bytes of the methods that write them. Assumes nothing.
 use mathlib.Core.Bool.{Bool}
 use mathlib.Core.List.{List, [], ◌++◌, append-nil, append_assoc}
-use mathlib.Core.Path.{◌≡◌, sym}
+use mathlib.Core.Path.{◌≡◌, refl, sym, ap}
 use Prim.Native.Nat.{ℕ, ◌*◌, ◌≤◌, ◌<◌}
 use native.Mathlib.Nat.{lt_of_le_of_lt, mul-le-mul}
 use lib.Dec.{lit<}
 use lib.ListN.{replicate}
 use Rattle.rows.specs.Options.{Options}
 use Rattle.rows.specs.Token.{Token}
-use Rattle.definition.specs.Formatter.{set_prev_minus_is_unary}
+use Rattle.definition.specs.Formatter.{set_prev_minus_is_unary, set_fn_state}
 use Rattle.definition.specs.Act.{update, ◌⨾◌, run}
-use Rattle.definition.specs.Emit.{token_gap, ended_by, track_minus, push_lexeme}
+use Rattle.definition.specs.Emit.{token_gap, ended_by, track_minus, push_lexeme, track_fn_state}
 use Rattle.definition.proofs.Said.{said}
 use Rattle.sink.specs.Appends.{Appends}
-use Rattle.sink.proofs.Appends.{same_bytes}
+use Rattle.sink.proofs.Appends.{same_bytes, nothing}
 use Rattle.formatter.specs.declared.Formatter.{Formatter}
-use Rattle.formatter.specs.CodeState.{Locals, state_of, formatter_of, given}
+use Rattle.formatter.specs.declared.FnState.{FnState}
+use Rattle.formatter.specs.CodeState.{Locals, state_of, formatter_of, fields_of, fn_number, given}
 use Rattle.formatter.specs.Does.{Does}
 use Rattle.formatter.specs.Parts.{gap_size, emit_tail}
-use Rattle.formatter.proofs.Does.{does, seq, same-run}
+use Rattle.formatter.proofs.Does.{does, seq, same-run, updated}
 use Rattle.formatter.proofs.Gaps.{token_gap_lem, gapped}
 
 -- The size of an indent is no large number.
@@ -47,3 +48,11 @@ module _ (o : Options) (t : Token) where
       → Does (emit_tail o t []) x p q → Does (update (set_prev_minus_is_unary unary)) x q r → Does (push_lexeme o t) x p r
   unfolding run
   pushed {unary} e d u = same-run {a = emit_tail o t [] ⨾ update (set_prev_minus_is_unary unary)} (rw (append-nil, e)) (seq {a = emit_tail o t []} d u)
+
+-- ---- `fn name (`
+
+-- The code's state after a token's kind is the definition's.
+pub tracked :
+    (k : ℕ) {x : Locals} {p : Formatter} {state : FnState} → fn_number state ≡ (track_fn_state k (fields_of p)).fn_state
+    → Does (update (track_fn_state k)) x p (record p { fn_state = state })
+tracked k {x} {p} e = updated refl (ap (λ n. set_fn_state n (formatter_of p x)) (sym e)) refl nothing

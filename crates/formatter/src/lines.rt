@@ -22,7 +22,7 @@ impl<'a> Formatter<'a> {
     {
         if self.suppresses(token.index) {
             self.suppress_newline_at = None;
-        } else if self.feeds(token.own + ROW_BYTES) {
+        } else if self.feeds(token.own) {
             self.sink.write_byte(b'\n');
             self.at_line_start = true;
             self.prev = Some(Kind::Newline);
@@ -36,16 +36,17 @@ impl<'a> Formatter<'a> {
         self.suppress_newline_at == Some(index)
     }
 
-    // Whether a Newline that is not swallowed writes a line feed, before the tokens of the rows from `after`
-    // on: not at the text's start before a comment, not in a record or a one-line block, and never a third
-    // line feed.
-    fn feeds(&self, after: usize) -> bool
-        requires { after ≤ length self.now.source.rows.now }
+    // Whether a Newline that is not swallowed writes a line feed, before the tokens of the rows after `own`:
+    // not at the text's start before a comment, not in a record or a one-line block, and never a third line
+    // feed.
+    fn feeds(&self, own: usize) -> bool
+        requires { own + row_size ≤ length self.now.source.rows.now }
         ensures { (x : Locals) → self.now.sink.len ≤ length self.now.sink.out.now
-            → result ≡ feeds_line (tokens_of (drop after self.now.source.rows.now) self.now.source.text.now)
+            → result ≡ feeds_line
+            (tokens_of (drop (own + row_size) self.now.source.rows.now) self.now.source.text.now)
             (state_of x self.now) }
     {
-        if self.sink.len == 0 && next_has_comment(&self.source.rows[after..]) {
+        if self.sink.len == 0 && next_has_comment(&self.source.rows[own + ROW_BYTES..]) {
             return false;
         }
         if self.in_record || self.in_one_line_block() {

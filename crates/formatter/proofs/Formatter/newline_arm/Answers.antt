@@ -41,6 +41,3 @@ returns-else-feeds c = λ t ts σ x.
     refl (c.feeds.ensures x n))
     c.if-feeds.false)
     stays)
-
-pub overflow_add-token : goal.overflow_add-token
-overflow_add-token c = let w = c.well_formed.0 in let v = c.well_formed.1 in let l0 = c.struct_known-1.given in ?
