@@ -19,7 +19,7 @@ use Rattle.lookahead.specs.Measure.{is_empty}
 use Rattle.definition.specs.Formatter as definition
 use Rattle.definition.specs.Act.{State, run, update}
 use Rattle.definition.specs.Emit.{track_fn_state, trailing_trivia, leading_trivia}
-use Rattle.definition.specs.PushToken.{arm, overflows, turn}
+use Rattle.definition.specs.PushToken.{arm, overflows, turn, take_inline_close}
 use Rattle.definition.specs.Layout.{finished, stopped, checked}
 use Rattle.definition.proofs.Growth.{depth}
 use Rattle.rows.specs.KindNumber.{kind_number}
@@ -36,7 +36,8 @@ use Rattle.formatter.specs.Token.{Ready, HasRows, HasEnds, InRows, Ahead, AtToke
 use Rattle.formatter.specs.Trivia.{WholeRows, trivia_in, lead_token}
 use Rattle.formatter.specs.Parts.{returns_early}
 use Rattle.formatter.specs.Format.{HasToken, TokenPushed, pushed_of, CheckedRows, TokenBoundary, TokenRows}
-use Rattle.formatter.proofs.Does.{seq, reached, then}
+use Rattle.sink.proofs.Appends.{nothing}
+use Rattle.formatter.proofs.Does.{seq, reached, stays, updated}
 use Rattle.formatter.proofs.Locals.{SameFields, lead-same, lead-commas}
 use Rattle.formatter.proofs.Turned.{trail_token, led, led_within, turns, trails, trails_not, turn-shallow, turn-deep}
 use Rattle.formatter.proofs.Comments.{no_trivia}
@@ -54,9 +55,9 @@ pub data Trailed (tr : List Trivia) (b : Bool) (f g : Formatter) : Type 0 where
 abbrev pub At : TokenAt → Given → (Token → List Token → Type 0) → Type 0
 At token z P = (t : Token) (ts : List Token) → StandsFor token z.source.rows.now z.source.text.now t ts → P t ts
 
--- After the leading trivia: refusal 4's test, whether a one-line block's `}` stands before, the test for trailing trivia, the
--- arm, the trailing trivia, and `fn_state`. f is the state before the token, g that after its leading trivia.
-pub record Calls (z : Given) (token : TokenAt) (f g : Formatter) (r close b : Bool) (g₂ g₃ g₄ : Formatter) : Type 0 where
+-- After the leading trivia: refusal 4's test, whether a one-line block's `}` stands before, the test for trailing trivia, and
+-- the arm. f is the state before the token, g that after its leading trivia.
+pub record Armed (z : Given) (token : TokenAt) (f g : Formatter) (r close b : Bool) (g₂ : Formatter) : Type 0 where
   pub overflow : At token z (λ t ts. r ≡ overflows (options_of z.options) t ts (fields_of g))
   pub calm : r ≡ false
   pub taken : close ≡ (eqb token.lead token.own && f.just_closed_inline)
@@ -64,6 +65,10 @@ pub record Calls (z : Given) (token : TokenAt) (f g : Formatter) (r close b : Bo
   pub arms :
       At token z (λ t ts. (y : Locals) → y.inline_close ≡ close → overflows (options_of z.options) t ts (fields_of g) ≡ false
       → Does (arm (options_of z.options) token.index t ts) y g g₂)
+
+-- And then the trailing trivia and `fn_state`.
+pub record Calls (z : Given) (token : TokenAt) (f g : Formatter) (r close b : Bool) (g₂ g₃ g₄ : Formatter) : Type 0 where
+  pub armed : Armed z token f g r close b g₂
   pub trailed : Trailed (trivia_in g₂.source.rows.now g₂.source.text.now (token.own + 16) token.next) b g₂ g₃
   pub tracked : Done (update (track_fn_state (kind_number token.kind))) g₃ g₄
 
@@ -221,9 +226,9 @@ module _ {token : TokenAt} {p : Formatter} (θ : HasToken token p) where
 
         -- ---- the whole turn
 
-        module _ {r close b : Bool} {g₂ g₃ g₄ : Formatter} (κ : Calls (given p) token p g r close b g₂ g₃ g₄) where
+        module _ {r close b : Bool} {g₂ : Formatter} (α : Armed (given p) token p g r close b g₂) where
           calm : overflows o t ts begins.formatter ≡ false
-          calm = overflow_is (sym (κ.overflow t ts here) ∙ κ.calm)
+          calm = overflow_is (sym (α.overflow t ts here) ∙ α.calm)
 
           abbrev y : Locals
           y = locals_of begins.formatter
@@ -233,44 +238,45 @@ module _ {token : TokenAt} {p : Formatter} (θ : HasToken token p) where
           not_returned = refl
 
           its_arm : Does (arm o i t ts) y g g₂
-          its_arm = κ.arms t ts here y (closes κ.taken) (sym (κ.overflow t ts here) ∙ κ.calm)
+          its_arm = α.arms t ts here y (closes α.taken) (sym (α.overflow t ts here) ∙ α.calm)
 
-          second : given g₂ ≡ given p
+          pub second : given g₂ ≡ given p
           second = its_arm.same.given ∙ lead_same.given
 
           abbrev left : Locals
           left = locals_of (run (arm o i t ts) (state_of y g)).formatter
 
-          its_trail : Does (trail_token t.trailing) left g₂ g₃
-          its_trail = go (subst (λ z. Trailed (trivia_in z.source.rows.now z.source.text.now (token.own + 16) token.next) b g₂ g₃) second κ.trailed)
-            where
-              go : Trailed (trivia_in rows text (token.own + 16) token.next) b g₂ g₃ → Does (trail_token t.trailing) left g₂ g₃
-              go (written e z) =
-                  trails o i t ts y g not_returned (ltb (token.own + 16) token.next) (κ.trailing t ts here) e
-                  (subst (λ ls. Does (trailing_trivia ls) left g₂ g₃) (sym (trailing_is ω η h τ)) (z left))
-              go (left_out e z) =
-                  rw z
-                  (trails_not o i t ts y g not_returned (ltb (token.own + 16) token.next) (κ.trailing t ts here) e
-                  (λ n. trailing_is ω η h τ ∙ no_trivia rows text (ltb-false (token.own + 16) token.next n)))
+          module _ {g₃ g₄ : Formatter} (trailed : Trailed (trivia_in g₂.source.rows.now g₂.source.text.now (token.own + 16) token.next) b g₂ g₃) (tracked : Done (update (track_fn_state (kind_number token.kind))) g₃ g₄) where
+            its_trail : Does (trail_token t.trailing) left g₂ g₃
+            its_trail = go (subst (λ z. Trailed (trivia_in z.source.rows.now z.source.text.now (token.own + 16) token.next) b g₂ g₃) second trailed)
+              where
+                go : Trailed (trivia_in rows text (token.own + 16) token.next) b g₂ g₃ → Does (trail_token t.trailing) left g₂ g₃
+                go (written e z) =
+                    trails o i t ts y g not_returned (ltb (token.own + 16) token.next) (α.trailing t ts here) e
+                    (subst (λ ls. Does (trailing_trivia ls) left g₂ g₃) (sym (trailing_is ω η h τ)) (z left))
+                go (left_out e z) =
+                    rw z
+                    (trails_not o i t ts y g not_returned (ltb (token.own + 16) token.next) (α.trailing t ts here) e
+                    (λ n. trailing_is ω η h τ ∙ no_trivia rows text (ltb-false (token.own + 16) token.next n)))
 
-          its_track : (z : Locals) → Does (update (track_fn_state t.kind)) z g₃ g₄
-          its_track z = subst (λ n. Does (update (track_fn_state n)) z g₃ g₄) (sym here.kind) (κ.tracked z)
+            its_track : (z : Locals) → Does (update (track_fn_state t.kind)) z g₃ g₄
+            its_track z = subst (λ n. Does (update (track_fn_state n)) z g₃ g₄) (sym here.kind) (tracked z)
 
-          pub turned : Does (turn o i t ts) x p g₄
-          turned = turns o i t ts x p d k (its_lead x) calm (seq its_arm (seq its_trail (its_track _)))
+            pub turned : Does (turn o i t ts) x p g₄
+            turned = turns o i t ts x p d k (its_lead x) calm (seq its_arm (seq its_trail (its_track _)))
 
-          pub turn-full : length g₄.sink.out.now < g₄.sink.len → Err (Full i) ≡ pushed_of (checked size i after)
-          turn-full g =
-              past-full size i after
-              (split (leb (length after.out) size)
-              (λ e. absurd (let u = turned.fits θ.ready.fits.within (leb-true _ _ e) in let w = u.within in omega arith))
-              (λ e. leb-false (length after.out) size e))
+            pub turn-full : length g₄.sink.out.now < g₄.sink.len → Err (Full i) ≡ pushed_of (checked size i after)
+            turn-full g =
+                past-full size i after
+                (split (leb (length after.out) size)
+                (λ e. absurd (let u = turned.fits θ.ready.fits.within (leb-true _ _ e) in let w = u.within in omega arith))
+                (λ e. leb-false (length after.out) size e))
 
-          pub turn-ok : g₄.sink.len ≤ length g₄.sink.out.now → Ok tt ≡ pushed_of (checked size i after)
-          turn-ok g =
-              within-ok size i after
-              (split (leb (length after.out) size) (λ e. leb-true _ _ e) (λ e. absurd (let z = turned.over θ.ready.fits.within (leb-false _ _ e) in omega arith)))
-              (turn-shallow o i t ts (state_of x p) d k calm)
+            pub turn-ok : g₄.sink.len ≤ length g₄.sink.out.now → Ok tt ≡ pushed_of (checked size i after)
+            turn-ok g =
+                within-ok size i after
+                (split (leb (length after.out) size) (λ e. leb-true _ _ e) (λ e. absurd (let z = turned.over θ.ready.fits.within (leb-false _ _ e) in omega arith)))
+                (turn-shallow o i t ts (state_of x p) d k calm)
 
     -- ---- for any locals
 
@@ -309,9 +315,15 @@ module _ {token : TokenAt} {p : Formatter} (θ : HasToken token p) where
       pub ends_there : HasEnds token g
       ends_there = subst (λ (z : Given). (token.lead ≤ length z.source.rows.now) × Ahead z.ends token.lead z.source.rows.now) (sym lead_same.given) has_ends
 
-  -- A token without leading rows.
-  pub no_leading : token.lead ≡ token.own → {g : Formatter} → Done (lead_token o []) p g → Done (lead_token o (trivia_in rows text token.lead token.own)) p g
-  no_leading e {g} δ x = subst (λ ls. Does (lead_token o ls) x p g) (sym (no_trivia rows text {at = token.lead} {to = token.own} (omega arith))) (δ x)
+  -- A token without leading rows clears `just_closed_inline`.
+  cleared : Done (lead_token o []) p (record p { just_closed_inline = false })
+  unfolding leading_trivia
+  cleared x = seq {a = update (λ f. f)} {b = update (take_inline_close true)} {p = p} {q = p} stays (updated {g = take_inline_close true} {p = p} refl refl refl nothing)
+
+  pub no_leading : token.lead ≡ token.own → Done (lead_token o (trivia_in rows text token.lead token.own)) p (record p { just_closed_inline = false })
+  no_leading e x =
+      subst (λ ls. Does (lead_token o ls) x p (record p { just_closed_inline = false }))
+      (sym (no_trivia rows text {at = token.lead} {to = token.own} (omega arith))) (cleared x)
 
   -- ---- what `push_token` answers
 
@@ -350,20 +362,24 @@ module _ {token : TokenAt} {p : Formatter} (θ : HasToken token p) where
             does = λ e. not-ok e;
           }
 
-      module _ {r close b : Bool} {g₂ g₃ g₄ : Formatter} (κ : Calls (given g) token p g r close b g₂ g₃ g₄) where
-        κ₀ : Calls (given p) token p g r close b g₂ g₃ g₄
-        κ₀ = subst (λ z. Calls z token p g r close b g₂ g₃ g₄) (lead_same δ).given κ
-
-        did : (x : Locals) → x.too_deep ≡ none → x.skip_next ≡ false → Does (turn o i t ts) x p g₄
-        did x d k = turned δ x d k room κ₀
+      module _ {r close b : Bool} {g₂ : Formatter} (α : Armed (given g) token p g r close b g₂) where
+        α₀ : Armed (given p) token p g r close b g₂
+        α₀ = subst (λ z. Armed z token p g r close b g₂) (lead_same δ).given α
 
         -- The trailing trivia's rows.
+        pub pushed_trail_rows : WholeRows g₂.source.rows.now g₂.source.text.now (token.own + 16) token.next
+        pushed_trail_rows = subst (λ z. WholeRows z.source.rows.now z.source.text.now (token.own + 16) token.next) (sym (second δ quiet refl refl room α₀)) trail_rows
+
+      module _ {r close b : Bool} {g₂ g₃ g₄ : Formatter} (κ : Calls (given g) token p g r close b g₂ g₃ g₄) where
+        did : (x : Locals) → x.too_deep ≡ none → x.skip_next ≡ false → Does (turn o i t ts) x p g₄
+        did x d k = turned δ x d k room (α₀ κ.armed) κ.trailed κ.tracked
+
         pub pushed_full : ltb (length g₄.sink.out.now) g₄.sink.len ≡ true → TokenPushed token p (Err (Full i)) g₄
         pushed_full l =
             record {
               same = (did quiet refl refl).same;
               size = (did quiet refl refl).size;
-              answer = at_here _ (λ x d k. turn-full δ x d k room κ₀ (ltb-true _ _ l));
+              answer = at_here _ (λ x d k. turn-full δ x d k room (α₀ κ.armed) κ.trailed κ.tracked (ltb-true _ _ l));
               does = λ e. not-ok e;
             }
 
@@ -372,6 +388,6 @@ module _ {token : TokenAt} {p : Formatter} (θ : HasToken token p) where
             record {
               same = (did quiet refl refl).same;
               size = (did quiet refl refl).size;
-              answer = at_here _ (λ x d k. turn-ok δ x d k room κ₀ (ltb-false _ _ l));
+              answer = at_here _ (λ x d k. turn-ok δ x d k room (α₀ κ.armed) κ.trailed κ.tracked (ltb-false _ _ l));
               does = λ e. at_here _ did;
             }
