@@ -8,6 +8,7 @@ use native.Mathlib.Omega.{arith}
 use lib.Dec.{eqb, ltb}
 use lib.ListN.{length, drop}
 use Rattle.std.specs.Prelude.{Result, Ok, Err}
+use Rattle.std.specs.Result.{IsErrAnd}
 use Rattle.shared.specs.Numbers.{most32}
 use Rattle.shared.proofs.Logic.{split}
 use Rattle.rows.specs.Kinds.{LeftBrace, RightBrace}
@@ -22,6 +23,7 @@ use Rattle.definition.specs.PushToken.{overflows, turn}
 use Rattle.definition.specs.Layout.{checked}
 use Rattle.formatter.specs.declared.Formatter.{Formatter}
 use Rattle.formatter.specs.declared.TokenAt.{TokenAt}
+use Rattle.formatter.specs.declared.Finished.{Finished}
 use Rattle.formatter.specs.declared.WalkError.{WalkError}
 use Rattle.formatter.specs.declared.token.Place.{Place}
 use Rattle.formatter.specs.CodeState.{Locals, Given, state_of, locals_of, formatter_of, options_of, given}
@@ -140,8 +142,13 @@ module _ {f : Formatter} {i at : ℕ} {p : Formatter} (width : f.options.indent_
     turn-size = π.size ∙ ι.going.size
 
     -- A refusal of the token is the walk's.
-    pub refused : {e : WalkError} → r ≡ Err e → LaidOut rows text o f.sink.out.now (Err e) q.sink.out.now
+    refused : {e : WalkError} → r ≡ Err e → LaidOut rows text o f.sink.out.now (Err e) q.sink.out.now
     refused e = laid_stopped (given f) (stops ω ι.going h (sym e ∙ answer)) turn-size
+
+    -- The same of an answer that passes the refusal on.
+    pub refused_as : (a : Result Finished WalkError) {e : WalkError} → IsErrAnd a (λ y. y ≡ e) → r ≡ Err e → LaidOut rows text o f.sink.out.now a q.sink.out.now
+    refused_as (Ok m) k e = absurd k
+    refused_as (Err y) k e = rw k (refused e)
 
     module _ (ok : r ≡ Ok tt) where
       turned : Does (turn o i t ts) x p q

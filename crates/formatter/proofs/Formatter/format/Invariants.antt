@@ -1,0 +1,10 @@
+use Prim.Native.Nat.{◌-◌}
+use lib.ListN.{length}
+use Rattle.formatter.proofs.Loop.{Loop}
+use Rattle.formatter.proofs.Formatter.format.Given as goal
+
+abbrev pub invariant-loop-place : goal.invariant-loop-place
+invariant-loop-place l = Loop l.initial.self l.place.index l.place.at l.self
+
+abbrev pub decreases-loop-place : goal.decreases-loop-place
+decreases-loop-place l = length l.initial.self.source.rows.now - l.place.at
