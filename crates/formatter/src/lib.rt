@@ -145,8 +145,8 @@ impl<'a> Formatter<'a> {
     pub fn new(options: Options, source: Source<'a>, bare: bool, out: &'a mut [u8]) -> Self
         ensures fresh { Fresh result }
         ensures given { (result.options ≡ options) × (result.source ≡ source.entry) × (result.bare ≡ bare) }
-        ensures output { (result.sink.out.now ≡ out.old)
-            × (result.sink.out.ghost_name ≡ out.entry.ghost_name) }
+        ensures output { result.sink.out.now ≡ out.old }
+        ensures lent { result.sink.out.ghost_name ≡ out.entry.ghost_name }
     {
         Formatter {
             options,
