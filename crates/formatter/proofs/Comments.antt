@@ -65,9 +65,6 @@ unfolding first_rows
 no_trivia rows text {at} {to} h = let e : (to - at) / 16 ≡ 0 = omega arith in rw e
 
 module _ {rows text : List ℕ} {at to : ℕ} (π : WholeRows rows text at to) (h : at < to) where
-  pub row_within : at + 16 ≤ length rows
-  row_within = let e = π.whole in let g = π.within in omega arith
-
   first-row : first_rows ((to - at) / 16) (drop at rows) ≡ row_at rows at ∷ first_rows ((to - (at + 16)) / 16) (drop (at + 16) rows)
   unfolding first_rows
   first-row =
@@ -110,11 +107,6 @@ same_options s = ap (λ (z : Given). z.options) s.given
 
 pub same_source : {p q : Formatter} → Same p q → q.source ≡ p.source
 same_source s = ap (λ (z : Given). z.source) s.given
-
-pub leads-whole :
-    {from to : ℕ} {f : Formatter} → WholeRows f.source.rows.now f.source.text.now from to → f.indent ≤ 4294967295
-    → LeadsLeft from to f from f
-leads-whole π h = record { part = π; same = record { given = refl; lent = refl }; size = refl; indent = h; rest = λ q d. d }
 
 module _ {from to : ℕ} {f₀ : Formatter} {at : ℕ} {f : Formatter} (left : LeadsLeft from to f₀ at f) where
   pub leads-after :
@@ -174,7 +166,7 @@ trailing-same (doc_comment c ∷ ts) s = let h = trailing-same ts _ in record { 
 trailing-same (block_comment c ∷ ts) s = let h = trailing-same ts _ in record { formatter = h.formatter; commas = h.commas }
 trailing-same (blank_line ∷ ts) s = let h = trailing-same ts _ in record { formatter = h.formatter; commas = h.commas }
 
-pub trailing_does :
+trailing_does :
     (ts : List Trivia) {x : Locals} {p q : Formatter} → given q ≡ given p → formatter_of p x ≡ formatter_of q x
     → p.commas ≡ q.commas → Appends p.sink (trails_bytes ts) q.sink
     → Does (trailing_trivia ts) x p q
@@ -190,9 +182,6 @@ pub record TrailsLeft (from to : ℕ) (f₀ : Formatter) (at : ℕ) (f : Formatt
   pub rest :
       (t : Sink) → Appends f.sink (trails_bytes (trivia_in f₀.source.rows.now f₀.source.text.now at to)) t
       → Appends f₀.sink (trails_bytes (trivia_in f₀.source.rows.now f₀.source.text.now from to)) t
-
-pub trails-whole : {from to : ℕ} {f : Formatter} → WholeRows f.source.rows.now f.source.text.now from to → TrailsLeft from to f from f
-trails-whole π = record { part = π; kept = refl; rest = λ t w. w }
 
 module _ {from to : ℕ} {f₀ : Formatter} {at : ℕ} {f : Formatter} (left : TrailsLeft from to f₀ at f) where
   pub trail_text : f.source.text.now ≡ f₀.source.text.now
