@@ -5,7 +5,7 @@ use mathlib.Core.Path.{◌≡◌, refl, sym, ap, ◌∙◌}
 use Prim.Native.Nat.{ℕ, zero, suc, ◌+◌, ◌-◌, ◌/◌, ◌≤◌, ◌<◌}
 use native.Mathlib.Nat.{add-zero}
 use native.Mathlib.Omega.{arith}
-use lib.ListN.{length, drop}
+use lib.ListN.{drop}
 use lib.Seq.{drop-drop}
 use borrow.Author.Tests.{ne_eqb}
 use Rattle.shared.specs.Bytes.{space}
@@ -95,7 +95,6 @@ module _ {rows text : List ℕ} {at to : ℕ} (π : WholeRows rows text at to) (
 pub record LeadsLeft (from to : ℕ) (f₀ : Formatter) (at : ℕ) (f : Formatter) : Type 0 where
   pub part : WholeRows f₀.source.rows.now f₀.source.text.now at to
   pub same : Same f₀ f
-  pub size : length f.sink.out.now ≡ length f₀.sink.out.now
   pub indent : f.indent ≤ 4294967295
   pub rest :
       (q : Formatter) → Done (leading_trivia (options_of f₀.options) (trivia_in f₀.source.rows.now f₀.source.text.now at to)) f q
@@ -117,7 +116,6 @@ module _ {from to : ℕ} {f₀ : Formatter} {at : ℕ} {f : Formatter} (left : L
       record {
         part = part_after left.part h;
         same = then left.same (d none).same;
-        size = (d none).size ∙ left.size;
         indent = rw i left.indent;
         rest = λ q y. left.rest q (λ x. rw (first_trivia left.part h e) (seq (same-lead x) (y _)));
       }
