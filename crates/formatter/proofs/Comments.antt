@@ -5,7 +5,7 @@ use mathlib.Core.Path.{◌≡◌, refl, sym, ap, ◌∙◌}
 use Prim.Native.Nat.{ℕ, zero, suc, ◌+◌, ◌-◌, ◌/◌, ◌≤◌, ◌<◌}
 use native.Mathlib.Nat.{add-zero}
 use native.Mathlib.Omega.{arith}
-use lib.ListN.{length, drop}
+use lib.ListN.{drop}
 use lib.Seq.{drop-drop}
 use borrow.Author.Tests.{ne_eqb}
 use Rattle.shared.specs.Bytes.{space}
@@ -65,9 +65,6 @@ unfolding first_rows
 no_trivia rows text {at} {to} h = let e : (to - at) / 16 ≡ 0 = omega arith in rw e
 
 module _ {rows text : List ℕ} {at to : ℕ} (π : WholeRows rows text at to) (h : at < to) where
-  pub row_within : at + 16 ≤ length rows
-  row_within = let e = π.whole in let g = π.within in omega arith
-
   first-row : first_rows ((to - at) / 16) (drop at rows) ≡ row_at rows at ∷ first_rows ((to - (at + 16)) / 16) (drop (at + 16) rows)
   unfolding first_rows
   first-row =
@@ -98,7 +95,6 @@ module _ {rows text : List ℕ} {at to : ℕ} (π : WholeRows rows text at to) (
 pub record LeadsLeft (from to : ℕ) (f₀ : Formatter) (at : ℕ) (f : Formatter) : Type 0 where
   pub part : WholeRows f₀.source.rows.now f₀.source.text.now at to
   pub same : Same f₀ f
-  pub size : length f.sink.out.now ≡ length f₀.sink.out.now
   pub indent : f.indent ≤ 4294967295
   pub rest :
       (q : Formatter) → Done (leading_trivia (options_of f₀.options) (trivia_in f₀.source.rows.now f₀.source.text.now at to)) f q
@@ -111,11 +107,6 @@ same_options s = ap (λ (z : Given). z.options) s.given
 pub same_source : {p q : Formatter} → Same p q → q.source ≡ p.source
 same_source s = ap (λ (z : Given). z.source) s.given
 
-pub leads-whole :
-    {from to : ℕ} {f : Formatter} → WholeRows f.source.rows.now f.source.text.now from to → f.indent ≤ 4294967295
-    → LeadsLeft from to f from f
-leads-whole π h = record { part = π; same = record { given = refl; lent = refl }; size = refl; indent = h; rest = λ q d. d }
-
 module _ {from to : ℕ} {f₀ : Formatter} {at : ℕ} {f : Formatter} (left : LeadsLeft from to f₀ at f) where
   pub leads-after :
       at < to → {r : Row} → r ≡ row_at f₀.source.rows.now at → {g : Formatter} → g.indent ≡ f.indent
@@ -125,7 +116,6 @@ module _ {from to : ℕ} {f₀ : Formatter} {at : ℕ} {f : Formatter} (left : L
       record {
         part = part_after left.part h;
         same = then left.same (d none).same;
-        size = (d none).size ∙ left.size;
         indent = rw i left.indent;
         rest = λ q y. left.rest q (λ x. rw (first_trivia left.part h e) (seq (same-lead x) (y _)));
       }
@@ -174,7 +164,7 @@ trailing-same (doc_comment c ∷ ts) s = let h = trailing-same ts _ in record { 
 trailing-same (block_comment c ∷ ts) s = let h = trailing-same ts _ in record { formatter = h.formatter; commas = h.commas }
 trailing-same (blank_line ∷ ts) s = let h = trailing-same ts _ in record { formatter = h.formatter; commas = h.commas }
 
-pub trailing_does :
+trailing_does :
     (ts : List Trivia) {x : Locals} {p q : Formatter} → given q ≡ given p → formatter_of p x ≡ formatter_of q x
     → p.commas ≡ q.commas → Appends p.sink (trails_bytes ts) q.sink
     → Does (trailing_trivia ts) x p q
@@ -190,9 +180,6 @@ pub record TrailsLeft (from to : ℕ) (f₀ : Formatter) (at : ℕ) (f : Formatt
   pub rest :
       (t : Sink) → Appends f.sink (trails_bytes (trivia_in f₀.source.rows.now f₀.source.text.now at to)) t
       → Appends f₀.sink (trails_bytes (trivia_in f₀.source.rows.now f₀.source.text.now from to)) t
-
-pub trails-whole : {from to : ℕ} {f : Formatter} → WholeRows f.source.rows.now f.source.text.now from to → TrailsLeft from to f from f
-trails-whole π = record { part = π; kept = refl; rest = λ t w. w }
 
 module _ {from to : ℕ} {f₀ : Formatter} {at : ℕ} {f : Formatter} (left : TrailsLeft from to f₀ at f) where
   pub trail_text : f.source.text.now ≡ f₀.source.text.now

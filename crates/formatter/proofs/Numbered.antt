@@ -5,12 +5,7 @@ use Prim.Native.Nat.{ℕ, ◌≤◌}
 use native.Mathlib.Omega.{arith}
 use borrow.Author.Tests.{leb-true}
 use lib.Dec.{eqb, leb}
-use denote.Enum.Bare.{sameb, same_true}
-use Rattle.std.specs.Option.{option_eq}
-use Rattle.std.specs.declared.option.Option.{Option}
-use Rattle.std.specs.declared.option.Option.TheVariants.{None, Some}
-use Rattle.definition.specs.Emit.{is_at}
-use Rattle.formatter.specs.CodeState.{prev_of}
+use denote.Enum.Bare.{same_true}
 use Rattle.std.specs.Prelude.{min}
 use Rattle.shared.proofs.Logic.{split}
 use Rattle.rows.specs.contracts.kind.Kind.{the_type}
@@ -77,8 +72,3 @@ pub what_tag : (w : What) → tag_of whats.the_type w ≡ what_number w
 what_tag what_is.Leading = refl
 what_tag what_is.Token = refl
 what_tag what_is.Trailing = refl
-
--- `==` of the last kind is that of the numbers.
-pub is_kind : (p : Option Kind) (k : Kind) → option_eq (sameb the_type) p (Some k) ≡ is_at (prev_of p) (kind_number k)
-is_kind None k = refl
-is_kind (Some j) k = same_kind j k

@@ -1,13 +1,6 @@
 -- `formatter::Formatter::push_leading` meets its contract. Assumes nothing.
-use Rattle.formatter.proofs.Comments.{lead_after, leads-after, leads-whole, row_inside, row_within, same_options, same_source}
-use native.Mathlib.Omega.{arith}
+use Rattle.formatter.proofs.Comments.{lead_after, leads-after, row_inside, same_options, same_source}
 use Rattle.formatter.proofs.Formatter.push_leading.Goals as goal
-
-pub loop-at-init : goal.loop-at-init
-loop-at-init c = leads-whole c.requires.whole_rows c.requires.indent_bounds.1
-
-pub row_at-requires : goal.row_at-requires
-row_at-requires c = row_within c.loop-at.invariant.part c.loop-at-test.true
 
 pub push_lead-requires : goal.push_lead-requires
 push_lead-requires c =
@@ -16,12 +9,6 @@ push_lead-requires c =
       indent_bounds = (rw (same_options left.same) c.requires.indent_bounds.0, left.indent);
       inside = rw (same_source left.same) (row_inside left.part c.loop-at-test.true c.row_at.ensures);
     }
-
-pub overflow_add-at : goal.overflow_add-at
-overflow_add-at c = let b = row_within c.loop-at.invariant.part c.loop-at-test.true in omega arith
-
-pub loop-at-smaller : goal.loop-at-smaller
-loop-at-smaller c = omega arith
 
 pub loop-at-preserved : goal.loop-at-preserved
 loop-at-preserved c = leads-after c.loop-at.invariant

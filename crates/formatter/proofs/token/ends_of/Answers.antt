@@ -7,9 +7,6 @@ use Rattle.formatter.proofs.token.ends_of.Goals as goal
 pub returns-then-list_width-lt-WIDE : goal.returns-then-list_width-lt-WIDE
 returns-then-list_width-lt-WIDE c = record { ahead = λ j. record { commas = none_after _ _ c.after_last-commas.ensures j; braces = none_after _ _ c.after_last-braces.ensures j; width = λ h. absurd (omega arith) } }
 
-pub total_width-width-requires : goal.total_width-width-requires
-total_width-width-requires c = c.requires
-
 pub returns : goal.returns
 returns c = record {
   ahead =

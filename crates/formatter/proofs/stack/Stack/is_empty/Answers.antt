@@ -1,5 +1,4 @@
 -- `formatter::stack::Stack::is_empty` meets its contract. Assumes nothing.
-use mathlib.Core.Path.{refl}
 use Rattle.formatter.proofs.Entries.{top_length}
 use Rattle.formatter.proofs.stack.Stack.is_empty.Goals as goal
 

@@ -1,7 +1,4 @@
 -- `formatter::stack::Stack::push` meets its contract. Assumes nothing.
-use native.Mathlib.Omega.{arith}
-use Prim.Native.Nat.{◌<◌}
-use lib.ListN.{length}
 use borrow.Author.Tests.{le-ltb, lt-ltb}
 use Rattle.formatter.proofs.Entries.{top_length, top_pushed}
 use Rattle.formatter.proofs.stack.Stack.push.Goals as goal
