@@ -16,6 +16,7 @@ use formatter::{BraceStyle, Finished, Formatter, Options, WalkError};
 use plain::plain_mark;
 use row_writers::Source;
 use rows::{MOST_ROWS, ROW_BYTES, check_unless_known};
+use sink::write::Sink;
 
 mod error;
 
@@ -118,6 +119,7 @@ fn lay_out(
     ensures { LaidOut rows.now text.now (options_of options) out.old result
         out.new }
 {
-    let mut formatter = Formatter::new(options, Source { rows, text }, plain, out);
-    formatter.format()
+    let mut sink = Sink { out, len: 0 };
+    let mut formatter = Formatter::new(options, Source { rows, text }, plain);
+    formatter.format(&mut sink)
 }

@@ -29,10 +29,9 @@ use Rattle.rows.specs.declared.kind.Kind.TheVariants as kinds
 use Rattle.rows.specs.KindNumber.{kind_number}
 use Rattle.std.specs.Prelude.{unwrap_or}
 use Rattle.formatter.proofs.Numbered.{kind_few}
-use Rattle.formatter.specs.declared.Formatter.{Formatter}
 use Rattle.std.specs.declared.option.Option.{Option}
 use Rattle.std.specs.declared.option.Option.TheVariants.{None, Some}
-use Rattle.formatter.specs.CodeState.{Locals, Given, state_of, locals_of, prev_of, signature_of, formatter_of, options_of, given}
+use Rattle.formatter.specs.CodeState.{Locals, Given, CodeState, state_of, locals_of, prev_of, signature_of, formatter_of, options_of, given}
 use Rattle.formatter.specs.Does.{Does}
 use Rattle.formatter.specs.Format.{CheckedRows, TokenBoundary, only_tokens, own_row, next_row}
 use Rattle.formatter.specs.FastTokens.{BeforeFastTokens, FastTokensLaidOut, LaysFastTokens, last_kind, after_fast_tokens, fast_state_of, fast_kinds_of}
@@ -57,7 +56,7 @@ module _ {rows text : List ℕ} {at : ℕ} (ω : CheckedRows rows text) (η : To
 
 -- ---- the token that was taken along
 
-module _ {z : Given} {l₀ : List ℕ} {x : Locals} {p : Formatter} {i at : ℕ} (ω : CheckedRows z.source.rows.now z.source.text.now) (γ : Going z l₀ i at x p) (h : at < length z.source.rows.now) (k : x.skip_next ≡ true) where
+module _ {z : Given} {l₀ : List ℕ} {x : Locals} {p : CodeState} {i at : ℕ} (ω : CheckedRows z.source.rows.now z.source.text.now) (γ : Going z l₀ i at x p) (h : at < length z.source.rows.now) (k : x.skip_next ≡ true) where
   abbrev rows : List ℕ
   rows = z.source.rows.now
 
@@ -109,13 +108,13 @@ module _ (rows : List ℕ) (at : ℕ) (whole : at ≡ 16 * (at / 16)) where
         bare = bare-run rows at Trailing refl whole e;
       }
 
-module _ {z : Given} {l₀ : List ℕ} {x : Locals} {f : Formatter} {i at : ℕ} (ω : CheckedRows z.source.rows.now z.source.text.now) (γ : Going z l₀ i at x f) where
+module _ {z : Given} {l₀ : List ℕ} {x : Locals} {f : CodeState} {i at : ℕ} (ω : CheckedRows z.source.rows.now z.source.text.now) (γ : Going z l₀ i at x f) where
   -- In a line there is a token before.
-  pub last_known : f.at_line_start ≡ false → prev_of f.prev ≡ some (last_kind f)
-  last_known e = known_prev f.prev (γ.told.mid_line e)
+  pub last_known : f.form.at_line_start ≡ false → prev_of f.form.prev ≡ some (last_kind f.form)
+  last_known e = known_prev f.form.prev (γ.told.mid_line e)
 
   -- What was laid out ahead, up to the row at `to`, with the locals y.
-  record Past (to : ℕ) (y : Locals) (g : Formatter) : Type 0 where
+  record Past (to : ℕ) (y : Locals) (g : CodeState) : Type 0 where
     whole : to ≡ at + 16 * ((to - at) / 16)
     head : TokenBoundary z.source.rows.now z.source.text.now to
     size : length g.sink.out.now ≡ length f.sink.out.now
@@ -126,15 +125,15 @@ module _ {z : Given} {l₀ : List ℕ} {x : Locals} {f : Formatter} {i at : ℕ}
         lay_from (options_of z.options) (length f.sink.out.now) (finished (state_of x f)) i (tokens_of (drop at z.source.rows.now) z.source.text.now)
         ≡ lay_from (options_of z.options) (length f.sink.out.now) (finished (state_of y g)) (i + (to - at) / 16) (tokens_of (drop to z.source.rows.now) z.source.text.now)
     shallow : y.too_deep ≡ x.too_deep
-    told : Told (formatter_of g y)
-    indent : g.indent ≡ f.indent
-    group : g.group_depth.0 ≤ f.group_depth.0
-    inline : g.inline_depth.0 ≤ f.inline_depth.0 + (to - at) / 16
-    records : g.record_depth.0 ≡ f.record_depth.0
-    signature : signature_of g.sig_break_depth ≡ signature_of f.sig_break_depth
-    commas : g.commas ≡ f.commas
+    told : Told (formatter_of g.form y)
+    indent : g.form.indent ≡ f.form.indent
+    group : g.form.group_depth.0 ≤ f.form.group_depth.0
+    inline : g.form.inline_depth.0 ≤ f.form.inline_depth.0 + (to - at) / 16
+    records : g.form.record_depth.0 ≡ f.form.record_depth.0
+    signature : signature_of g.form.sig_break_depth ≡ signature_of f.form.sig_break_depth
+    commas : g.form.commas ≡ f.form.commas
 
-  goes_past : {to : ℕ} {y : Locals} {g : Formatter} → Past to y g → Going z l₀ (i + (to - at) / 16) to y g
+  goes_past : {to : ℕ} {y : Locals} {g : CodeState} → Past to y g → Going z l₀ (i + (to - at) / 16) to y g
   goes_past {to} {y} {g} π =
       let w = π.whole in
       let v = γ.head.whole in
@@ -156,21 +155,21 @@ module _ {z : Given} {l₀ : List ℕ} {x : Locals} {f : Formatter} {i at : ℕ}
               records = let a = c.records in let e = π.records in omega arith;
               signature =
                   let a = c.signature in
-                  omega (arith, depth-signature f.sig_break_depth, depth-signature g.sig_break_depth, ap depth π.signature);
+                  omega (arith, depth-signature f.form.sig_break_depth, depth-signature g.form.sig_break_depth, ap depth π.signature);
               commas = let a = c.commas in let e = π.commas in omega arith;
             };
       }
 
   -- ---- fast tokens
 
-  module _ (same : given f ≡ z) {to : ℕ} {g : Formatter} (ρ : BeforeFastTokens (formatter_of f x) (last_kind f) (fast_state_of f) (fast_kinds_of f)) (σ : LaysFastTokens f at to g) where
+  module _ (same : given f.form ≡ z) {to : ℕ} {g : CodeState} (ρ : BeforeFastTokens (formatter_of f.form x) (last_kind f.form) (fast_state_of f.form) (fast_kinds_of f.form)) (σ : LaysFastTokens f at to g) where
     abbrev gone : Locals
-    gone = locals_of (after_fast_tokens (ltb at to) (last_kind g) (fast_state_of g) (formatter_of f x))
+    gone = locals_of (after_fast_tokens (ltb at to) (last_kind g.form) (fast_state_of g.form) (formatter_of f.form x))
 
     pub goes_past_fast_tokens : Going z l₀ (i + (to - at) / 16) to gone g
     goes_past_fast_tokens =
-        let laid = subst (λ y. FastTokensLaidOut y.source.rows.now y.source.text.now at f.sink.len (last_kind f) (fast_state_of f) (fast_kinds_of f) f.sink.out.now g.sink.out.now (record { at = to; prev = last_kind g; len = g.sink.len; state = fast_state_of g })) same σ.laid in
-        let form : formatter_of g gone ≡ after_fast_tokens (ltb at to) (last_kind g) (fast_state_of g) (formatter_of f x) = σ.changed.form gone in
+        let laid = subst (λ y. FastTokensLaidOut y.source.rows.now y.source.text.now at f.sink.len (last_kind f.form) (fast_state_of f.form) (fast_kinds_of f.form) f.sink.out.now g.sink.out.now (record { at = to; prev = last_kind g.form; len = g.sink.len; state = fast_state_of g.form })) same σ.laid in
+        let form : formatter_of g.form gone ≡ after_fast_tokens (ltb at to) (last_kind g.form) (fast_state_of g.form) (formatter_of f.form x) = σ.changed.form gone in
         goes_past (record {
           whole = laid.whole;
           head = laid.head;
@@ -178,12 +177,12 @@ module _ {z : Given} {l₀ : List ℕ} {x : Locals} {f : Formatter} {i at : ℕ}
           far = laid.far;
           room = laid.room;
           rest = laid.rest;
-          lays = rw (form, σ.changed.commas) (laid.lays (options_of z.options) (formatter_of f x) f.commas i ρ);
+          lays = rw (form, σ.changed.commas) (laid.lays (options_of z.options) (formatter_of f.form x) f.form.commas i ρ);
           shallow = refl;
-          told = rw form (record { last = kind_few (unwrap_or g.prev kinds.Eof); mid_line = λ e. refl });
+          told = rw form (record { last = kind_few (unwrap_or g.form.prev kinds.Eof); mid_line = λ e. refl });
           indent = ap (λ y. y.indent) form;
           group = laid.group;
-          inline = let e : g.inline_depth.0 ≡ f.inline_depth.0 = ap (λ y. y.inline_depth) form in omega arith;
+          inline = let e : g.form.inline_depth.0 ≡ f.form.inline_depth.0 = ap (λ y. y.inline_depth) form in omega arith;
           records = ap (λ y. y.record_depth) form;
           signature = ap (λ y. y.sig_break_depth) form;
           commas = σ.changed.commas;
@@ -191,14 +190,14 @@ module _ {z : Given} {l₀ : List ℕ} {x : Locals} {f : Formatter} {i at : ℕ}
 
   -- ---- fast braces
 
-  module _ (only : only_tokens (rows_of z.source.rows.now) ≡ true) (same : given f ≡ z) {to : ℕ} {g : Formatter} (ρ : BeforeFastBraces (formatter_of f x) (fast_braces_at f at)) (σ : LaysFastBraces f at to g) where
+  module _ (only : only_tokens (rows_of z.source.rows.now) ≡ true) (same : given f.form ≡ z) {to : ℕ} {g : CodeState} (ρ : BeforeFastBraces (formatter_of f.form x) (fast_braces_at f at)) (σ : LaysFastBraces f at to g) where
     abbrev gone_braces : Locals
-    gone_braces = locals_of (after_fast_braces (ltb at to) σ.laid.close (fast_braces_at g to) (formatter_of f x))
+    gone_braces = locals_of (after_fast_braces (ltb at to) σ.laid.close (fast_braces_at g to) (formatter_of f.form x))
 
     pub goes_past_fast_braces : Going z l₀ (i + (to - at) / 16) to gone_braces g
     goes_past_fast_braces =
-        let form : formatter_of g gone_braces ≡ after_fast_braces (ltb at to) σ.laid.close (fast_braces_at g to) (formatter_of f x) = σ.changed.form gone_braces in
-        let rows : f.source.rows.now ≡ z.source.rows.now = ap (λ y. y.source.rows.now) same in
+        let form : formatter_of g.form gone_braces ≡ after_fast_braces (ltb at to) σ.laid.close (fast_braces_at g to) (formatter_of f.form x) = σ.changed.form gone_braces in
+        let rows : f.form.source.rows.now ≡ z.source.rows.now = ap (λ y. y.source.rows.now) same in
         let w = σ.laid.whole in
         let v = γ.head.whole in
         goes_past (record {
@@ -208,11 +207,11 @@ module _ {z : Given} {l₀ : List ℕ} {x : Locals} {f : Formatter} {i at : ℕ}
           far = σ.laid.far;
           room = σ.laid.room;
           rest = σ.laid.rest;
-          lays = rw (form, σ.changed.commas) (rw rows at (σ.laid.lays z.source.text.now (options_of z.options) (formatter_of f x) f.commas i ρ));
+          lays = rw (form, σ.changed.commas) (rw rows at (σ.laid.lays z.source.text.now (options_of z.options) (formatter_of f.form x) f.form.commas i ρ));
           shallow = refl;
-          told = rw form (record { last = kind_few (unwrap_or g.prev kinds.Eof); mid_line = λ e. refl });
+          told = rw form (record { last = kind_few (unwrap_or g.form.prev kinds.Eof); mid_line = λ e. refl });
           indent = ap (λ y. y.indent) form;
-          group = let e : g.group_depth.0 ≡ f.group_depth.0 = ap (λ y. y.group_depth) form in omega arith;
+          group = let e : g.form.group_depth.0 ≡ f.form.group_depth.0 = ap (λ y. y.group_depth) form in omega arith;
           inline = σ.laid.deep;
           records = ap (λ y. y.record_depth) form;
           signature = ap (λ y. y.sig_break_depth) form;

@@ -18,23 +18,22 @@ use Rattle.definition.specs.Arms.{in_one_line_block, empty_record, open_block, l
 use Rattle.lookahead.specs.Measure.{next_is}
 use Rattle.definition.proofs.Said.{said}
 use Rattle.sink.specs.Appends.{Appends}
-use Rattle.formatter.specs.declared.Formatter.{Formatter}
-use Rattle.formatter.specs.CodeState.{Locals, Given, options_of, state_of, formatter_of, given}
+use Rattle.formatter.specs.CodeState.{Locals, CodeState, Given, options_of, state_of, formatter_of, given}
 use Rattle.formatter.specs.Parts.{opens_block, record_entered, open_one_line, one_line_bytes, braced}
 use Rattle.formatter.specs.Does.{Does}
 use Rattle.formatter.proofs.Does.{same-run, does, yes, no}
 
 -- ---- the options, which a method that was called left as they were
 
-same-act : {a b : Act} {x : Locals} {p q : Formatter} → a ≡ b → Does a x p q → Does b x p q
+same-act : {a b : Act} {x : Locals} {p q : CodeState} → a ≡ b → Does a x p q → Does b x p q
 same-act e d = rw e at d
 
-pub same-options : (a : Options → Act) (p : Formatter) {x : Locals} {m q : Formatter} → given m ≡ given p → Does (a (options_of m.options)) x m q → Does (a (options_of p.options)) x m q
+pub same-options : (a : Options → Act) (p : CodeState) {x : Locals} {m q : CodeState} → given m.form ≡ given p.form → Does (a (options_of m.form.options)) x m q → Does (a (options_of p.form.options)) x m q
 same-options a p e d = same-act (ap (λ (g : Given). a (options_of g.options)) e) d
 
 -- ---- a block over several lines, by its style
 
-module _ (o : Options) (i : ℕ) {x : Locals} {p q : Formatter} where
+module _ (o : Options) (i : ℕ) {x : Locals} {p q : CodeState} where
   pub block_same_line : o.brace_style ≡ SameLine → Does (braced open_same_line) x p q → Does (open_block o i) x p q
   unfolding run open_block_multiline
   block_same_line e d = same-run {a = braced open_same_line} (rw e) d
@@ -46,20 +45,20 @@ module _ (o : Options) (i : ℕ) {x : Locals} {p q : Formatter} where
 -- ---- a one_line block: the indent or a space and the brace, in one write
 
 pub one_line :
-    (o : Options) {x : Locals} {p q : Formatter}
-    → given q ≡ given p → ended_by LeftBrace (set_inline_depth (p.inline_depth.0 + 1) (formatter_of p x)) ≡ formatter_of q x
-    → p.commas ≡ q.commas
-    → Appends p.sink (one_line_bytes o (formatter_of p x)) q.sink
+    (o : Options) {x : Locals} {p q : CodeState}
+    → given q.form ≡ given p.form → ended_by LeftBrace (set_inline_depth (p.form.inline_depth.0 + 1) (formatter_of p.form x)) ≡ formatter_of q.form x
+    → p.form.commas ≡ q.form.commas
+    → Appends p.sink (one_line_bytes o (formatter_of p.form x)) q.sink
     → Does (open_one_line o) x p q
 unfolding run said
 one_line o {x} {p} {q} z c k w =
-    split (in_one_line_block (formatter_of p x))
+    split (in_one_line_block (formatter_of p.form x))
     (λ e. yes (λ n. e)
-    (split p.at_line_start
+    (split p.form.at_line_start
     (λ f. does z (rw f c) (rw f k) (rw f (rw (e, f) at w)))
     (λ f. does z (rw f c) (rw f k) (rw f (rw (e, f) at w)))))
     (λ e. no (λ n. e)
-    (let n : p.inline_depth.0 ≡ 0 = omega (arith, ltb-false 0 p.inline_depth.0 e) in
+    (let n : p.form.inline_depth.0 ≡ 0 = omega (arith, ltb-false 0 p.form.inline_depth.0 e) in
     does z (rw n at c) k (rw e at w)))
 
 -- ---- an empty record's bytes
@@ -92,7 +91,7 @@ module _ (t : Token) (ts : List Token) (empty inner inline block : Act) where
       (λ g. split (block_is_single_line (t ∷ ts)) (λ h. rw (e, f, g, h)) (λ h. rw (e, f, g, h)))))
 
 pub brace :
-    (o : Options) (i : ℕ) (t : Token) (ts : List Token) {x : Locals} {p q : Formatter}
+    (o : Options) (i : ℕ) (t : Token) (ts : List Token) {x : Locals} {p q : CodeState}
     → Does (by_tests t ts (empty_record o t) (open_inner_inline o) (open_inline o) (open_block o i)) x p q → Does (left_brace_arm o i t ts) x p q
 unfolding left_brace_arm
 brace o i t ts {x} {p} d = same-run {a = by_tests t ts (empty_record o t) (open_inner_inline o) (open_inline o) (open_block o i)} (run_brace t ts (empty_record o t) (open_inner_inline o) (open_inline o) (open_block o i) (state_of x p)) d

@@ -12,12 +12,11 @@ use Rattle.rows.specs.Token.{Token}
 use Rattle.definition.specs.Act.{nothing}
 use Rattle.definition.specs.Arms.{newline_arm, right_brace_arm, left_brace_arm, left_paren_arm, left_bracket_arm, right_paren_arm, right_bracket_arm, comma_arm, else_arm, other_arm}
 use Rattle.definition.specs.PushToken.{arm}
-use Rattle.formatter.specs.declared.Formatter.{Formatter}
-use Rattle.formatter.specs.CodeState.{Locals}
+use Rattle.formatter.specs.CodeState.{Locals, CodeState}
 use Rattle.formatter.specs.Does.{Does}
 use Rattle.formatter.proofs.Does.{yes, no}
 
-module _ (o : Options) (i : ℕ) (t : Token) (ts : List Token) {x : Locals} {p q : Formatter} where
+module _ (o : Options) (i : ℕ) (t : Token) (ts : List Token) {x : Locals} {p q : CodeState} where
   pub at_eof : t.kind ≡ Eof → Does nothing x p q → Does (arm o i t ts) x p q
   at_eof e d = yes (λ n. rw e) d
 

@@ -24,8 +24,8 @@ use Rattle.sink.specs.declared.write.Sink.{Sink}
 use Rattle.sink.proofs.Appends.{and_then, nothing}
 use Rattle.formatter.specs.declared.Formatter.{Formatter}
 use Rattle.row_writers.specs.declared.Source.{Source}
-use Rattle.formatter.specs.CodeState.{Locals, formatter_of, Given, given, options_of}
-use Rattle.formatter.specs.Does.{Same, Does, Done}
+use Rattle.formatter.specs.CodeState.{Locals, CodeState, formatter_of, Given, given, options_of}
+use Rattle.formatter.specs.Does.{Same, Does, Done, Puts}
 use Rattle.formatter.specs.Trivia.{WholeRows, trivia_in, lead_token, trail_bytes}
 use Rattle.formatter.proofs.Does.{does, then, seq, stays, updated}
 
@@ -44,9 +44,9 @@ trail_bytes_lem text r h = go r.kind refl
     go (suc (suc zero)) e = rw e
     go (suc (suc (suc k))) e = absurd (omega arith)
 
-module _ (o : Options) {x : Locals} {p q : Formatter} (text : List ℕ) (r : Row) (h : r.kind < 3) (z : given q ≡ given p) (c : formatter_of p x ≡ formatter_of q x) (n : p.commas ≡ q.commas) where
+module _ (o : Options) {x : Locals} {p q : CodeState} (text : List ℕ) (r : Row) (h : r.kind < 3) (z : given q.form ≡ given p.form) (c : formatter_of p.form x ≡ formatter_of q.form x) (n : p.form.commas ≡ q.form.commas) where
   pub lead-comment :
-      Appends p.sink (indent_or_space o (formatter_of p x) ++ (comment_head r.kind ++ (space ++ bytes_of text r ++ lead_tail r.kind))) q.sink
+      Appends p.sink (indent_or_space o (formatter_of p.form x) ++ (comment_head r.kind ++ (space ++ bytes_of text r ++ lead_tail r.kind))) q.sink
       → Does (lead_act o (trivia_of text r)) x p q
   unfolding run said
   lead-comment w = go r.kind refl
@@ -92,25 +92,25 @@ module _ {rows text : List ℕ} {at to : ℕ} (π : WholeRows rows text at to) (
 -- ---- leading rows
 
 -- From the state f, the rows from `at` on do what is left of the whole that begins in the state f₀.
-pub record LeadsLeft (from to : ℕ) (f₀ : Formatter) (at : ℕ) (f : Formatter) : Type 0 where
-  pub part : WholeRows f₀.source.rows.now f₀.source.text.now at to
+pub record LeadsLeft (from to : ℕ) (f₀ : CodeState) (at : ℕ) (f : CodeState) : Type 0 where
+  pub part : WholeRows f₀.form.source.rows.now f₀.form.source.text.now at to
   pub same : Same f₀ f
-  pub indent : f.indent ≤ 4294967295
+  pub indent : f.form.indent ≤ 4294967295
   pub rest :
-      (q : Formatter) → Done (leading_trivia (options_of f₀.options) (trivia_in f₀.source.rows.now f₀.source.text.now at to)) f q
-      → Done (leading_trivia (options_of f₀.options) (trivia_in f₀.source.rows.now f₀.source.text.now from to)) f₀ q
+      (q : CodeState) → Done (leading_trivia (options_of f₀.form.options) (trivia_in f₀.form.source.rows.now f₀.form.source.text.now at to)) f q
+      → Done (leading_trivia (options_of f₀.form.options) (trivia_in f₀.form.source.rows.now f₀.form.source.text.now from to)) f₀ q
 
 -- What stays as given, by its fields.
-pub same_options : {p q : Formatter} → Same p q → q.options ≡ p.options
+pub same_options : {p q : CodeState} → Same p q → q.form.options ≡ p.form.options
 same_options s = ap (λ (z : Given). z.options) s.given
 
-pub same_source : {p q : Formatter} → Same p q → q.source ≡ p.source
+pub same_source : {p q : CodeState} → Same p q → q.form.source ≡ p.form.source
 same_source s = ap (λ (z : Given). z.source) s.given
 
-module _ {from to : ℕ} {f₀ : Formatter} {at : ℕ} {f : Formatter} (left : LeadsLeft from to f₀ at f) where
+module _ {from to : ℕ} {f₀ : CodeState} {at : ℕ} {f : CodeState} (left : LeadsLeft from to f₀ at f) where
   pub leads-after :
-      at < to → {r : Row} → r ≡ row_at f₀.source.rows.now at → {g : Formatter} → g.indent ≡ f.indent
-      → Done (lead_act (options_of f.options) (trivia_of f.source.text.now r)) f g → LeadsLeft from to f₀ (at + 16) g
+      at < to → {r : Row} → r ≡ row_at f₀.form.source.rows.now at → {g : CodeState} → g.form.indent ≡ f.form.indent
+      → Done (lead_act (options_of f.form.options) (trivia_of f.form.source.text.now r)) f g → LeadsLeft from to f₀ (at + 16) g
   unfolding leading_trivia
   leads-after h {r} e {g} i d =
       record {
@@ -123,18 +123,18 @@ module _ {from to : ℕ} {f₀ : Formatter} {at : ℕ} {f : Formatter} (left : L
       none : Locals
       none = record { inline_close = false; returned = false; skip_next = false; too_deep = Rattle.std.proofs.Math.Option.none }
 
-      same-lead : Done (lead_act (options_of f₀.options) (trivia_of f₀.source.text.now r)) f g
+      same-lead : Done (lead_act (options_of f₀.form.options) (trivia_of f₀.form.source.text.now r)) f g
       same-lead = rw (sym (same_options left.same), sym (ap (λ (z : Source). z.text.now) (same_source left.same))) d
 
   -- At the end nothing is left.
   module _ (h : to ≤ at) where
-    leads-none : Done (leading_trivia (options_of f₀.options) (trivia_in f₀.source.rows.now f₀.source.text.now from to)) f₀ f
+    leads-none : Done (leading_trivia (options_of f₀.form.options) (trivia_in f₀.form.source.rows.now f₀.form.source.text.now from to)) f₀ f
     unfolding leading_trivia
-    leads-none = left.rest f (λ x. rw (no_trivia f₀.source.rows.now f₀.source.text.now h) stays)
+    leads-none = left.rest f (λ x. rw (no_trivia f₀.form.source.rows.now f₀.form.source.text.now h) stays)
 
     pub lead_after :
-        WholeRows f₀.source.rows.now f₀.source.text.now from to → from < to
-        → Done (lead_token (options_of f₀.options) (trivia_in f₀.source.rows.now f₀.source.text.now from to)) f₀ f
+        WholeRows f₀.form.source.rows.now f₀.form.source.text.now from to → from < to
+        → Done (lead_token (options_of f₀.form.options) (trivia_in f₀.form.source.rows.now f₀.form.source.text.now from to)) f₀ f
     lead_after π i x = seq (leads-none x) (rw (first_trivia π i refl) (updated refl refl refl nothing))
 
 -- ---- trailing rows
@@ -165,39 +165,29 @@ trailing-same (block_comment c ∷ ts) s = let h = trailing-same ts _ in record 
 trailing-same (blank_line ∷ ts) s = let h = trailing-same ts _ in record { formatter = h.formatter; commas = h.commas }
 
 trailing_does :
-    (ts : List Trivia) {x : Locals} {p q : Formatter} → given q ≡ given p → formatter_of p x ≡ formatter_of q x
-    → p.commas ≡ q.commas → Appends p.sink (trails_bytes ts) q.sink
+    (ts : List Trivia) {x : Locals} {p q : CodeState} → given q.form ≡ given p.form → formatter_of p.form x ≡ formatter_of q.form x
+    → p.form.commas ≡ q.form.commas → Appends p.sink (trails_bytes ts) q.sink
     → Does (trailing_trivia ts) x p q
 trailing_does ts z c n w =
     let h = trailing-same ts _ in
     does z (rw h.formatter c) (h.commas ∙ n) (rw (trailing_said ts) w)
 
--- From the state f, the rows from `at` on write what is left of the whole that begins in the state f₀; f has another sink
--- alone.
-pub record TrailsLeft (from to : ℕ) (f₀ : Formatter) (at : ℕ) (f : Formatter) : Type 0 where
-  pub part : WholeRows f₀.source.rows.now f₀.source.text.now at to
-  pub kept : f ≡ record f₀ { sink = f.sink }
-  pub rest :
-      (t : Sink) → Appends f.sink (trails_bytes (trivia_in f₀.source.rows.now f₀.source.text.now at to)) t
-      → Appends f₀.sink (trails_bytes (trivia_in f₀.source.rows.now f₀.source.text.now from to)) t
+-- The rows from `at` on write what is left of the whole.
+pub record TrailsLeft (rows text : List ℕ) (from to : ℕ) (s₀ : Sink) (at : ℕ) (s : Sink) : Type 0 where
+  pub part : WholeRows rows text at to
+  pub rest : (t : Sink) → Appends s (trails_bytes (trivia_in rows text at to)) t → Appends s₀ (trails_bytes (trivia_in rows text from to)) t
 
-module _ {from to : ℕ} {f₀ : Formatter} {at : ℕ} {f : Formatter} (left : TrailsLeft from to f₀ at f) where
-  pub trail_text : f.source.text.now ≡ f₀.source.text.now
-  trail_text = ap (λ (z : Formatter). z.source.text.now) left.kept
-
+module _ {rows text : List ℕ} {from to : ℕ} {s₀ : Sink} {at : ℕ} {s : Sink} (left : TrailsLeft rows text from to s₀ at s) where
   pub trails-after :
-      at < to → {r : Row} → r ≡ row_at f₀.source.rows.now at → {t : Sink}
-      → Appends f.sink (trail_bytes (trivia_of f.source.text.now r)) t → TrailsLeft from to f₀ (at + 16) (record f { sink = t })
+      at < to → {r : Row} → r ≡ row_at rows at → {t : Sink} → Appends s (trail_bytes (trivia_of text r)) t
+      → TrailsLeft rows text from to s₀ (at + 16) t
   unfolding trails_bytes
-  trails-after h e {t} w =
+  trails-after h e w =
       record {
         part = part_after left.part h;
-        kept = ap (λ (z : Formatter). record z { sink = t }) left.kept;
-        rest = λ u y. left.rest u (rw (first_trivia left.part h e) (and_then (rw trail_text at w) y));
+        rest = λ u y. left.rest u (rw (first_trivia left.part h e) (and_then w y));
       }
 
-  pub trails_done : to ≤ at → Done (trailing_trivia (trivia_in f₀.source.rows.now f₀.source.text.now from to)) f₀ f
+  pub trails_done : to ≤ at → {f : Formatter} → Puts (trailing_trivia (trivia_in rows text from to)) f s₀ f s
   unfolding trails_bytes
-  trails_done h x =
-      trailing_does _ (ap given left.kept) (sym (ap (λ (z : Formatter). formatter_of z x) left.kept)) (sym (ap (λ (z : Formatter). z.commas) left.kept))
-      (left.rest f.sink (rw (no_trivia f₀.source.rows.now f₀.source.text.now h) nothing))
+  trails_done h x = trailing_does _ refl refl refl (left.rest s (rw (no_trivia rows text h) nothing))

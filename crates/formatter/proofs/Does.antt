@@ -17,8 +17,7 @@ use Rattle.sink.specs.Sink.{count_comma}
 use Rattle.sink.specs.Appends.{Appends}
 use Rattle.sink.proofs.Sink.{later}
 use Rattle.sink.proofs.Appends.{nothing}
-use Rattle.formatter.specs.declared.Formatter as code
-use Rattle.formatter.specs.CodeState.{Locals, state_of, locals_of, formatter_of, given}
+use Rattle.formatter.specs.CodeState.{Locals, CodeState, state_of, locals_of, formatter_of, given}
 use Rattle.formatter.specs.Does.{Arrives, Same, Does}
 
 pub grows : (a : Act) (s : State) → length s.out ≤ length (run a s).out
@@ -26,7 +25,7 @@ grows a s = rw (run_said a s) (omega (arith, length-append s.out (said a s)))
 
 -- ---- a test
 
-module _ {x : Locals} {p q : code.Formatter} {t : State → Bool} {a b : Act} where
+module _ {x : Locals} {p q : CodeState} {t : State → Bool} {a b : Act} where
   pub yes : (p.sink.len ≤ length p.sink.out.now → t (state_of x p) ≡ true) → Does a x p q → Does (choose t a b) x p q
   unfolding run
   yes e d = record { same = d.same; size = d.size; fits = λ n. rw (e n) (d.fits n); over = λ n. rw (e n) (d.over n); stays = d.stays }
@@ -37,19 +36,19 @@ module _ {x : Locals} {p q : code.Formatter} {t : State → Bool} {a b : Act} wh
 
 -- ---- what no method changes
 
-pub then : {p q r : code.Formatter} → Same p q → Same q r → Same p r
+pub then : {p q r : CodeState} → Same p q → Same q r → Same p r
 then u v = record { given = v.given ∙ u.given; lent = v.lent ∙ u.lent }
 
 -- ---- one act after the other
 
-pub reached : (s : State) (p q : code.Formatter) → Arrives s p q → q.sink.len ≡ length s.out
+pub reached : (s : State) (p q : CodeState) → Arrives s p q → q.sink.len ≡ length s.out
 reached s p q u = sym (length-take-le q.sink.len q.sink.out.now u.within) ∙ ap (λ (x : State). length x.out) u.state
 
 -- The text after an act is no shorter than before it.
-pub far : (a : Act) (x : Locals) {p q : code.Formatter} → Arrives (run a (state_of x p)) p q → p.sink.len ≤ length p.sink.out.now → p.sink.len ≤ q.sink.len
+pub far : (a : Act) (x : Locals) {p q : CodeState} → Arrives (run a (state_of x p)) p q → p.sink.len ≤ length p.sink.out.now → p.sink.len ≤ q.sink.len
 far a x {p} {q} u h = omega (arith, reached (run a (state_of x p)) p q u, grows a (state_of x p), length-take-le p.sink.len p.sink.out.now h)
 
-onward : (b : Act) {s : State} {p q r : code.Formatter} → Arrives s p q → Arrives (run b (state_of (locals_of s.formatter) q)) q r → Arrives (run b s) p r
+onward : (b : Act) {s : State} {p q r : CodeState} → Arrives s p q → Arrives (run b (state_of (locals_of s.formatter) q)) q r → Arrives (run b s) p r
 onward b {s} {p} {q} {r} u v =
     let e = ap (run b) u.state in
     let far : q.sink.len ≤ r.sink.len = omega (arith, reached s p q u, reached (run b (state_of (locals_of s.formatter) q)) q r v, grows b s, ap (λ (x : State). length x.out) e) in
@@ -59,7 +58,7 @@ onward b {s} {p} {q} {r} u v =
       rest = v.rest ∙ later q.sink.len r.sink.len q.sink.out.now p.sink.out.now far u.rest;
     }
 
-pub seq : {a b : Act} {x : Locals} {p q r : code.Formatter} → Does a x p q → Does b (locals_of (run a (state_of x p)).formatter) q r → Does (a ⨾ b) x p r
+pub seq : {a b : Act} {x : Locals} {p q r : CodeState} → Does a x p q → Does b (locals_of (run a (state_of x p)).formatter) q r → Does (a ⨾ b) x p r
 unfolding run
 seq {a} {b} {x} {p} {q} {r} d e = record {
   same = then d.same e.same;
@@ -82,10 +81,10 @@ joined s e f g = rw (← e, f, ← g)
 
 -- ---- the write rule: the state updates as the act's does, and the bytes that the act says are written
 
-module _ {a : Act} {x : Locals} {p q : code.Formatter} where
+module _ {a : Act} {x : Locals} {p q : CodeState} where
   pub does :
-      given q ≡ given p → (run a (state_of x p)).formatter ≡ formatter_of q (locals_of (run a (state_of x p)).formatter)
-      → (run a (state_of x p)).commas ≡ q.commas → Appends p.sink (said a (state_of x p)) q.sink
+      given q.form ≡ given p.form → (run a (state_of x p)).formatter ≡ formatter_of q.form (locals_of (run a (state_of x p)).formatter)
+      → (run a (state_of x p)).commas ≡ q.form.commas → Appends p.sink (said a (state_of x p)) q.sink
       → Does a x p q
   does z c k y =
       let w = y.writes in
@@ -109,26 +108,26 @@ module _ {a : Act} {x : Locals} {p q : code.Formatter} where
       }
 
 pub updated :
-    {g : Formatter → Formatter} {x : Locals} {p q : code.Formatter}
-    → given q ≡ given p → g (formatter_of p x) ≡ formatter_of q (locals_of (g (formatter_of p x)))
-    → p.commas ≡ q.commas → Appends p.sink [] q.sink → Does (update g) x p q
+    {g : Formatter → Formatter} {x : Locals} {p q : CodeState}
+    → given q.form ≡ given p.form → g (formatter_of p.form x) ≡ formatter_of q.form (locals_of (g (formatter_of p.form x)))
+    → p.form.commas ≡ q.form.commas → Appends p.sink [] q.sink → Does (update g) x p q
 unfolding run said
 updated z c k w = does z c k w
 
 -- An act and then an update are done in one write.
 pub does_then :
-    {a : Act} {g : Formatter → Formatter} {x : Locals} {p q : code.Formatter}
-    → given q ≡ given p → g (run a (state_of x p)).formatter ≡ formatter_of q (locals_of (g (run a (state_of x p)).formatter))
-    → (run a (state_of x p)).commas ≡ q.commas → Appends p.sink (said a (state_of x p)) q.sink
+    {a : Act} {g : Formatter → Formatter} {x : Locals} {p q : CodeState}
+    → given q.form ≡ given p.form → g (run a (state_of x p)).formatter ≡ formatter_of q.form (locals_of (g (run a (state_of x p)).formatter))
+    → (run a (state_of x p)).commas ≡ q.form.commas → Appends p.sink (said a (state_of x p)) q.sink
     → Does (a ⨾ update g) x p q
 unfolding run said
 does_then {a} {g} {x} {p} {q} z c k w = does z c k (rw (append-nil (said a (state_of x p))) w)
 
-pub stays : {x : Locals} {p : code.Formatter} → Does (update (λ c. c)) x p p
+pub stays : {x : Locals} {p : CodeState} → Does (update (λ c. c)) x p p
 stays = updated refl refl refl nothing
 
 -- Where two acts come to the same state, what does one does the other.
-pub same-run : {a b : Act} {x : Locals} {p q : code.Formatter} → run a (state_of x p) ≡ run b (state_of x p) → Does a x p q → Does b x p q
+pub same-run : {a b : Act} {x : Locals} {p q : CodeState} → run a (state_of x p) ≡ run b (state_of x p) → Does a x p q → Does b x p q
 same-run e d = record { same = d.same; size = d.size; fits = rw e at d.fits; over = rw e at d.over; stays = d.stays }
 
 turned : (b : Bool) {r : Bool} → r ≡ not b → b ≡ not r
@@ -137,18 +136,18 @@ turned false e = rw e
 
 -- ---- a closer, with a comma of the layout's own before it where one is wanted
 
-module _ {g h : Formatter → Formatter} (u : Formatter → List ℕ) (w : List ℕ) {x : Locals} {p q : code.Formatter} where
+module _ {g h : Formatter → Formatter} (u : Formatter → List ℕ) (w : List ℕ) {x : Locals} {p q : CodeState} where
   pub closing :
-      (wanted : Bool) → given q ≡ given p → h (g (state_of x p).formatter) ≡ formatter_of q (locals_of (h (g (state_of x p).formatter)))
-      → p.commas + count_comma wanted ≡ q.commas
+      (wanted : Bool) → given q.form ≡ given p.form → h (g (state_of x p).formatter) ≡ formatter_of q.form (locals_of (h (g (state_of x p).formatter)))
+      → p.form.commas + count_comma wanted ≡ q.form.commas
       → Appends p.sink (cond wanted (44 ∷ []) [] ++ (u (g (state_of x p).formatter) ++ w)) q.sink
       → Does (update g ⨾ cond wanted (insert u w) (gap u ⨾ lexeme w) ⨾ update h) x p q
   unfolding run said
-  closing false z c k y = does z c (sym (add-zero p.commas) ∙ k) (rw (append-nil (u (g (state_of x p).formatter) ++ w)) y)
+  closing false z c k y = does z c (sym (add-zero p.form.commas) ∙ k) (rw (append-nil (u (g (state_of x p).formatter) ++ w)) y)
   closing true z c k y = does z c k (rw (append-nil (u (g (state_of x p).formatter) ++ w)) y)
 
 -- The same where a test of the definition picks between the two.
-module _ (t : Formatter → Bool) {a b c : Act} {g : Formatter → Formatter} {x : Locals} {p q : code.Formatter} where
+module _ (t : Formatter → Bool) {a b c : Act} {g : Formatter → Formatter} {x : Locals} {p q : CodeState} where
   pub picked : (wanted : Bool) → wanted ≡ not (t (g (state_of x p).formatter)) → Does (update g ⨾ cond wanted b a ⨾ c) x p q → Does (update g ⨾ if t a b ⨾ c) x p q
   unfolding run
   picked true e d = same-run {a = update g ⨾ b ⨾ c} (ap (λ z. run c (cond z (run a (run (update g) (state_of x p))) (run b (run (update g) (state_of x p))))) (sym (turned (t (g (state_of x p).formatter)) e))) d

@@ -22,10 +22,9 @@ use Rattle.sink.proofs.Sink.{later}
 use Rattle.rows.specs.declared.kind.Kind.TheVariants as kinds
 use Rattle.rows.specs.KindNumber.{kind_number}
 use Rattle.std.specs.Prelude.{unwrap_or, min}
-use Rattle.formatter.specs.declared.Formatter as code
+use Rattle.sink.specs.declared.write.Sink.{Sink}
 use Rattle.formatter.specs.declared.fast_braces.FastBraces.{FastBraces}
-use Rattle.formatter.specs.CodeState.{Locals, prev_of, formatter_of}
-use Rattle.formatter.specs.Does.{Same}
+use Rattle.formatter.specs.CodeState.{Locals, CodeState, prev_of, formatter_of}
 use Rattle.formatter.specs.Format.{only_tokens}
 use Rattle.formatter.specs.FastBraces.{MayStartFastBraces, BeforeFastBraces, after_fast_braces, fast_braces_at, FastBracesLaidOut, opener_bytes, closer_bytes, after_opener, after_closer}
 use Rattle.formatter.proofs.BareRow.{row_token, only_after, lay-turn}
@@ -39,12 +38,10 @@ pub record FastBracesSoFar (rows : List ℕ) (from : FastBraces) (l : List ℕ) 
   pub only : only_tokens (rows_of (drop b.at rows)) ≡ true
   pub done : FastBracesLaidOut rows from l m b
 
--- The same of the code's states: f at the call, g at the loop's head, where the output alone may differ.
-pub record FastBracesLoop (rows : List ℕ) (from b : FastBraces) (f g : code.Formatter) : Type 0 where
-  pub so_far : FastBracesSoFar rows from f.sink.out.now b g.sink.out.now
-  pub form : (x : Locals) → formatter_of g x ≡ formatter_of f x
-  pub same : Same f g
-  pub commas : g.commas ≡ f.commas
+-- The same of the sinks: s at the call, t at the loop's head.
+pub record FastBracesLoop (rows : List ℕ) (from b : FastBraces) (s t : Sink) : Type 0 where
+  pub so_far : FastBracesSoFar rows from s.out.now b t.out.now
+  pub lent : t.out.ghost_name ≡ s.out.ghost_name
 
 -- ---- one brace
 
@@ -134,12 +131,12 @@ module _ {rows l m : List ℕ} {from b : FastBraces} (α : FastBracesSoFar rows 
 -- ---- where they begin
 
 pub before_fast_braces :
-    {f : code.Formatter} → MayStartFastBraces f → (at : ℕ) (x : Locals) → prev_of f.prev ≡ some (kind_number (unwrap_or f.prev kinds.Eof)) → x.skip_next ≡ false → x.too_deep ≡ none
-    → BeforeFastBraces (formatter_of f x) (fast_braces_at f at)
-before_fast_braces ν at x p s d =
+    (p : CodeState) → MayStartFastBraces p.form → (at : ℕ) (x : Locals) → prev_of p.form.prev ≡ some (kind_number (unwrap_or p.form.prev kinds.Eof)) → x.skip_next ≡ false → x.too_deep ≡ none
+    → BeforeFastBraces (formatter_of p.form x) (fast_braces_at p at)
+before_fast_braces p ν at x q s d =
     record {
       mid_line = ν.mid_line;
-      prev = p;
+      prev = q;
       no_fn = ν.no_fn;
       no_record = ν.no_record;
       outside = ν.outside;

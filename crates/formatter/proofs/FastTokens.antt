@@ -38,7 +38,7 @@ use Rattle.formatter.specs.declared.Formatter as code
 use Rattle.std.specs.declared.option.Option.{Option}
 use Rattle.std.specs.declared.option.Option.TheVariants.{None, Some}
 use Rattle.formatter.specs.declared.SignatureDepth.{SignatureDepth}
-use Rattle.formatter.specs.CodeState.{Locals, prev_of, signature_of, formatter_of, fields_of, given}
+use Rattle.formatter.specs.CodeState.{Locals, CodeState, prev_of, signature_of, formatter_of, fields_of, given}
 use Rattle.formatter.specs.Does.{Same}
 use Rattle.formatter.specs.Trivia.{trivia_in}
 use Rattle.formatter.specs.Format.{CheckedRows, TokenBoundary, own_row, next_row}
@@ -220,26 +220,26 @@ module _ {rows text l k : List ℕ} {from n before at len fast prev : ℕ} {m₀
 -- ---- the same of the code's states
 
 -- From the code's state f at the call, fast tokens are laid out up to the state g: with the loop's sets, and whether a space may stand next.
-pub record FastTokensLoop (rows text : List ℕ) (f g : code.Formatter) (from fast change after at prev spaced : ℕ) : Type 0 where
-  pub so_far : FastTokensSoFar rows text from f.sink.len (last_kind f) (fast_state_of f) fast f.sink.out.now at g.sink.len prev (fast_state_of g) g.sink.out.now
-  pub changing : change ≡ changing_kinds g.fn_state g.record_pending
-  pub loose : after ≡ loose_after Other g.prev_minus_is_unary
+pub record FastTokensLoop (rows text : List ℕ) (f g : CodeState) (from fast change after at prev spaced : ℕ) : Type 0 where
+  pub so_far : FastTokensSoFar rows text from f.sink.len (last_kind f.form) (fast_state_of f.form) fast f.sink.out.now at g.sink.len prev (fast_state_of g.form) g.sink.out.now
+  pub changing : change ≡ changing_kinds g.form.fn_state g.form.record_pending
+  pub loose : after ≡ loose_after Other g.form.prev_minus_is_unary
   pub gap : spaced ≡ bit after prev
-  pub form : (x : Locals) → formatter_of g x ≡ with_fields (fast_state_of g) (formatter_of f x)
+  pub form : (x : Locals) → formatter_of g.form x ≡ with_fields (fast_state_of g.form) (formatter_of f.form x)
   pub same : Same f g
-  pub commas : g.commas ≡ f.commas
+  pub commas : g.form.commas ≡ f.form.commas
 
 -- Before the first fast token.
 pub starts :
-    {rows text : List ℕ} {f : code.Formatter} {from fast change after prev spaced : ℕ} → TokenBoundary rows text from → f.sink.len ≤ length f.sink.out.now → prev ≡ last_kind f
-    → change ≡ changing_kinds f.fn_state f.record_pending → after ≡ loose_after Other f.prev_minus_is_unary → spaced ≡ bit after prev
+    {rows text : List ℕ} {f : CodeState} {from fast change after prev spaced : ℕ} → TokenBoundary rows text from → f.sink.len ≤ length f.sink.out.now → prev ≡ last_kind f.form
+    → change ≡ changing_kinds f.form.fn_state f.form.record_pending → after ≡ loose_after Other f.form.prev_minus_is_unary → spaced ≡ bit after prev
     → FastTokensLoop rows text f f from fast change after from prev spaced
 starts {f = f} {from} head within e c a z =
     let none_yet : ltb from from ≡ false = le-ltb from from (omega arith) in
     record {
       so_far =
           rw e (record {
-            known = kind_few (unwrap_or f.prev kinds.Eof);
+            known = kind_few (unwrap_or f.form.prev kinds.Eof);
             room = within;
             size = refl;
             head = head;
@@ -265,41 +265,38 @@ starts {f = f} {from} head within e c a z =
     }
 
 -- From the code's state g, a fast token of the kind k is written after one of the kind p, and h keeps the fields.
-pub record FastTokenWritten (p k : ℕ) (xs : List ℕ) (g h : code.Formatter) : Type 0 where
-  pub state : fast_state_of h ≡ fast_state_after p k (fast_state_of g)
-  pub form : (x : Locals) → formatter_of h x ≡ with_fields (fast_state_of h) (formatter_of g x)
-  pub given : given h ≡ given g
+pub record FastTokenWritten (p k : ℕ) (xs : List ℕ) (g h : CodeState) : Type 0 where
+  pub state : fast_state_of h.form ≡ fast_state_after p k (fast_state_of g.form)
+  pub form : (x : Locals) → formatter_of h.form x ≡ with_fields (fast_state_of h.form) (formatter_of g.form x)
+  pub given : given h.form ≡ given g.form
   pub sink : Appends g.sink xs h.sink
-  pub commas : h.commas ≡ g.commas
+  pub commas : h.form.commas ≡ g.form.commas
 
-pub appended : {s t u : Sink} {xs : List ℕ} → u ≡ t → Appends s xs t → Appends s xs u
-appended e w = rw e w
-
-module _ {rows text : List ℕ} {f g : code.Formatter} {from fast change after at prev spaced : ℕ} (ω : CheckedRows rows text) (β : FastTokensLoop rows text f g from fast change after at prev spaced) where
+module _ {rows text : List ℕ} {f g : CodeState} {from fast change after at prev spaced : ℕ} (ω : CheckedRows rows text) (β : FastTokensLoop rows text f g from fast change after at prev spaced) where
   -- A kind that changes no field.
-  pub unchanged : (k : ℕ) → k ≤ Other → (bit change k ≡ 1 → ⊥) → fast_state_of g ≡ fast_state_after prev k (fast_state_of g)
+  pub unchanged : (k : ℕ) → k ≤ Other → (bit change k ≡ 1 → ⊥) → fast_state_of g.form ≡ fast_state_after prev k (fast_state_of g.form)
   unchanged k h n =
       let b = bit-few change k in
       let z : bit change k ≡ 0 = omega arith in
-      sym (kept prev k (fast_state_of g) h (rw β.changing at z))
+      sym (kept prev k (fast_state_of g.form) h (rw β.changing at z))
 
   pub few : spaced < 2
   few = let b = bit-few after prev in let e = β.gap in omega arith
 
   -- After one more fast token the same holds: by the code's row and its number of spaces.
   pub goes_on :
-      {g' h : code.Formatter} {room change' after' spaced' space : ℕ} → g' ≡ h → IsFastToken rows fast at room spaced → room ≡ length g.sink.out.now - g.sink.len
-      → (r : Row) → r ≡ row_at rows at → space ≡ space_before spaced r.kind → fast ≡ fast_kind_bits (fast_kinds_of f)
+      {g' h : CodeState} {room change' after' spaced' space : ℕ} → g' ≡ h → IsFastToken rows fast at room spaced → room ≡ length g.sink.out.now - g.sink.len
+      → (r : Row) → r ≡ row_at rows at → space ≡ space_before spaced r.kind → fast ≡ fast_kind_bits (fast_kinds_of f.form)
       → FastTokenWritten prev r.kind (replicate space 32 ++ bytes_of text r) g h
-      → change' ≡ changing_kinds h.fn_state h.record_pending → after' ≡ loose_after Other h.prev_minus_is_unary → spaced' ≡ bit after' r.kind
+      → change' ≡ changing_kinds h.form.fn_state h.form.record_pending → after' ≡ loose_after Other h.form.prev_minus_is_unary → spaced' ≡ bit after' r.kind
       → FastTokensLoop rows text f g' from fast change' after' (at + 16) r.kind spaced'
   goes_on {h = h} e τ q r s z t w c a y =
       rw e (record {
-        so_far = again ω β.so_far τ.ahead τ q β.gap β.loose r (fast_kinds_of f) t s z w.sink.writes w.state;
+        so_far = again ω β.so_far τ.ahead τ q β.gap β.loose r (fast_kinds_of f.form) t s z w.sink.writes w.state;
         changing = c;
         loose = a;
         gap = y;
-        form = λ x. w.form x ∙ ap (with_fields (fast_state_of h)) (β.form x);
+        form = λ x. w.form x ∙ ap (with_fields (fast_state_of h.form)) (β.form x);
         same = record { given = w.given ∙ β.same.given; lent = w.sink.lent ∙ β.same.lent };
         commas = w.commas ∙ β.commas;
       })

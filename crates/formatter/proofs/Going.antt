@@ -27,7 +27,7 @@ use Rattle.sink.proofs.Sink.{later}
 use Rattle.formatter.specs.declared.Formatter.{Formatter}
 use Rattle.formatter.specs.declared.Finished.{Finished}
 use Rattle.formatter.specs.declared.WalkError.{WalkError}
-use Rattle.formatter.specs.CodeState.{Locals, Given, state_of, locals_of, options_of, given}
+use Rattle.formatter.specs.CodeState.{Locals, Given, CodeState, state_of, locals_of, options_of, given}
 use Rattle.formatter.specs.Does.{Does, Arrives}
 use Rattle.formatter.specs.Token.{depth_of}
 use Rattle.formatter.specs.Format.{TokenBoundary, Fresh, CheckedRows, walk_of, formatted_of, pushed_of, error_of, LaidOut, next_row, own_row}
@@ -83,7 +83,7 @@ pub record AtMost (n : ℕ) (f : Formatter) : Type 0 where
 abbrev pub walk_over : Given → List ℕ → Ended
 walk_over z l = walk_of z.source.rows.now z.source.text.now (options_of z.options) l
 
-pub record Going (z : Given) (l₀ : List ℕ) (i at : ℕ) (x : Locals) (p : Formatter) : Type 0 where
+pub record Going (z : Given) (l₀ : List ℕ) (i at : ℕ) (x : Locals) (p : CodeState) : Type 0 where
   pub head : TokenBoundary z.source.rows.now z.source.text.now at
   pub index : 16 * i ≤ at
   pub size : length p.sink.out.now ≡ length l₀
@@ -94,12 +94,12 @@ pub record Going (z : Given) (l₀ : List ℕ) (i at : ℕ) (x : Locals) (p : Fo
   pub rest : drop p.sink.len p.sink.out.now ≡ drop p.sink.len l₀
   pub shallow : x.too_deep ≡ none
   pub told : Told (state_of x p).formatter
-  pub counts : AtMost (20 * i) p
+  pub counts : AtMost (20 * i) p.form
 
-fresh_state : {f : Formatter} → Fresh f → state_of (locals_of Formatter.new) f ≡ begun
+fresh_state : {f : CodeState} → Fresh f.form f.sink → state_of (locals_of Formatter.new) f ≡ begun
 fresh_state φ = rw (φ.new, φ.empty, φ.none)
 
-pub starts : {f : Formatter} → CheckedRows f.source.rows.now f.source.text.now → Fresh f → Going (given f) f.sink.out.now 0 0 (locals_of Formatter.new) f
+pub starts : {f : CodeState} → CheckedRows f.form.source.rows.now f.form.source.text.now → Fresh f.form f.sink → Going (given f.form) f.sink.out.now 0 0 (locals_of Formatter.new) f
 starts {f} ω φ =
     record {
       head = head_first ω;
@@ -116,7 +116,7 @@ starts {f} ω φ =
             group = le_zero (ap (λ g. g.group_depth) φ.new);
             inline = le_zero (ap (λ g. g.inline_depth) φ.new);
             records = le_zero (ap (λ g. g.record_depth) φ.new);
-            signature = le_zero (sym (depth-signature f.sig_break_depth) ∙ ap (λ g. depth g.sig_break_depth) φ.new);
+            signature = le_zero (sym (depth-signature f.form.sig_break_depth) ∙ ap (λ g. depth g.sig_break_depth) φ.new);
             commas = le_zero φ.none;
           };
     }
@@ -126,7 +126,7 @@ starts {f} ω φ =
 
 -- ---- one turn
 
-module _ {z : Given} {l₀ : List ℕ} {x : Locals} {p : Formatter} {i at : ℕ} (ω : CheckedRows z.source.rows.now z.source.text.now) (γ : Going z l₀ i at x p) where
+module _ {z : Given} {l₀ : List ℕ} {x : Locals} {p : CodeState} {i at : ℕ} (ω : CheckedRows z.source.rows.now z.source.text.now) (γ : Going z l₀ i at x p) where
   pub few_tokens : i ≤ 65535
   few_tokens = let a = γ.index in let b = γ.head.within in let c = ω.few in omega arith
 
@@ -153,7 +153,7 @@ module _ {z : Given} {l₀ : List ℕ} {x : Locals} {p : Formatter} {i at : ℕ}
     pub stops : {e : WalkError} → Err e ≡ pushed_of (checked (length p.sink.out.now) i after) → Err e ≡ formatted_of (walk_over z l₀)
     stops {e} q = walk-stops o (length l₀) (i + 1) ts (checked (length l₀) i after) (rw γ.size at q) ∙ ap formatted_of onto
 
-    module _ {q : Formatter} (δ : Does (turn o i t ts) x p q) (fits : length after.out ≤ length p.sink.out.now) (shallow : after.formatter.too_deep ≡ none) where
+    module _ {q : CodeState} (δ : Does (turn o i t ts) x p q) (fits : length after.out ≤ length p.sink.out.now) (shallow : after.formatter.too_deep ≡ none) where
       abbrev locals : Locals
       locals = locals_of after.formatter
 
@@ -189,7 +189,7 @@ module _ {z : Given} {l₀ : List ℕ} {x : Locals} {p : Formatter} {i at : ℕ}
                   group = let a = w.group in let b = c.group in omega arith;
                   inline = let a = w.inline in let b = c.inline in omega arith;
                   records = let a = w.records in let b = c.records in omega arith;
-                  signature = let a = w.signature in let b = c.signature in omega (arith, depth-signature p.sig_break_depth, depth-signature q.sig_break_depth);
+                  signature = let a = w.signature in let b = c.signature in omega (arith, depth-signature p.form.sig_break_depth, depth-signature q.form.sig_break_depth);
                   commas = let a = w.commas in let b = c.commas in omega arith;
                 };
           }
@@ -211,12 +211,12 @@ laid_stopped z {l₀} {m} {e} q k =
       output = λ s f. let w : ◌≡◌ {A = Result Finished WalkError} (Err e) (formatted_of (finished s)) = rw f at q in let y : ◌≡◌ {A = ℕ} 0 1 = cc in absurd (omega arith);
     }
 
-module _ {z : Given} {l₀ : List ℕ} {x : Locals} {p : Formatter} {i at : ℕ} (γ : Going z l₀ i at x p) (h : length z.source.rows.now ≤ at) where
+module _ {z : Given} {l₀ : List ℕ} {x : Locals} {p : CodeState} {i at : ℕ} (γ : Going z l₀ i at x p) (h : length z.source.rows.now ≤ at) where
   ends : walk_over z l₀ ≡ finished (state_of x p)
   unfolding lay_from
   ends = sym γ.lays ∙ rw (tokens_none z.source.rows.now z.source.text.now at h)
 
-  pub laid_done : LaidOut z.source.rows.now z.source.text.now (options_of z.options) l₀ (Ok (record { length = p.sink.len; commas = p.commas })) p.sink.out.now
+  pub laid_done : LaidOut z.source.rows.now z.source.text.now (options_of z.options) l₀ (Ok (record { length = p.sink.len; commas = p.form.commas })) p.sink.out.now
   laid_done =
       let e = ends in
       let l = length-take-le p.sink.len p.sink.out.now γ.room in

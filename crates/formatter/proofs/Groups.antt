@@ -18,7 +18,7 @@ use Rattle.definition.specs.PushToken.{overflows}
 use Rattle.rows.specs.KindNumber.{kind_number}
 use Rattle.formatter.specs.declared.Formatter.{Formatter}
 use Rattle.formatter.specs.declared.TokenAt.{TokenAt}
-use Rattle.formatter.specs.CodeState.{Locals, state_of, locals_of, fields_of}
+use Rattle.formatter.specs.CodeState.{Locals, CodeState, state_of, locals_of, fields_of}
 use Rattle.formatter.specs.Does.{Does}
 use Rattle.formatter.specs.Token.{StandsFor, bare_token, lexeme_of}
 use Rattle.formatter.specs.Parts.{closes_signature, emit_tail}
@@ -29,7 +29,7 @@ use Rattle.formatter.proofs.Does.{seq, same-run}
 -- An act of the token's kind and lexeme, as the code finds them.
 pub its :
     {token : TokenAt} (f : Formatter) {t : Token} {ts : List Token} → StandsFor token f.source.rows.now f.source.text.now t ts → {k : ℕ} → kind_number token.kind ≡ k
-    → (a : Token → Act) {x : Locals} {p q : Formatter} → Does (a (bare_token k (lexeme_of token f))) x p q
+    → (a : Token → Act) {x : Locals} {p q : CodeState} → Does (a (bare_token k (lexeme_of token f))) x p q
     → Does (a (bare_token t.kind t.lexeme)) x p q
 its f σ e a d = rw (σ.kind, e, σ.lexeme) d
 
@@ -39,7 +39,7 @@ its f σ e a d = rw (σ.kind, e, σ.lexeme) d
 
 -- The depth that the definition takes first is not looked at again.
 pub signature-closes :
-    (o : Options) (t : Token) {x : Locals} {p q : Formatter} → closes_signature (state_of x p).formatter ≡ true
+    (o : Options) (t : Token) {x : Locals} {p q : CodeState} → closes_signature (state_of x p).formatter ≡ true
     → Does (close_signature o) x p q → Does (right_paren_arm o t) x p q
 unfolding right_paren_arm run
 signature-closes o t e d = same-run (rw e) d
@@ -48,7 +48,7 @@ signature-closes o t e d = same-run (rw e) d
 
 -- The line feed is written with the lexeme.
 pub list_opens :
-    (o : Options) (i : ℕ) (t : Token) {x : Locals} {p m q : Formatter} → Does (emit_tail o t line_feed) x p m
+    (o : Options) (i : ℕ) (t : Token) {x : Locals} {p m q : CodeState} → Does (emit_tail o t line_feed) x p m
     → Does (update (λ f. line_begun (i + 1) (pushed (group_opened (indented f))))) (locals_of (run (emit_tail o t line_feed) (state_of x p)).formatter) m q
     → Does (open_list o i t) x p q
 unfolding run

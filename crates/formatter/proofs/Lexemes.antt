@@ -14,9 +14,8 @@ use Rattle.definition.specs.Emit.{token_gap, ended_by, track_minus, push_lexeme,
 use Rattle.definition.proofs.Said.{said}
 use Rattle.sink.specs.Appends.{Appends}
 use Rattle.sink.proofs.Appends.{same_bytes, nothing}
-use Rattle.formatter.specs.declared.Formatter.{Formatter}
 use Rattle.formatter.specs.declared.FnState.{FnState}
-use Rattle.formatter.specs.CodeState.{Locals, state_of, formatter_of, fields_of, fn_number, given}
+use Rattle.formatter.specs.CodeState.{Locals, CodeState, code_state, state_of, formatter_of, fields_of, fn_number, given}
 use Rattle.formatter.specs.Does.{Does}
 use Rattle.formatter.specs.Parts.{gap_size, emit_tail}
 use Rattle.formatter.proofs.Does.{does, seq, same-run, updated}
@@ -34,8 +33,8 @@ tailed g l w = rw (append-nil l) (sym (append_assoc g l w))
 module _ (o : Options) (t : Token) where
   -- A gap of the code's size, the lexeme and a tail are one write.
   pub emitted :
-      (w : List ℕ) {n : ℕ} {x : Locals} {p q : Formatter} → given q ≡ given p → ended_by t.kind (state_of x p).formatter ≡ formatter_of q x
-      → p.commas ≡ q.commas → n ≡ gap_size o t.kind (state_of x p).formatter
+      (w : List ℕ) {n : ℕ} {x : Locals} {p q : CodeState} → given q.form ≡ given p.form → ended_by t.kind (state_of x p).formatter ≡ formatter_of q.form x
+      → p.form.commas ≡ q.form.commas → n ≡ gap_size o t.kind (state_of x p).formatter
       → Appends p.sink (replicate n 32 ++ (t.lexeme ++ w)) q.sink → Does (emit_tail o t w) x p q
   unfolding run said
   emitted w {n} {x} {p} z c k e y =
@@ -44,7 +43,7 @@ module _ (o : Options) (t : Token) where
 
   -- The same without a tail, and then whether a `-` is unary.
   pub pushed :
-      {unary : Bool} {x : Locals} {p q r : Formatter} → unary ≡ (track_minus t.kind (state_of x p).formatter).prev_minus_is_unary
+      {unary : Bool} {x : Locals} {p q r : CodeState} → unary ≡ (track_minus t.kind (state_of x p).formatter).prev_minus_is_unary
       → Does (emit_tail o t []) x p q → Does (update (set_prev_minus_is_unary unary)) x q r → Does (push_lexeme o t) x p r
   unfolding run
   pushed {unary} e d u = same-run {a = emit_tail o t [] ⨾ update (set_prev_minus_is_unary unary)} (rw (append-nil, e)) (seq {a = emit_tail o t []} d u)
@@ -53,6 +52,6 @@ module _ (o : Options) (t : Token) where
 
 -- The code's state after a token's kind is the definition's.
 pub tracked :
-    (k : ℕ) {x : Locals} {p : Formatter} {state : FnState} → fn_number state ≡ (track_fn_state k (fields_of p)).fn_state
-    → Does (update (track_fn_state k)) x p (record p { fn_state = state })
-tracked k {x} {p} e = updated refl (ap (λ n. set_fn_state n (formatter_of p x)) (sym e)) refl nothing
+    (k : ℕ) {x : Locals} {p : CodeState} {state : FnState} → fn_number state ≡ (track_fn_state k (fields_of p.form)).fn_state
+    → Does (update (track_fn_state k)) x p (code_state (record p.form { fn_state = state }) p.sink)
+tracked k {x} {p} e = updated refl (ap (λ n. set_fn_state n (formatter_of p.form x)) (sym e)) refl nothing

@@ -21,12 +21,11 @@ use Rattle.definition.specs.Act.{State, run}
 use Rattle.definition.specs.Emit.{is_at}
 use Rattle.definition.specs.PushToken.{overflows, turn}
 use Rattle.definition.specs.Layout.{checked}
-use Rattle.formatter.specs.declared.Formatter.{Formatter}
 use Rattle.formatter.specs.declared.TokenAt.{TokenAt}
 use Rattle.formatter.specs.declared.Finished.{Finished}
 use Rattle.formatter.specs.declared.WalkError.{WalkError}
 use Rattle.formatter.specs.declared.token.Place.{Place}
-use Rattle.formatter.specs.CodeState.{Locals, Given, state_of, locals_of, formatter_of, options_of, given}
+use Rattle.formatter.specs.CodeState.{Locals, Given, CodeState, state_of, locals_of, formatter_of, options_of, given}
 use Rattle.formatter.specs.Does.{Does, Same}
 use Rattle.formatter.specs.Token.{StandsFor}
 use Rattle.formatter.specs.Parts.{took_next}
@@ -45,39 +44,39 @@ use Rattle.formatter.proofs.FastBraces.{before_fast_braces}
 
 -- What holds at the loop's head, of the state p that the state f came to: the walk goes on as the definition's (`Going`), with
 -- some locals, and no token is being skipped.
-pub record Loop (f : Formatter) (i at : ℕ) (p : Formatter) : Type 0 where
+pub record Loop (f : CodeState) (i at : ℕ) (p : CodeState) : Type 0 where
   pub locals : Locals
   pub same : Same f p
-  pub going : Going (given f) f.sink.out.now i at locals p
+  pub going : Going (given f.form) f.sink.out.now i at locals p
   pub no_skip : locals.skip_next ≡ false
 
-pub begins : {f : Formatter} → CheckedRows f.source.rows.now f.source.text.now → Fresh f → Loop f 0 0 f
+pub begins : {f : CodeState} → CheckedRows f.form.source.rows.now f.form.source.text.now → Fresh f.form f.sink → Loop f 0 0 f
 begins ω φ = record { locals = locals_of definition.new; same = record { given = refl; lent = refl }; going = starts ω φ; no_skip = refl }
 
 -- ---- what the rows are, in the state p
 
-module _ {f : Formatter} {i at : ℕ} {p : Formatter} (ι : Loop f i at p) where
+module _ {f : CodeState} {i at : ℕ} {p : CodeState} (ι : Loop f i at p) where
   -- What holds of what f was given holds of what p has.
-  pub carried : (P : Given → Type 0) → P (given f) → P (given p)
+  pub carried : (P : Given → Type 0) → P (given f.form) → P (given p.form)
   carried P π = subst P (sym ι.same.given) π
 
-  pub rows_same : p.source.rows.now ≡ f.source.rows.now
+  pub rows_same : p.form.source.rows.now ≡ f.form.source.rows.now
   rows_same = ap (λ (z : Given). z.source.rows.now) ι.same.given
 
-  pub next_token_there : CheckedRows f.source.rows.now f.source.text.now → NoTriviaIf f.bare f.source.rows.now → at < length p.source.rows.now → NextToken p.source.rows.now at p.bare
+  pub next_token_there : CheckedRows f.form.source.rows.now f.form.source.text.now → NoTriviaIf f.form.bare f.form.source.rows.now → at < length p.form.source.rows.now → NextToken p.form.source.rows.now at p.form.bare
   next_token_there ω only h = carried (λ z. NextToken z.source.rows.now at z.bare) (next_token ω ι.going.head (rw rows_same at h) only)
 
 -- ---- one turn
 
-module _ {f : Formatter} {i at : ℕ} {p : Formatter} (width : f.options.indent_width ≤ 16) (ω : CheckedRows f.source.rows.now f.source.text.now) (ε : Ending f.source.rows.now f.ends) (ι : Loop f i at p) (inside : at < length p.source.rows.now) {token : TokenAt} (its : TokenRows p.source.rows.now at i token) where
+module _ {f : CodeState} {i at : ℕ} {p : CodeState} (width : f.form.options.indent_width ≤ 16) (ω : CheckedRows f.form.source.rows.now f.form.source.text.now) (ε : Ending f.form.source.rows.now f.form.ends) (ι : Loop f i at p) (inside : at < length p.form.source.rows.now) {token : TokenAt} (its : TokenRows p.form.source.rows.now at i token) where
   abbrev rows : List ℕ
-  rows = f.source.rows.now
+  rows = f.form.source.rows.now
 
   abbrev text : List ℕ
-  text = f.source.text.now
+  text = f.form.source.text.now
 
   abbrev o : Options.Options
-  o = options_of f.options
+  o = options_of f.form.options
 
   abbrev x : Locals
   x = ι.locals
@@ -97,7 +96,7 @@ module _ {f : Formatter} {i at : ℕ} {p : Formatter} (width : f.options.indent_
   few : i ≤ 65535
   few = few_tokens ω ι.going
 
-  pub has_token : HasToken token p
+  pub has_token : HasToken token p.form p.sink
   has_token =
       let c = ι.going.counts in
       let b = few in
@@ -122,10 +121,10 @@ module _ {f : Formatter} {i at : ℕ} {p : Formatter} (width : f.options.indent_
   σ : StandsFor token rows text t ts
   σ = stands ω ι.going.head h τ
 
-  there : StandsFor token p.source.rows.now p.source.text.now t ts
+  there : StandsFor token p.form.source.rows.now p.form.source.text.now t ts
   there = carried ι (λ z. StandsFor token z.source.rows.now z.source.text.now t ts) σ
 
-  module _ {r : Result (Unit {0}) WalkError} {q : Formatter} (π : TokenPushed token p r q) where
+  module _ {r : Result (Unit {0}) WalkError} {q : CodeState} (π : TokenPushed token p r q) where
     abbrev after : State
     after = run (turn o i t ts) (state_of x p)
 
@@ -143,7 +142,7 @@ module _ {f : Formatter} {i at : ℕ} {p : Formatter} (width : f.options.indent_
 
     -- A refusal of the token is the walk's.
     refused : {e : WalkError} → r ≡ Err e → LaidOut rows text o f.sink.out.now (Err e) q.sink.out.now
-    refused e = laid_stopped (given f) (stops ω ι.going h (sym e ∙ answer)) turn-size
+    refused e = laid_stopped (given f.form) (stops ω ι.going h (sym e ∙ answer)) turn-size
 
     -- The same of an answer that passes the refusal on.
     pub refused_as : (a : Result Finished WalkError) {e : WalkError} → IsErrAnd a (λ y. y ≡ e) → r ≡ Err e → LaidOut rows text o f.sink.out.now a q.sink.out.now
@@ -170,10 +169,10 @@ module _ {f : Formatter} {i at : ℕ} {p : Formatter} (width : f.options.indent_
           (λ e. let d : some i ≡ none = ap (λ (s : State). s.formatter.too_deep) (sym (turn-deep o i t ts x p ι.going.shallow ι.no_skip e)) ∙ shallow in let y : ◌≡◌ {A = ℕ} 0 1 = cc in absurd (omega arith))
           (λ e. e)
 
-      went : Going (given f) f.sink.out.now (i + 1) (next_row rows (own_row rows at)) (locals_of after.formatter) q
+      went : Going (given f.form) f.sink.out.now (i + 1) (next_row rows (own_row rows at)) (locals_of after.formatter) q
       went = goes_on ω ι.going h turned fits shallow
 
-      took : after.formatter.skip_next ≡ took_next token.kind q.prev
+      took : after.formatter.skip_next ≡ took_next token.kind q.form.prev
       took =
           turn_skip o i t ts (state_of x p) ι.going.shallow ι.no_skip calm
           ∙ ap (λ n. eqb n LeftBrace && is_at after.formatter.prev RightBrace) σ.kind
@@ -182,28 +181,28 @@ module _ {f : Formatter} {i at : ℕ} {p : Formatter} (width : f.options.indent_
       next_is_lem : token.next ≡ next_row rows (own_row rows at)
       next_is_lem = τ.next ∙ ap (next_row rows) τ.own
 
-      went_next : Going (given f) f.sink.out.now (i + 1) token.next (locals_of after.formatter) q
-      went_next = subst (λ n. Going (given f) f.sink.out.now (i + 1) n (locals_of after.formatter) q) (sym next_is_lem) went
+      went_next : Going (given f.form) f.sink.out.now (i + 1) token.next (locals_of after.formatter) q
+      went_next = subst (λ n. Going (given f.form) f.sink.out.now (i + 1) n (locals_of after.formatter) q) (sym next_is_lem) went
 
-      next_in : took_next token.kind q.prev ≡ true → token.next < length rows
+      next_in : took_next token.kind q.form.prev ≡ true → token.next < length rows
       next_in e = rw next_is_lem (next_there ω ι.going.head h RightBrace (turn-taken o i t ts (state_of x p) ι.going.shallow ι.no_skip calm (took ∙ e)))
 
       its_head : TokenBoundary rows text token.next
       its_head = rw next_is_lem (head-next ω ι.going.head h)
 
-      onward : (P : Given → Type 0) → P (given f) → P (given q)
+      onward : (P : Given → Type 0) → P (given f.form) → P (given q.form)
       onward P y = subst P (sym turn-same.given) y
 
       -- The token that was taken along is there.
-      pub next_there_too : NoTriviaIf f.bare rows → took_next token.kind q.prev ≡ true → NextToken q.source.rows.now token.next q.bare
+      pub next_there_too : NoTriviaIf f.form.bare rows → took_next token.kind q.form.prev ≡ true → NextToken q.form.source.rows.now token.next q.form.bare
       next_there_too only e = onward (λ z. NextToken z.source.rows.now token.next z.bare) (next_token ω its_head (next_in e) only)
 
-      pub next-bounds : (token.next ≤ length q.source.rows.now) × (token.index + 1 < most32)
+      pub next-bounds : (token.next ≤ length q.form.source.rows.now) × (token.index + 1 < most32)
       next-bounds = (onward (λ z. token.next ≤ length z.source.rows.now) its_head.within, let b = few in let e = τ.index in omega arith)
 
       place_taken :
           {n : ℕ} {j : ℕ} → n ≡ next_row rows (own_row rows token.next) → j ≡ token.index + 2
-          → took_next token.kind q.prev ≡ true → Loop f j n q
+          → took_next token.kind q.form.prev ≡ true → Loop f j n q
       place_taken {n} {j} e d c =
           let z : i + 1 + 1 ≡ j = let a = τ.index in omega arith in
           record {
@@ -213,49 +212,49 @@ module _ {f : Formatter} {i at : ℕ} {p : Formatter} (width : f.options.indent_
             no_skip = refl;
           }
 
-      place_next : {n : ℕ} {j : ℕ} → n ≡ token.next → j ≡ token.index + 1 → took_next token.kind q.prev ≡ false → Loop f j n q
+      place_next : {n : ℕ} {j : ℕ} → n ≡ token.next → j ≡ token.index + 1 → took_next token.kind q.form.prev ≡ false → Loop f j n q
       place_next {n} {j} e d c =
           let z : i + 1 ≡ j = let a = τ.index in omega arith in
           record { locals = locals_of after.formatter; same = turn-same; going = rw (e, ← z) went_next; no_skip = took ∙ c }
 
-      module _ {place : Place} (ν : NextPlace q.source.rows.now token (took_next token.kind q.prev) place) where
-        ν₀ : NextPlace rows token (took_next token.kind q.prev) place
+      module _ {place : Place} (ν : NextPlace q.form.source.rows.now token (took_next token.kind q.form.prev) place) where
+        ν₀ : NextPlace rows token (took_next token.kind q.form.prev) place
         ν₀ = rw (ap (λ (z : Given). z.source.rows.now) turn-same.given) at ν
 
         -- The loop's invariant holds at the next place.
         pub placed : Loop f place.index place.at q
         placed =
-            split (took_next token.kind q.prev)
+            split (took_next token.kind q.form.prev)
             (λ c. place_taken (rw c at ν₀.at) (rw c at ν₀.index) c)
             (λ c. place_next (rw c at ν₀.at) (rw c at ν₀.index) c)
 
         -- The next place lies further on.
         pub further : at < place.at
         further =
-            split (took_next token.kind q.prev)
+            split (took_next token.kind q.form.prev)
             (λ c. let a = rw c at ν₀.at in let b = next_is_lem in omega arith)
             (λ c. let a = rw c at ν₀.at in let b = next_is_lem in omega arith)
 
 -- ---- fast tokens and fast braces
 
-module _ {f : Formatter} {i at : ℕ} {p : Formatter} (ω : CheckedRows f.source.rows.now f.source.text.now) (ι : Loop f i at p) where
+module _ {f : CodeState} {i at : ℕ} {p : CodeState} (ω : CheckedRows f.form.source.rows.now f.form.source.text.now) (ι : Loop f i at p) where
   -- A whole number of rows is left.
-  pub rows_left : RowsLeft p.source.rows.now at
+  pub rows_left : RowsLeft p.form.source.rows.now at
   rows_left = carried ι (λ z. RowsLeft z.source.rows.now at) (ι.going.head.within, let a = ω.whole in let b = ι.going.head.whole in omega arith)
 
   -- The rows up to a later place are few.
-  pub past : {to : ℕ} → to ≡ at + 16 * ((to - at) / 16) → to ≤ length p.source.rows.now → (at ≤ to) × (to ≤ 1048560) × (i + (to - at) / 16 ≤ 65535)
+  pub past : {to : ℕ} → to ≡ at + 16 * ((to - at) / 16) → to ≤ length p.form.source.rows.now → (at ≤ to) × (to ≤ 1048560) × (i + (to - at) / 16 ≤ 65535)
   past w h = let e = ap length (rows_same ι) in let a = ι.going.index in let d = ω.few in (omega arith, omega arith, omega arith)
 
   -- ---- fast tokens
 
-  pub boundary_there : TokenBoundary p.source.rows.now p.source.text.now at
+  pub boundary_there : TokenBoundary p.form.source.rows.now p.form.source.text.now at
   boundary_there = carried ι (λ z. TokenBoundary z.source.rows.now z.source.text.now at) ι.going.head
 
-  pub past_fast_tokens : MayStartFastTokens p → {to : ℕ} {g : Formatter} → LaysFastTokens p at to g → Loop f (i + (to - at) / 16) to g
+  pub past_fast_tokens : MayStartFastTokens p.form → {to : ℕ} {g : CodeState} → LaysFastTokens p at to g → Loop f (i + (to - at) / 16) to g
   past_fast_tokens ρ {to} {g} σ =
       record {
-        locals = locals_of (after_fast_tokens (ltb at to) (last_kind g) (fast_state_of g) (formatter_of p ι.locals));
+        locals = locals_of (after_fast_tokens (ltb at to) (last_kind g.form) (fast_state_of g.form) (formatter_of p.form ι.locals));
         same = then ι.same σ.changed.same;
         going = goes_past_fast_tokens ω ι.going ι.same.given (before_fast_tokens ρ ι.locals (last_known ω ι.going ρ.mid_line) ι.no_skip ι.going.shallow) σ;
         no_skip = ι.no_skip;
@@ -263,24 +262,24 @@ module _ {f : Formatter} {i at : ℕ} {p : Formatter} (ω : CheckedRows f.source
 
   -- ---- fast braces
 
-  module _ (only : NoTriviaIf f.bare f.source.rows.now) (ρ : MayStartFastBraces p) where
-    only_here : only_tokens (rows_of f.source.rows.now) ≡ true
+  module _ (only : NoTriviaIf f.form.bare f.form.source.rows.now) (ρ : MayStartFastBraces p.form) where
+    only_here : only_tokens (rows_of f.form.source.rows.now) ≡ true
     only_here = only (ap (λ (z : Given). z.bare) (sym ι.same.given) ∙ ρ.bare)
 
-    pub fast_braces_place : (at ≤ length p.source.rows.now) × (p.sink.len ≤ length p.sink.out.now)
+    pub fast_braces_place : (at ≤ length p.form.source.rows.now) × (p.sink.len ≤ length p.sink.out.now)
     fast_braces_place = (boundary_there.within, ι.going.room)
 
-    pub fast_braces_rows : only_tokens (rows_of (drop at p.source.rows.now)) ≡ true
-    fast_braces_rows = carried ι (λ z. only_tokens (rows_of (drop at z.source.rows.now)) ≡ true) (only_at f.source.rows.now at ι.going.head.whole only_here)
+    pub fast_braces_rows : only_tokens (rows_of (drop at p.form.source.rows.now)) ≡ true
+    fast_braces_rows = carried ι (λ z. only_tokens (rows_of (drop at z.source.rows.now)) ≡ true) (only_at f.form.source.rows.now at ι.going.head.whole only_here)
 
-    pub fast_braces_depth : p.inline_depth.0 + length p.source.rows.now < 18446744073709551616
+    pub fast_braces_depth : p.form.inline_depth.0 + length p.form.source.rows.now < 18446744073709551616
     fast_braces_depth = let e = ap length (rows_same ι) in let a = ι.going.counts.inline in let b = few_tokens ω ι.going in let c = ω.few in omega arith
 
-    pub past_fast_braces : {to : ℕ} {g : Formatter} → LaysFastBraces p at to g → Loop f (i + (to - at) / 16) to g
+    pub past_fast_braces : {to : ℕ} {g : CodeState} → LaysFastBraces p at to g → Loop f (i + (to - at) / 16) to g
     past_fast_braces {to} {g} σ =
         record {
-          locals = locals_of (after_fast_braces (ltb at to) σ.laid.close (fast_braces_at g to) (formatter_of p ι.locals));
+          locals = locals_of (after_fast_braces (ltb at to) σ.laid.close (fast_braces_at g to) (formatter_of p.form ι.locals));
           same = then ι.same σ.changed.same;
-          going = goes_past_fast_braces ω ι.going only_here ι.same.given (before_fast_braces ρ at ι.locals (last_known ω ι.going ρ.mid_line) ι.no_skip ι.going.shallow) σ;
+          going = goes_past_fast_braces ω ι.going only_here ι.same.given (before_fast_braces p ρ at ι.locals (last_known ω ι.going ρ.mid_line) ι.no_skip ι.going.shallow) σ;
           no_skip = ι.no_skip;
         }

@@ -9,8 +9,7 @@ use Rattle.lookahead.specs.Measure.{next_has_comment, is_empty}
 use Rattle.definition.specs.Act.{State, choose, nothing, run}
 use Rattle.definition.specs.Emit.{is_at}
 use Rattle.definition.specs.Arms.{in_one_line_block, ends_with_two_feeds, newline_arm, feed_line}
-use Rattle.formatter.specs.declared.Formatter.{Formatter}
-use Rattle.formatter.specs.CodeState.{Locals, newline_of}
+use Rattle.formatter.specs.CodeState.{Locals, CodeState, newline_of}
 use Rattle.formatter.specs.Parts.{feeds_line}
 use Rattle.formatter.specs.Does.{Does}
 use Rattle.formatter.proofs.Does.{same-run}
@@ -24,6 +23,6 @@ run_newline i ts s h =
     (λ g. rw (h, e, f, g))))
 
 pub newline :
-    (i : ℕ) (ts : List Token) {x : Locals} {p q : Formatter} → is_at (newline_of p.suppress_newline_at) i ≡ false
+    (i : ℕ) (ts : List Token) {x : Locals} {p q : CodeState} → is_at (newline_of p.form.suppress_newline_at) i ≡ false
     → Does (choose (feeds_line ts) feed_line nothing) x p q → Does (newline_arm i ts) x p q
 newline i ts h d = same-run {a = choose (feeds_line ts) feed_line nothing} (sym (run_newline i ts _ h)) d

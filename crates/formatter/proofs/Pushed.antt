@@ -23,14 +23,13 @@ use Rattle.definition.specs.PushToken.{arm, overflows, turn, take_inline_close}
 use Rattle.definition.specs.Layout.{finished, stopped, checked}
 use Rattle.definition.proofs.Growth.{depth}
 use Rattle.rows.specs.KindNumber.{kind_number}
-use Rattle.formatter.specs.declared.Formatter.{Formatter}
 use Rattle.formatter.specs.declared.TokenAt.{TokenAt}
 use Rattle.formatter.specs.declared.WalkError.{WalkError}
 use Rattle.formatter.specs.declared.WalkError.TheVariants.{Deep, Full}
 use Rattle.std.specs.declared.option.Option.{Option}
 use Rattle.std.specs.declared.option.Option.TheVariants.{None, Some}
 use Rattle.formatter.specs.declared.SignatureDepth.{SignatureDepth}
-use Rattle.formatter.specs.CodeState.{Locals, Given, state_of, locals_of, formatter_of, fields_of, options_of, signature_of, given}
+use Rattle.formatter.specs.CodeState.{Locals, Given, CodeState, code_state, state_of, locals_of, formatter_of, fields_of, options_of, signature_of, given}
 use Rattle.formatter.specs.Does.{Does, Done, Arrives, Same}
 use Rattle.formatter.specs.Token.{Ready, HasRows, HasEnds, InRows, Ahead, AtToken, StandsFor, depth_of}
 use Rattle.formatter.specs.Trivia.{WholeRows, trivia_in, lead_token}
@@ -47,7 +46,7 @@ use Rattle.formatter.proofs.Place.{token_here, tokens_next, tokens_here, stands,
 -- ---- what the calls of `push_token` say
 
 -- The trailing trivia are written or left out, by the test b.
-pub data Trailed (tr : List Trivia) (b : Bool) (f g : Formatter) : Type 0 where
+pub data Trailed (tr : List Trivia) (b : Bool) (f g : CodeState) : Type 0 where
   written : b ≡ true → Done (trailing_trivia tr) f g → Trailed tr b f g
   left_out : b ≡ false → g ≡ f → Trailed tr b f g
 
@@ -57,19 +56,19 @@ At token z P = (t : Token) (ts : List Token) → StandsFor token z.source.rows.n
 
 -- After the leading trivia: refusal 4's test, whether a one-line block's `}` stands before, the test for trailing trivia, and
 -- the arm. f is the state before the token, g that after its leading trivia.
-pub record Armed (z : Given) (token : TokenAt) (f g : Formatter) (r close b : Bool) (g₂ : Formatter) : Type 0 where
-  pub overflow : At token z (λ t ts. r ≡ overflows (options_of z.options) t ts (fields_of g))
+pub record Armed (z : Given) (token : TokenAt) (f g : CodeState) (r close b : Bool) (g₂ : CodeState) : Type 0 where
+  pub overflow : At token z (λ t ts. r ≡ overflows (options_of z.options) t ts (fields_of g.form))
   pub calm : r ≡ false
-  pub taken : close ≡ (eqb token.lead token.own && f.just_closed_inline)
-  pub trailing : At token z (λ t ts. b ≡ (ltb (token.own + 16) token.next && not (returns_early t ts (fields_of g))))
+  pub taken : close ≡ (eqb token.lead token.own && f.form.just_closed_inline)
+  pub trailing : At token z (λ t ts. b ≡ (ltb (token.own + 16) token.next && not (returns_early t ts (fields_of g.form))))
   pub arms :
-      At token z (λ t ts. (y : Locals) → y.inline_close ≡ close → overflows (options_of z.options) t ts (fields_of g) ≡ false
+      At token z (λ t ts. (y : Locals) → y.inline_close ≡ close → overflows (options_of z.options) t ts (fields_of g.form) ≡ false
       → Does (arm (options_of z.options) token.index t ts) y g g₂)
 
 -- And then the trailing trivia and `fn_state`.
-pub record Calls (z : Given) (token : TokenAt) (f g : Formatter) (r close b : Bool) (g₂ g₃ g₄ : Formatter) : Type 0 where
+pub record Calls (z : Given) (token : TokenAt) (f g : CodeState) (r close b : Bool) (g₂ g₃ g₄ : CodeState) : Type 0 where
   pub armed : Armed z token f g r close b g₂
-  pub trailed : Trailed (trivia_in g₂.source.rows.now g₂.source.text.now (token.own + 16) token.next) b g₂ g₃
+  pub trailed : Trailed (trivia_in g₂.form.source.rows.now g₂.form.source.text.now (token.own + 16) token.next) b g₂ g₃
   pub tracked : Done (update (track_fn_state (kind_number token.kind))) g₃ g₄
 
 -- A token without leading rows has no leading trivia.
@@ -106,15 +105,15 @@ not-ok e = let y : ◌≡◌ {A = ℕ} 0 1 = cc in absurd (omega arith)
 
 -- ---- a token
 
-module _ {token : TokenAt} {p : Formatter} (θ : HasToken token p) where
+module _ {token : TokenAt} {p : CodeState} (θ : HasToken token p.form p.sink) where
   abbrev rows : List ℕ
-  rows = p.source.rows.now
+  rows = p.form.source.rows.now
 
   abbrev text : List ℕ
-  text = p.source.text.now
+  text = p.form.source.text.now
 
   abbrev o : Options.Options
-  o = options_of p.options
+  o = options_of p.form.options
 
   abbrev i : ℕ
   i = token.index
@@ -140,10 +139,10 @@ module _ {token : TokenAt} {p : Formatter} (θ : HasToken token p) where
   abbrev here : StandsFor token rows text t ts
   here = stands ω η h τ
 
-  pub has_rows : HasRows token p
+  pub has_rows : HasRows token p.form
   has_rows = in_rows ω η h τ θ.index
 
-  pub has_ends : HasEnds token p
+  pub has_ends : HasEnds token p.form
   has_ends = (η.within, ahead ω η h τ θ.ends)
 
   pub lead_rows : WholeRows rows text token.lead token.own
@@ -153,7 +152,7 @@ module _ {token : TokenAt} {p : Formatter} (θ : HasToken token p) where
   trail_rows = Place.trails ω η h τ
 
   -- The token that the code's token stands for is the one here.
-  pub at_here : (P : Token → List Token → Type 0) → P t ts → AtToken token p P
+  pub at_here : (P : Token → List Token → Type 0) → P t ts → AtToken token p.form P
   at_here P π a us σ =
       let e : ◌≡◌ {A = List Token} (a ∷ us) (t ∷ ts) = sym σ.ahead ∙ tokens_here ω η h in
       let x : a ≡ t = cc in
@@ -162,7 +161,7 @@ module _ {token : TokenAt} {p : Formatter} (θ : HasToken token p) where
 
   -- ---- after the leading trivia
 
-  module _ {g : Formatter} (δ : Done (lead_token o (trivia_in rows text token.lead token.own)) p g) where
+  module _ {g : CodeState} (δ : Done (lead_token o (trivia_in rows text token.lead token.own)) p g) where
     its_lead : (x : Locals) → Does (lead_token o t.leading) x p g
     its_lead x = subst (λ ls. Does (lead_token o ls) x p g) (sym (leading_is ω η h τ)) (δ x)
 
@@ -197,36 +196,36 @@ module _ {token : TokenAt} {p : Formatter} (θ : HasToken token p) where
             (λ e. (its_lead x).fits θ.ready.fits.within (leb-true _ _ e))
             (λ e. absurd (let z = (its_lead x).over θ.ready.fits.within (leb-false _ _ e) in omega arith))
 
-        form : formatter_of g (locals_of begins.formatter) ≡ begins.formatter
+        form : formatter_of g.form (locals_of begins.formatter) ≡ begins.formatter
         form = ap (λ (v : State). v.formatter) arrives.state
 
         same : SameFields (state_of x p).formatter (run (leading_trivia o t.leading) (state_of x p)).formatter
         same = lead-same o t.leading (state_of x p)
 
-        pub field : {A : Type 0} (φ : definition.Formatter → A) → φ begins.formatter ≡ φ (state_of x p).formatter → φ (formatter_of g (locals_of begins.formatter)) ≡ φ (state_of x p).formatter
+        pub field : {A : Type 0} (φ : definition.Formatter → A) → φ begins.formatter ≡ φ (state_of x p).formatter → φ (formatter_of g.form (locals_of begins.formatter)) ≡ φ (state_of x p).formatter
         field φ e = ap φ form ∙ e
 
-        overflow_is : {b : Bool} → overflows o t ts (fields_of g) ≡ b → overflows o t ts begins.formatter ≡ b
+        overflow_is : {b : Bool} → overflows o t ts (fields_of g.form) ≡ b → overflows o t ts begins.formatter ≡ b
         overflow_is e = ap (overflows o t ts) (sym form) ∙ e
 
         -- Refusal 4: the stack is full.
-        pub leads-deep : overflows o t ts (fields_of g) ≡ true → Err (Deep i) ≡ pushed_of (checked size i after)
+        pub leads-deep : overflows o t ts (fields_of g.form) ≡ true → Err (Deep i) ≡ pushed_of (checked size i after)
         unfolding run
         leads-deep v =
             let e = turn-deep o i t ts x p d k (overflow_is v) in
             let r : length begins.out ≤ size = omega (arith, reached begins p g arrives, arrives.within, lead_size) in
             within-deep size i after (rw e r) (rw e refl)
 
-        closes : {close : Bool} → close ≡ (eqb token.lead token.own && p.just_closed_inline) → (locals_of begins.formatter).inline_close ≡ close
+        closes : {close : Bool} → close ≡ (eqb token.lead token.own && p.form.just_closed_inline) → (locals_of begins.formatter).inline_close ≡ close
         unfolding run
         closes e =
             ap (λ y. is_empty t.leading && y) same.just_closed_inline
-            ∙ ap (λ y. y && p.just_closed_inline) (ap is_empty (leading_is ω η h τ) ∙ sym (empty_is rows text token.lead token.own lead_rows))
+            ∙ ap (λ y. y && p.form.just_closed_inline) (ap is_empty (leading_is ω η h τ) ∙ sym (empty_is rows text token.lead token.own lead_rows))
             ∙ sym e
 
         -- ---- the whole turn
 
-        module _ {r close b : Bool} {g₂ : Formatter} (α : Armed (given p) token p g r close b g₂) where
+        module _ {r close b : Bool} {g₂ : CodeState} (α : Armed (given p.form) token p g r close b g₂) where
           calm : overflows o t ts begins.formatter ≡ false
           calm = overflow_is (sym (α.overflow t ts here) ∙ α.calm)
 
@@ -240,13 +239,13 @@ module _ {token : TokenAt} {p : Formatter} (θ : HasToken token p) where
           its_arm : Does (arm o i t ts) y g g₂
           its_arm = α.arms t ts here y (closes α.taken) (sym (α.overflow t ts here) ∙ α.calm)
 
-          pub second : given g₂ ≡ given p
+          pub second : given g₂.form ≡ given p.form
           second = its_arm.same.given ∙ lead_same.given
 
           abbrev left : Locals
           left = locals_of (run (arm o i t ts) (state_of y g)).formatter
 
-          module _ {g₃ g₄ : Formatter} (trailed : Trailed (trivia_in g₂.source.rows.now g₂.source.text.now (token.own + 16) token.next) b g₂ g₃) (tracked : Done (update (track_fn_state (kind_number token.kind))) g₃ g₄) where
+          module _ {g₃ g₄ : CodeState} (trailed : Trailed (trivia_in g₂.form.source.rows.now g₂.form.source.text.now (token.own + 16) token.next) b g₂ g₃) (tracked : Done (update (track_fn_state (kind_number token.kind))) g₃ g₄) where
             its_trail : Does (trail_token t.trailing) left g₂ g₃
             its_trail = go (subst (λ z. Trailed (trivia_in z.source.rows.now z.source.text.now (token.own + 16) token.next) b g₂ g₃) second trailed)
               where
@@ -281,25 +280,25 @@ module _ {token : TokenAt} {p : Formatter} (θ : HasToken token p) where
     -- ---- for any locals
 
     module _ (room : g.sink.len ≤ length g.sink.out.now) where
-      commas-same : g.commas ≡ p.commas
+      commas-same : g.form.commas ≡ p.form.commas
       unfolding run
       commas-same = ap (λ (v : State). v.commas) (arrives quiet refl refl room).state ∙ lead-commas o t.leading (state_of quiet p)
 
-      kept : {A : Type 0} (φ : definition.Formatter → A) → φ (begins quiet refl refl).formatter ≡ φ (state_of quiet p).formatter → φ (formatter_of g (locals_of (begins quiet refl refl).formatter)) ≡ φ (state_of quiet p).formatter
+      kept : {A : Type 0} (φ : definition.Formatter → A) → φ (begins quiet refl refl).formatter ≡ φ (state_of quiet p).formatter → φ (formatter_of g.form (locals_of (begins quiet refl refl).formatter)) ≡ φ (state_of quiet p).formatter
       kept φ e = field quiet refl refl room φ e
 
       -- Leading trivia change no count.
-      pub ready : Ready g
+      pub ready : Ready g.form g.sink
       unfolding run
       ready =
           let c = θ.ready in
           let s = lead-same o t.leading (state_of quiet p) in
-          let width : g.options.indent_width ≡ p.options.indent_width = ap (λ z. z.options.indent_width) lead_same.given in
-          let indent : g.indent ≡ p.indent = kept (λ v. v.indent) s.indent in
-          let group : g.group_depth.0 ≡ p.group_depth.0 = kept (λ v. v.group_depth) s.group_depth in
-          let inline : g.inline_depth.0 ≡ p.inline_depth.0 = kept (λ v. v.inline_depth) s.inline_depth in
-          let records : g.record_depth.0 ≡ p.record_depth.0 = kept (λ v. v.record_depth) s.record_depth in
-          let signature : depth_of g.sig_break_depth ≡ depth_of p.sig_break_depth = sym (depth-signature g.sig_break_depth) ∙ kept (λ v. depth v.sig_break_depth) (ap depth s.sig_break_depth) ∙ depth-signature p.sig_break_depth in
+          let width : g.form.options.indent_width ≡ p.form.options.indent_width = ap (λ z. z.options.indent_width) lead_same.given in
+          let indent : g.form.indent ≡ p.form.indent = kept (λ v. v.indent) s.indent in
+          let group : g.form.group_depth.0 ≡ p.form.group_depth.0 = kept (λ v. v.group_depth) s.group_depth in
+          let inline : g.form.inline_depth.0 ≡ p.form.inline_depth.0 = kept (λ v. v.inline_depth) s.inline_depth in
+          let records : g.form.record_depth.0 ≡ p.form.record_depth.0 = kept (λ v. v.record_depth) s.record_depth in
+          let signature : depth_of g.form.sig_break_depth ≡ depth_of p.form.sig_break_depth = sym (depth-signature g.form.sig_break_depth) ∙ kept (λ v. depth v.sig_break_depth) (ap depth s.sig_break_depth) ∙ depth-signature p.form.sig_break_depth in
           record {
             fits = record { within = room; width = rw width c.fits.width; indent = rw indent c.fits.indent };
             group = rw group c.group;
@@ -309,25 +308,25 @@ module _ {token : TokenAt} {p : Formatter} (θ : HasToken token p) where
             commas = rw commas-same c.commas;
           }
 
-      pub rows_there : HasRows token g
+      pub rows_there : HasRows token g.form
       rows_there = subst (λ (z : Given). InRows token z.source.rows.now z.source.text.now) (sym lead_same.given) has_rows
 
-      pub ends_there : HasEnds token g
+      pub ends_there : HasEnds token g.form
       ends_there = subst (λ (z : Given). (token.lead ≤ length z.source.rows.now) × Ahead z.ends token.lead z.source.rows.now) (sym lead_same.given) has_ends
 
   -- A token without leading rows clears `just_closed_inline`.
-  cleared : Done (lead_token o []) p (record p { just_closed_inline = false })
+  cleared : Done (lead_token o []) p (code_state (record p.form { just_closed_inline = false }) p.sink)
   unfolding leading_trivia
   cleared x = seq {a = update (λ f. f)} {b = update (take_inline_close true)} {p = p} {q = p} stays (updated {g = take_inline_close true} {p = p} refl refl refl nothing)
 
-  pub no_leading : token.lead ≡ token.own → Done (lead_token o (trivia_in rows text token.lead token.own)) p (record p { just_closed_inline = false })
+  pub no_leading : token.lead ≡ token.own → Done (lead_token o (trivia_in rows text token.lead token.own)) p (code_state (record p.form { just_closed_inline = false }) p.sink)
   no_leading e x =
-      subst (λ ls. Does (lead_token o ls) x p (record p { just_closed_inline = false }))
+      subst (λ ls. Does (lead_token o ls) x p (code_state (record p.form { just_closed_inline = false }) p.sink))
       (sym (no_trivia rows text {at = token.lead} {to = token.own} (omega arith))) (cleared x)
 
   -- ---- what `push_token` answers
 
-  module _ {g : Formatter} (δ : Done (lead_token o (trivia_in rows text token.lead token.own)) p g) where
+  module _ {g : CodeState} (δ : Done (lead_token o (trivia_in rows text token.lead token.own)) p g) where
     -- The leading trivia do not fit.
     pub pushed-lead-full : ltb (length g.sink.out.now) g.sink.len ≡ true → TokenPushed token p (Err (Full i)) g
     pushed-lead-full l =
@@ -342,19 +341,19 @@ module _ {token : TokenAt} {p : Formatter} (θ : HasToken token p) where
       room : g.sink.len ≤ length g.sink.out.now
       room = ltb-false _ _ fits
 
-      pub pushed_ready : Ready g
+      pub pushed_ready : Ready g.form g.sink
       pushed_ready = ready δ room
 
-      pub pushed_rows : HasRows token g
+      pub pushed_rows : HasRows token g.form
       pushed_rows = rows_there δ room
 
-      pub pushed_ends : HasEnds token g
+      pub pushed_ends : HasEnds token g.form
       pushed_ends = ends_there δ room
 
       -- The stack is full.
-      pub pushed_deep : AtToken token g (λ t ts. true ≡ overflows (options_of g.options) t ts (fields_of g)) → TokenPushed token p (Err (Deep i)) g
+      pub pushed_deep : AtToken token g.form (λ t ts. true ≡ overflows (options_of g.form.options) t ts (fields_of g.form)) → TokenPushed token p (Err (Deep i)) g
       pushed_deep v =
-          let e = subst (λ (z : Given). At token z (λ t ts. true ≡ overflows (options_of z.options) t ts (fields_of g))) (lead_same δ).given v in
+          let e = subst (λ (z : Given). At token z (λ t ts. true ≡ overflows (options_of z.options) t ts (fields_of g.form))) (lead_same δ).given v in
           record {
             same = lead_same δ;
             size = lead_size δ;
@@ -362,15 +361,15 @@ module _ {token : TokenAt} {p : Formatter} (θ : HasToken token p) where
             does = λ e. not-ok e;
           }
 
-      module _ {r close b : Bool} {g₂ : Formatter} (α : Armed (given g) token p g r close b g₂) where
-        α₀ : Armed (given p) token p g r close b g₂
+      module _ {r close b : Bool} {g₂ : CodeState} (α : Armed (given g.form) token p g r close b g₂) where
+        α₀ : Armed (given p.form) token p g r close b g₂
         α₀ = subst (λ z. Armed z token p g r close b g₂) (lead_same δ).given α
 
         -- The trailing trivia's rows.
-        pub pushed_trail_rows : WholeRows g₂.source.rows.now g₂.source.text.now (token.own + 16) token.next
+        pub pushed_trail_rows : WholeRows g₂.form.source.rows.now g₂.form.source.text.now (token.own + 16) token.next
         pushed_trail_rows = subst (λ z. WholeRows z.source.rows.now z.source.text.now (token.own + 16) token.next) (sym (second δ quiet refl refl room α₀)) trail_rows
 
-      module _ {r close b : Bool} {g₂ g₃ g₄ : Formatter} (κ : Calls (given g) token p g r close b g₂ g₃ g₄) where
+      module _ {r close b : Bool} {g₂ g₃ g₄ : CodeState} (κ : Calls (given g.form) token p g r close b g₂ g₃ g₄) where
         did : (x : Locals) → x.too_deep ≡ none → x.skip_next ≡ false → Does (turn o i t ts) x p g₄
         did x d k = turned δ x d k room (α₀ κ.armed) κ.trailed κ.tracked
 

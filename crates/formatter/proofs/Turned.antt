@@ -17,8 +17,7 @@ use Rattle.definition.specs.Act.{State, Act, run, update, ◌⨾◌, choose, not
 use Rattle.definition.specs.Emit.{is_some, is_at, track_fn_state, trailing_trivia}
 use Rattle.lookahead.specs.Measure.{next_is}
 use Rattle.definition.specs.PushToken.{arm, overflows, push_token, turn}
-use Rattle.formatter.specs.declared.Formatter as code
-use Rattle.formatter.specs.CodeState.{Locals, state_of, locals_of}
+use Rattle.formatter.specs.CodeState.{Locals, CodeState, state_of, locals_of}
 use Rattle.formatter.specs.Does.{Does}
 use Rattle.formatter.specs.Trivia.{lead_token}
 use Rattle.formatter.specs.Parts.{returns_early}
@@ -59,12 +58,12 @@ module _ (o : Options) (i : ℕ) (t : Token) (ts : List Token) where
       rw (turn_led s d k)
       (either (λ (z : State). length (led s).out ≤ length z.out) (overflows o t ts (led s).formatter) (λ e. omega arith) (λ e. grows armed (led s)))
 
-  module _ (x : Locals) (p : code.Formatter) (d : x.too_deep ≡ none) (k : x.skip_next ≡ false) where
+  module _ (x : Locals) (p : CodeState) (d : x.too_deep ≡ none) (k : x.skip_next ≡ false) where
     pub turn-deep : overflows o t ts (led (state_of x p)).formatter ≡ true → run (turn o i t ts) (state_of x p) ≡ run (update (set_too_deep (some i))) (led (state_of x p))
     turn-deep v = turn_led (state_of x p) d k ∙ ap (λ z. cond z (run (update (set_too_deep (some i))) (led (state_of x p))) (run armed (led (state_of x p)))) v
 
     pub turns :
-        {m q : code.Formatter} → Does (lead_token o t.leading) x p m → overflows o t ts (led (state_of x p)).formatter ≡ false
+        {m q : CodeState} → Does (lead_token o t.leading) x p m → overflows o t ts (led (state_of x p)).formatter ≡ false
         → Does armed (locals_of (led (state_of x p)).formatter) m q → Does (turn o i t ts) x p q
     unfolding run
     turns a v b =
@@ -74,10 +73,10 @@ module _ (o : Options) (i : ℕ) (t : Token) (ts : List Token) where
 
   -- ---- after the arm
 
-  abbrev after_arm : Locals → code.Formatter → Locals
+  abbrev after_arm : Locals → CodeState → Locals
   after_arm x p = locals_of (run (arm o i t ts) (state_of x p)).formatter
 
-  module _ (x : Locals) (p : code.Formatter) (r : x.returned ≡ false) where
+  module _ (x : Locals) (p : CodeState) (r : x.returned ≡ false) where
     abbrev early : Bool
     early = returns_early t ts (state_of x p).formatter
 
@@ -86,13 +85,13 @@ module _ (o : Options) (i : ℕ) (t : Token) (ts : List Token) where
 
     -- The trailing trivia are written.
     pub trails :
-        {q m : code.Formatter} (has : Bool) {trails : Bool} → trails ≡ (has && not early) → trails ≡ true
+        {q m : CodeState} (has : Bool) {trails : Bool} → trails ≡ (has && not early) → trails ≡ true
         → Does (trailing_trivia t.trailing) (after_arm x p) q m → Does (trail_token t.trailing) (after_arm x p) q m
     trails has e h d = no (λ n. returned_is ∙ not-true early (and_right has (not early) (sym e ∙ h))) d
 
     -- Or there are none, or the arm returned before them.
     pub trails_not :
-        {q : code.Formatter} (has : Bool) {trails : Bool} → trails ≡ (has && not early) → trails ≡ false → (has ≡ false → t.trailing ≡ [])
+        {q : CodeState} (has : Bool) {trails : Bool} → trails ≡ (has && not early) → trails ≡ false → (has ≡ false → t.trailing ≡ [])
         → Does (trail_token t.trailing) (after_arm x p) q q
     unfolding trailing_trivia
     trails_not {q} has e h empty =

@@ -1,4 +1,4 @@
--- The state that the code holds, and the state of the definition that it stands for.
+-- The state that the code holds, with the sink that it writes to beside it, and the state of the definition that it stands for.
 -- Assumes nothing.
 use Rattle.std.specs.Prelude.{Bool, false, ℕ, take, None, Some}
 use Rattle.std.specs.Prelude
@@ -10,6 +10,7 @@ use Rattle.formatter.specs.declared.Formatter.{Formatter}
 use Rattle.formatter.specs.declared.Options.{Options}
 use Rattle.formatter.specs.declared.Ends.{Ends}
 use Rattle.row_writers.specs.declared.Source.{Source}
+use Rattle.sink.specs.declared.write.Sink.{Sink}
 use Rattle.formatter.specs.declared.BraceStyle.{BraceStyle}
 use Rattle.formatter.specs.declared.BraceStyle.TheVariants.{SameLine, Allman}
 use Rattle.rows.specs.declared.kind.Kind.{Kind}
@@ -102,9 +103,18 @@ formatter_of f x =
 abbrev pub fields_of : Formatter → Formatter.Formatter
 fields_of f = formatter_of f (record { inline_close = false; returned = false; skip_next = false; too_deep = none })
 
+-- All that a method may change: the formatter and the sink.
+pub record CodeState : Type 0 where
+  pub form : Formatter
+  pub sink : Sink
+
+-- The two put together.
+abbrev pub code_state : Formatter → Sink → CodeState
+code_state f s = record { form = f; sink = s }
+
 -- The state of the definition that p stands for, with the locals x: the text is the first `len` bytes of the output.
-abbrev pub state_of : Locals → Formatter → State
-state_of x p = state (formatter_of p x) (take p.sink.len p.sink.out.now) p.commas
+abbrev pub state_of : Locals → CodeState → State
+state_of x p = state (formatter_of p.form x) (take p.sink.len p.sink.out.now) p.form.commas
 
 -- ---- what no method changes
 

@@ -16,7 +16,7 @@ use Rattle.definition.specs.Act.{state}
 use Rattle.definition.specs.Layout.{finished, lay_from}
 use Rattle.formatter.specs.declared.Formatter as code
 use Rattle.formatter.specs.declared.fast_braces.FastBraces.{FastBraces}
-use Rattle.formatter.specs.CodeState.{fn_number}
+use Rattle.formatter.specs.CodeState.{CodeState, fn_number}
 use Rattle.formatter.specs.FastTokens.{ChangedBy}
 
 -- ---- before fast braces
@@ -29,15 +29,15 @@ pub record MayStartFastBraces (f : code.Formatter) : Type 0 where
   pub outside : f.in_record ≡ false
   pub no_fn : fn_number f.fn_state ≡ 0
 
--- The place where they start, in the code's state f.
-abbrev pub fast_braces_at : code.Formatter → ℕ → FastBraces
-fast_braces_at f at =
+-- The place at the row at `at`, in the code's state p.
+abbrev pub fast_braces_at : CodeState → ℕ → FastBraces
+fast_braces_at p at =
     record {
       at = at;
-      len = f.sink.len;
-      prev = unwrap_or f.prev kinds.Eof;
-      depth = f.inline_depth.0;
-      closed = f.just_closed_inline;
+      len = p.sink.len;
+      prev = unwrap_or p.form.prev kinds.Eof;
+      depth = p.form.inline_depth.0;
+      closed = p.form.just_closed_inline;
     }
 
 -- What is asked of the definition's formatter f at the place b.
@@ -83,8 +83,8 @@ pub record FastBracesLaidOut (rows : List ℕ) (b : FastBraces) (l m : List ℕ)
       (i + (r.at - b.at) / row_size) (tokens_of (drop r.at rows) text)
 
 -- From the row at `from`, the code's state p comes to q at the row at `at`.
-pub record LaysFastBraces (p : code.Formatter) (from at : ℕ) (q : code.Formatter) : Type 0 where
-  pub laid : FastBracesLaidOut p.source.rows.now (fast_braces_at p from) p.sink.out.now q.sink.out.now (fast_braces_at q at)
+pub record LaysFastBraces (p : CodeState) (from at : ℕ) (q : CodeState) : Type 0 where
+  pub laid : FastBracesLaidOut p.form.source.rows.now (fast_braces_at p from) p.sink.out.now q.sink.out.now (fast_braces_at q at)
   pub changed : ChangedBy (with_fast_braces (fast_braces_at q at)) p q
 
 -- ---- one brace

@@ -21,7 +21,7 @@ use Rattle.formatter.specs.declared.Formatter as code
 use Rattle.formatter.specs.declared.FnState.{FnState}
 use Rattle.formatter.specs.declared.FnState.TheVariants.{Outside, AfterFn, Named}
 use Rattle.rows.specs.declared.kind.Kind.TheVariants.{Eof}
-use Rattle.formatter.specs.CodeState.{Locals, fn_number, prev_of, signature_of, fields_of, formatter_of, given}
+use Rattle.formatter.specs.CodeState.{Locals, CodeState, fn_number, prev_of, signature_of, fields_of, formatter_of, given}
 use Rattle.formatter.specs.Does.{Same}
 use Rattle.formatter.specs.Format.{TokenBoundary, run_rows}
 
@@ -165,18 +165,17 @@ abbrev pub after_fast_tokens : Bool → ℕ → FastState → Formatter → Form
 after_fast_tokens taken k m f =
     with_fast_state k m (set_inline_close (not taken && f.inline_close) (set_returned (not taken && f.returned) f))
 
--- g is the code's state f with this change of the definition's formatter, but for the text.
-pub record ChangedBy (change : Formatter → Formatter) (f g : code.Formatter) : Type 0 where
-  pub form : (x : Locals) → formatter_of g x ≡ change (formatter_of f x)
-  pub same : Same f g
-  pub commas : g.commas ≡ f.commas
+-- q is p with this change of the definition's formatter, but for the text.
+pub record ChangedBy (change : Formatter → Formatter) (p q : CodeState) : Type 0 where
+  pub form : (x : Locals) → formatter_of q.form x ≡ change (formatter_of p.form x)
+  pub same : Same p q
+  pub commas : q.form.commas ≡ p.form.commas
 
 -- The code's fields after a fast token of the kind k, where the kind before is p: g has those, and else is f.
 pub record TracksFastToken (p k : ℕ) (f g : code.Formatter) : Type 0 where
   pub state : fast_state_of g ≡ fast_state_after p k (fast_state_of f)
   pub form : (x : Locals) → formatter_of g x ≡ with_fields (fast_state_of g) (formatter_of f x)
   pub given : given g ≡ given f
-  pub sink : g.sink ≡ f.sink
   pub commas : g.commas ≡ f.commas
 
 -- A place among fast tokens: the index of the next row, the last kind, the length of the text, and the fields.
@@ -209,8 +208,9 @@ abbrev pub last_kind : code.Formatter → ℕ
 last_kind f = kind_number (unwrap_or f.prev Eof)
 
 -- From the row at `from`, the code's state p comes to q at the row at `at`.
-pub record LaysFastTokens (p : code.Formatter) (from at : ℕ) (q : code.Formatter) : Type 0 where
+pub record LaysFastTokens (p : CodeState) (from at : ℕ) (q : CodeState) : Type 0 where
   pub laid :
-      FastTokensLaidOut p.source.rows.now p.source.text.now from p.sink.len (last_kind p) (fast_state_of p) (fast_kinds_of p)
-      p.sink.out.now q.sink.out.now (record { at = at; prev = last_kind q; len = q.sink.len; state = fast_state_of q })
-  pub changed : ChangedBy (with_fast_state (last_kind q) (fast_state_of q)) p q
+      FastTokensLaidOut p.form.source.rows.now p.form.source.text.now from p.sink.len (last_kind p.form) (fast_state_of p.form)
+      (fast_kinds_of p.form) p.sink.out.now q.sink.out.now
+      (record { at = at; prev = last_kind q.form; len = q.sink.len; state = fast_state_of q.form })
+  pub changed : ChangedBy (with_fast_state (last_kind q.form) (fast_state_of q.form)) p q

@@ -14,6 +14,7 @@ use Rattle.definition.specs.Formatter.{new}
 use Rattle.definition.specs.Act.{State, run}
 use Rattle.definition.specs.PushToken.{turn}
 use Rattle.definition.specs.Layout.{Ended, finished, stopped, checked, lay}
+use Rattle.sink.specs.declared.write.Sink.{Sink}
 use Rattle.formatter.specs.declared.Formatter.{Formatter}
 use Rattle.formatter.specs.declared.Ends.{Ends}
 use Rattle.formatter.specs.declared.TokenAt.{TokenAt}
@@ -21,7 +22,7 @@ use Rattle.formatter.specs.declared.token.Place.{Place}
 use Rattle.formatter.specs.declared.Finished.{Finished}
 use Rattle.formatter.specs.declared.WalkError.{WalkError}
 use Rattle.formatter.specs.declared.WalkError.TheVariants.{Deep, Full}
-use Rattle.formatter.specs.CodeState.{Locals, formatter_of, locals_of, options_of, state_of}
+use Rattle.formatter.specs.CodeState.{Locals, CodeState, formatter_of, locals_of, options_of, state_of}
 use Rattle.formatter.specs.Does.{Same, Does}
 use Rattle.formatter.specs.Token.{Ready, Ahead, AtToken}
 
@@ -99,14 +100,14 @@ pub record Ending (rows : List ℕ) (ends : Ends) : Type 0 where
 
 -- What `push_token` asks: the rows are checked, the token is the one whose rows begin at its index `lead`, what all rows tell is
 -- true, and an arm may begin.
-pub record HasToken (token : TokenAt) (f : Formatter) : Type 0 where
+pub record HasToken (token : TokenAt) (f : Formatter) (s : Sink) : Type 0 where
   pub checked : CheckedRows f.source.rows.now f.source.text.now
   pub boundary : TokenBoundary f.source.rows.now f.source.text.now token.lead
   pub inside : token.lead < length f.source.rows.now
   pub its_rows : TokenRows f.source.rows.now token.lead token.index token
   pub index : token.index < most32
   pub ends : Ending f.source.rows.now f.ends
-  pub ready : Ready f
+  pub ready : Ready f s
 
 -- A refusal of the walk, as the code tells it.
 abbrev pub error_of : ℕ → ℕ → WalkError
@@ -118,22 +119,22 @@ pushed_of (finished s) = Ok tt
 pushed_of (stopped n i) = Err (error_of n i)
 
 -- From p, laying out a token answers r and comes to q, as the turn of the definition's walk does.
-pub record TokenPushed (token : TokenAt) (p : Formatter) (r : Result (Unit {0}) WalkError) (q : Formatter) : Type 0 where
+pub record TokenPushed (token : TokenAt) (p : CodeState) (r : Result (Unit {0}) WalkError) (q : CodeState) : Type 0 where
   pub same : Same p q
   pub size : length q.sink.out.now ≡ length p.sink.out.now
   pub answer :
-      AtToken token p (λ t ts. (x : Locals) → x.too_deep ≡ none → x.skip_next ≡ false
-      → r ≡ pushed_of (checked (length p.sink.out.now) token.index (run (turn (options_of p.options) token.index t ts) (state_of x p))))
+      AtToken token p.form (λ t ts. (x : Locals) → x.too_deep ≡ none → x.skip_next ≡ false
+      → r ≡ pushed_of (checked (length p.sink.out.now) token.index (run (turn (options_of p.form.options) token.index t ts) (state_of x p))))
   pub does :
-      r ≡ Ok tt → AtToken token p (λ t ts. (x : Locals) → x.too_deep ≡ none → x.skip_next ≡ false
-      → Does (turn (options_of p.options) token.index t ts) x p q)
+      r ≡ Ok tt → AtToken token p.form (λ t ts. (x : Locals) → x.too_deep ≡ none → x.skip_next ≡ false
+      → Does (turn (options_of p.form.options) token.index t ts) x p q)
 
 -- ---- the layout
 
--- A state as `Formatter::new` makes it, with an empty text.
-pub record Fresh (f : Formatter) : Type 0 where
+-- A state as `Formatter::new` makes it, and a sink without text.
+pub record Fresh (f : Formatter) (s : Sink) : Type 0 where
   pub new : formatter_of f (locals_of new) ≡ new
-  pub empty : f.sink.len ≡ 0
+  pub empty : s.len ≡ 0
   pub none : f.commas ≡ 0
 
 -- How the definition's walk over all tokens ends.

@@ -9,6 +9,7 @@ use Rattle.rows.specs.Row.{row_size, row_at, rows_of}
 use Rattle.rows.specs.Bounds.{Inside, InBounds}
 use Rattle.rows.specs.Token.{Token, bytes_of, tokens_of}
 use Rattle.lookahead.specs.Scan.{lacks, width_rows}
+use Rattle.sink.specs.declared.write.Sink.{Sink}
 use Rattle.formatter.specs.declared.Formatter.{Formatter}
 use Rattle.formatter.specs.declared.Ends.{Ends}
 use Rattle.formatter.specs.declared.TokenAt.{TokenAt}
@@ -26,14 +27,14 @@ abbrev pub IndentBounds : Formatter → Type 0
 IndentBounds f = (f.options.indent_width ≤ most_indent_width) × (f.indent ≤ most32)
 
 -- The text fits the output so far, and the indent may grow by one.
-pub record CanWrite (f : Formatter) : Type 0 where
-  pub within : f.sink.len ≤ length f.sink.out.now
+pub record CanWrite (f : Formatter) (s : Sink) : Type 0 where
+  pub within : s.len ≤ length s.out.now
   pub width : f.options.indent_width ≤ most_indent_width
   pub indent : f.indent < most32
 
 -- What an arm asks: the text fits so far, and each count may grow by one.
-pub record Ready (f : Formatter) : Type 0 where
-  pub fits : CanWrite f
+pub record Ready (f : Formatter) (s : Sink) : Type 0 where
+  pub fits : CanWrite f s
   pub group : f.group_depth.0 < most32
   pub inline : f.inline_depth.0 < most32
   pub records : f.record_depth.0 < most32

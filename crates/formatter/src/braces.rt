@@ -11,8 +11,9 @@ ghost use Rattle.lookahead.specs.Measure.{next_is};
 ghost use Rattle.definition.specs.Arms.{close_record, close_block, right_brace_arm};
 ghost use Rattle.definition.specs.Arms.{empty_record, open_block, left_brace_arm};
 ghost use Rattle.sink.specs.Sink.{past_gap};
+ghost use Rattle.sink.specs.declared.write.Sink.{Sink};
 ghost use Rattle.formatter.specs.CodeState.{fields_of, options_of};
-ghost use Rattle.formatter.specs.Does.{Done};
+ghost use Rattle.formatter.specs.Does.{Puts};
 ghost use Rattle.formatter.specs.Token.{IndentBounds, CanWrite, Ready, HasRows, HasEnds, AtToken};
 ghost use Rattle.formatter.specs.Token.{bare_token, lexeme_of};
 ghost use Rattle.formatter.specs.Parts.{inline_close_size, opens_block, record_entered};
@@ -22,30 +23,30 @@ use crate::{BraceStyle, Formatter, RecordDepth, TokenAt};
 use lookahead::{block_is_single_line, next_is};
 use row_writers::write_lexeme;
 use rows::{Kind, ROW_BYTES};
-use sink::write::{Tail, count_comma};
+use sink::write::{Sink, Tail, count_comma};
 
 impl<'a> Formatter<'a> {
     // `}` closes a one-line block, a record or a block over several lines.
-    pub fn right_brace_arm(&mut self)
-        requires { Ready self.old }
-        ensures { Done (right_brace_arm (options_of self.old.options)) self.old self.new }
+    pub fn right_brace_arm(&mut self, sink: &mut Sink)
+        requires { Ready self.old sink.old }
+        ensures { Puts (right_brace_arm (options_of self.old.options)) self.old sink.old self.new sink.new }
     {
         if self.in_one_line_block() {
-            self.close_inline();
+            self.close_inline(sink);
         } else if self.at_record_fields() {
-            self.close_record();
+            self.close_record(sink);
         } else {
-            self.close_block();
+            self.close_block(sink);
         }
     }
 
     // Writes the `}` of a one-line block.
-    fn close_inline(&mut self)
-        requires { CanWrite self.old }
-        ensures { Done (close_inline (options_of self.old.options)) self.old self.new }
+    fn close_inline(&mut self, sink: &mut Sink)
+        requires { CanWrite self.old sink.old }
+        ensures { Puts (close_inline (options_of self.old.options)) self.old sink.old self.new sink.new }
     {
         let gap = self.inline_close_gap();
-        self.sink.write_brace(gap, b'}');
+        sink.write_brace(gap, b'}');
         self.inline_depth.0 = self.inline_depth.0.saturating_sub(1);
         self.just_closed_inline = true;
         self.at_line_start = false;
@@ -69,14 +70,14 @@ impl<'a> Formatter<'a> {
     }
 
     // Writes the `}` of a record on a line of its own, and a comma before it if one is missing.
-    fn close_record(&mut self)
-        requires { Ready self.old }
-        ensures { Done (close_record (options_of self.old.options)) self.old self.new }
+    fn close_record(&mut self, sink: &mut Sink)
+        requires { Ready self.old sink.old }
+        ensures { Puts (close_record (options_of self.old.options)) self.old sink.old self.new sink.new }
     {
         let wanted = self.wants_record_comma();
         self.indent = self.indent.saturating_sub(1);
         let spaces = self.indent_size();
-        self.sink.write_closer(wanted, self.at_line_start, spaces, b'}');
+        sink.write_closer(wanted, self.at_line_start, spaces, b'}');
         self.commas += count_comma(wanted);
         self.in_record = false;
         self.record_depth = RecordDepth(0);
@@ -86,19 +87,20 @@ impl<'a> Formatter<'a> {
 
     // Whether a comma is inserted before a record's `}`: not if the record is empty or has one.
     fn wants_record_comma(&self) -> bool
-        ensures { result ≡ not (prev_is Comma (fields_of self.now) || prev_is LeftBrace (fields_of self.now)) }
+        ensures { result
+            ≡ not (prev_is Comma (fields_of self.now) || prev_is LeftBrace (fields_of self.now)) }
     {
         !self.prev_is(Kind::Comma) && !self.prev_is(Kind::LeftBrace)
     }
 
     // Writes the `}` of a block over several lines.
-    fn close_block(&mut self)
-        requires { CanWrite self.old }
-        ensures { Done (close_block (options_of self.old.options)) self.old self.new }
+    fn close_block(&mut self, sink: &mut Sink)
+        requires { CanWrite self.old sink.old }
+        ensures { Puts (close_block (options_of self.old.options)) self.old sink.old self.new sink.new }
     {
         self.indent = self.indent.saturating_sub(1);
         let spaces = self.indent_size();
-        self.sink.write_closer(false, self.at_line_start, spaces, b'}');
+        sink.write_closer(false, self.at_line_start, spaces, b'}');
         self.record_depth = self.record_depth_outside();
         self.at_line_start = false;
         self.prev = Some(Kind::RightBrace);
@@ -115,21 +117,21 @@ impl<'a> Formatter<'a> {
     }
 
     // `{` opens an empty record, a block over several lines or a one-line block.
-    pub fn left_brace_arm(&mut self, token: TokenAt)
-        requires ready { Ready self.old }
+    pub fn left_brace_arm(&mut self, sink: &mut Sink, token: TokenAt)
+        requires ready { Ready self.old sink.old }
         requires in_rows { HasRows token self.old × HasEnds token self.old }
         requires kind_value { kind_number token.kind ≡ LeftBrace }
         ensures { AtToken token self.old
-            (λ t ts. Done (left_brace_arm (options_of self.old.options) token.index t ts)
-            self.old self.new) }
+            (λ t ts. Puts (left_brace_arm (options_of self.old.options) token.index t ts)
+            self.old sink.old self.new sink.new) }
     {
         if self.empties_record(token) {
-            self.empty_record(token);
+            self.empty_record(sink, token);
         } else if self.opens_block(token) {
             self.enter_record();
-            self.open_block_multiline(token.index);
+            self.open_block_multiline(sink, token.index);
         } else {
-            self.open_one_line();
+            self.open_one_line(sink);
         }
     }
 
@@ -144,14 +146,14 @@ impl<'a> Formatter<'a> {
     }
 
     // Writes the braces of `record E {}`, which stay on one line: the `{` takes the `}` along.
-    fn empty_record(&mut self, token: TokenAt)
-        requires ready { Ready self.old }
+    fn empty_record(&mut self, sink: &mut Sink, token: TokenAt)
+        requires ready { Ready self.old sink.old }
         requires in_rows { HasRows token self.old }
-        ensures { Done (empty_record (options_of self.old.options)
-            (bare_token LeftBrace (lexeme_of token self.old))) self.old self.new }
+        ensures { Puts (empty_record (options_of self.old.options)
+            (bare_token LeftBrace (lexeme_of token self.old))) self.old sink.old self.new sink.new }
     {
         let gap = self.gap_before(Kind::LeftBrace);
-        write_lexeme(&mut self.sink, gap, self.source, token.own, Tail::Braces);
+        write_lexeme(sink, gap, self.source, token.own, Tail::Braces);
         self.at_line_start = false;
         self.prev = Some(Kind::RightBrace);
         self.record_pending = false;
@@ -179,8 +181,8 @@ impl<'a> Formatter<'a> {
     // deeper.
     fn enter_record(&mut self)
         requires { self.old.record_depth.0 < most32 }
-        ensures does { Done (update record_entered) self.old self.new }
-        ensures kept { (self.new.indent ≡ self.old.indent) × (self.new.sink ≡ self.old.sink) }
+        ensures does { (s : Sink) → Puts (update record_entered) self.old s self.new s }
+        ensures indent { self.new.indent ≡ self.old.indent }
     {
         if self.record_pending {
             self.record_pending = false;
@@ -192,36 +194,37 @@ impl<'a> Formatter<'a> {
     }
 
     // Writes the `{` of a block over several lines, by the brace style. `index` is the token's.
-    fn open_block_multiline(&mut self, index: u32)
-        requires can_write { CanWrite self.old }
+    fn open_block_multiline(&mut self, sink: &mut Sink, index: u32)
+        requires can_write { CanWrite self.old sink.old }
         requires index_lt_most32 { index < most32 }
-        ensures { Done (open_block (options_of self.old.options) index) self.old self.new }
+        ensures { Puts (open_block (options_of self.old.options) index) self.old sink.old self.new sink.new }
     {
         match self.options.brace_style {
-            BraceStyle::SameLine => self.open_same_line(),
-            BraceStyle::Allman => self.open_allman(index),
+            BraceStyle::SameLine => self.open_same_line(sink),
+            BraceStyle::Allman => self.open_allman(sink, index),
         }
     }
 
     // Writes a `{` at the end of its line.
-    fn open_same_line(&mut self)
-        requires { CanWrite self.old }
-        ensures { Done (braced open_same_line) self.old self.new }
+    fn open_same_line(&mut self, sink: &mut Sink)
+        requires { CanWrite self.old sink.old }
+        ensures { Puts (braced open_same_line) self.old sink.old self.new sink.new }
     {
-        self.sink.write_brace(1, b'{');
+        sink.write_brace(1, b'{');
         self.indent += 1;
         self.at_line_start = false;
         self.prev = Some(Kind::LeftBrace);
     }
 
     // Writes a `{` on a line of its own.
-    fn open_allman(&mut self, index: u32)
-        requires can_write { CanWrite self.old }
+    fn open_allman(&mut self, sink: &mut Sink, index: u32)
+        requires can_write { CanWrite self.old sink.old }
         requires index_lt_most32 { index < most32 }
-        ensures { Done (braced (open_allman (options_of self.old.options) index)) self.old self.new }
+        ensures { Puts (braced (open_allman (options_of self.old.options) index))
+            self.old sink.old self.new sink.new }
     {
         let spaces = self.indent_size();
-        self.sink.write_opener_line(self.at_line_start, spaces);
+        sink.write_opener_line(self.at_line_start, spaces);
         self.indent += 1;
         self.suppress_newline_at = Some(index + 1);
         self.at_line_start = true;
@@ -229,15 +232,15 @@ impl<'a> Formatter<'a> {
     }
 
     // Opens a one-line block, or a block inside one.
-    fn open_one_line(&mut self)
-        requires { Ready self.old }
-        ensures { Done (open_one_line (options_of self.old.options)) self.old self.new }
+    fn open_one_line(&mut self, sink: &mut Sink)
+        requires { Ready self.old sink.old }
+        ensures { Puts (open_one_line (options_of self.old.options)) self.old sink.old self.new sink.new }
     {
         let gap = self.indent_or_space();
         if self.omits_brace() {
-            self.sink.write_spaces(gap);
+            sink.write_spaces(gap);
         } else {
-            self.sink.write_brace(gap, b'{');
+            sink.write_brace(gap, b'{');
         }
         self.inline_depth.0 += 1;
         self.at_line_start = false;

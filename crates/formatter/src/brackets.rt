@@ -11,7 +11,7 @@ ghost use Rattle.definition.specs.Arms.{open_signature, left_paren_arm, left_bra
 ghost use Rattle.definition.specs.Arms.{close_signature, close_group, right_paren_arm, right_bracket_arm, comma_arm};
 ghost use Rattle.definition.specs.PushToken.{overflows};
 ghost use Rattle.formatter.specs.CodeState.{fields_of, options_of, signature_of};
-ghost use Rattle.formatter.specs.Does.{Done};
+ghost use Rattle.formatter.specs.Does.{Puts};
 ghost use Rattle.formatter.specs.Stack.{stack_size};
 ghost use Rattle.formatter.specs.Token.{CanWrite, Ready, HasRows, HasEnds, AtToken};
 ghost use Rattle.formatter.specs.Token.{bare_token, lexeme_of, depth_of};
@@ -20,25 +20,26 @@ ghost use Rattle.formatter.specs.Parts.{closes_signature, close_list};
 use crate::{FnState, Formatter, SignatureDepth, TokenAt};
 use lookahead::{should_break_list, should_break_sig};
 use rows::Kind;
-use sink::write::{Tail, count_comma};
+use sink::write::{Sink, Tail, count_comma};
 
 impl<'a> Formatter<'a> {
     // `(` opens a signature, a broken list or a group that stays on its line.
-    pub fn left_paren_arm(&mut self, token: TokenAt)
-        requires ready { Ready self.old }
+    pub fn left_paren_arm(&mut self, sink: &mut Sink, token: TokenAt)
+        requires ready { Ready self.old sink.old }
         requires in_rows { HasRows token self.old × HasEnds token self.old }
         requires kind_value { kind_number token.kind ≡ LeftParen }
         ensures { AtToken token self.old
             (λ t ts. overflows (options_of self.old.options) t ts (fields_of self.old) ≡ false
-            → Done (left_paren_arm (options_of self.old.options) token.index t ts) self.old self.new) }
+            → Puts (left_paren_arm (options_of self.old.options) token.index t ts)
+            self.old sink.old self.new sink.new) }
     {
         if self.at_signature() {
-            self.open_signature(token);
+            self.open_signature(sink, token);
         } else if self.breaks_list(token) {
-            self.open_list(token, Kind::LeftParen);
+            self.open_list(sink, token, Kind::LeftParen);
         } else {
             self.sig_break_depth = deeper(self.sig_break_depth);
-            self.open_group(token, Kind::LeftParen);
+            self.open_group(sink, token, Kind::LeftParen);
         }
     }
 
@@ -77,31 +78,32 @@ impl<'a> Formatter<'a> {
     }
 
     // Opens a signature, broken or on its line.
-    fn open_signature(&mut self, token: TokenAt)
-        requires ready { Ready self.old }
+    fn open_signature(&mut self, sink: &mut Sink, token: TokenAt)
+        requires ready { Ready self.old sink.old }
         requires in_rows { HasRows token self.old }
         requires kind_value { kind_number token.kind ≡ LeftParen }
         ensures { AtToken token self.old
-            (λ t ts. Done (open_signature (options_of self.old.options) token.index t ts)
-            self.old self.new) }
+            (λ t ts. Puts (open_signature (options_of self.old.options) token.index t ts)
+            self.old sink.old self.new sink.new) }
     {
         self.fn_state = FnState::Outside;
         if should_break_sig(&self.source.rows[token.lead..], self.options.fn_sig_width) {
-            self.break_signature(token.index);
+            self.break_signature(sink, token.index);
         } else {
-            self.open_group(token, Kind::LeftParen);
+            self.open_group(sink, token, Kind::LeftParen);
         }
     }
 
     // Opens a broken signature. `index` is the token's.
-    fn break_signature(&mut self, index: u32)
-        requires ready { Ready self.old }
+    fn break_signature(&mut self, sink: &mut Sink, index: u32)
+        requires ready { Ready self.old sink.old }
         requires index_lt_most32 { index < most32 }
-        ensures { Done (break_signature (options_of self.old.options) index) self.old self.new }
+        ensures { Puts (break_signature (options_of self.old.options) index)
+            self.old sink.old self.new sink.new }
     {
         self.indent += 1;
         let spaces = self.indent_size();
-        self.sink.write_signature_line(spaces);
+        sink.write_signature_line(spaces);
         self.sig_break_depth = Some(SignatureDepth(1));
         self.suppress_newline_at = Some(index + 1);
         self.at_line_start = false;
@@ -110,14 +112,14 @@ impl<'a> Formatter<'a> {
     }
 
     // Opens a broken list, which has one item a line. `kind` is the token's, a constant in each call.
-    fn open_list(&mut self, token: TokenAt, kind: Kind)
-        requires ready { Ready self.old }
+    fn open_list(&mut self, sink: &mut Sink, token: TokenAt, kind: Kind)
+        requires ready { Ready self.old sink.old }
         requires in_rows { HasRows token self.old × (kind ≡ token.kind) }
         ensures { length self.old.break_stack < stack_size
-            → Done (open_list (options_of self.old.options) token.index
-            (bare_token (kind_number kind) (lexeme_of token self.old))) self.old self.new }
+            → Puts (open_list (options_of self.old.options) token.index
+            (bare_token (kind_number kind) (lexeme_of token self.old))) self.old sink.old self.new sink.new }
     {
-        self.emit_token_text(token, kind, Tail::Feed);
+        self.emit_token_text(sink, token, kind, Tail::Feed);
         self.group_depth.0 += 1;
         self.break_stack.push(self.group_depth.0 as u32);
         self.indent += 1;
@@ -126,48 +128,50 @@ impl<'a> Formatter<'a> {
     }
 
     // Opens a group that stays on its line. `kind` is the token's, a constant in each call.
-    fn open_group(&mut self, token: TokenAt, kind: Kind)
-        requires can_write { CanWrite self.old × (self.old.group_depth.0 < most32) }
+    fn open_group(&mut self, sink: &mut Sink, token: TokenAt, kind: Kind)
+        requires can_write { CanWrite self.old sink.old × (self.old.group_depth.0 < most32) }
         requires in_rows { HasRows token self.old × (kind ≡ token.kind) }
-        ensures { Done (open_group (options_of self.old.options)
-            (bare_token (kind_number kind) (lexeme_of token self.old))) self.old self.new }
+        ensures { Puts (open_group (options_of self.old.options)
+            (bare_token (kind_number kind) (lexeme_of token self.old))) self.old sink.old self.new sink.new }
     {
-        self.push_lexeme(token, kind);
+        self.push_lexeme(sink, token, kind);
         self.group_depth.0 += 1;
     }
 
     // `[` opens a broken list or a group that stays on its line.
-    pub fn left_bracket_arm(&mut self, token: TokenAt)
-        requires ready { Ready self.old }
+    pub fn left_bracket_arm(&mut self, sink: &mut Sink, token: TokenAt)
+        requires ready { Ready self.old sink.old }
         requires in_rows { HasRows token self.old × HasEnds token self.old }
         requires kind_value { kind_number token.kind ≡ LeftBracket }
         ensures { AtToken token self.old
             (λ t ts. overflows (options_of self.old.options) t ts (fields_of self.old) ≡ false
-            → Done (left_bracket_arm (options_of self.old.options) token.index t ts) self.old self.new) }
+            → Puts (left_bracket_arm (options_of self.old.options) token.index t ts)
+            self.old sink.old self.new sink.new) }
     {
         if self.breaks_list(token) {
-            self.open_list(token, Kind::LeftBracket);
+            self.open_list(sink, token, Kind::LeftBracket);
         } else {
-            self.open_group(token, Kind::LeftBracket);
+            self.open_group(sink, token, Kind::LeftBracket);
         }
     }
 
     // `)` closes a broken signature, a broken list or a group that stays on its line.
-    pub fn right_paren_arm(&mut self, token: TokenAt)
-        requires ready { Ready self.old }
+    pub fn right_paren_arm(&mut self, sink: &mut Sink, token: TokenAt)
+        requires ready { Ready self.old sink.old }
         requires in_rows { HasRows token self.old × (kind_number token.kind ≡ RightParen) }
         ensures { AtToken token self.old
-            (λ t ts. Done (right_paren_arm (options_of self.old.options) t) self.old self.new) }
+            (λ t ts. Puts (right_paren_arm (options_of self.old.options) t)
+            self.old sink.old self.new sink.new) }
     {
         if self.closes_signature() {
-            self.close_signature();
+            self.close_signature(sink);
             return;
         }
         self.sig_break_depth = shallower(self.sig_break_depth);
         if self.in_broken_list() {
-            self.close_list(false, b')', Kind::RightParen);
+            self.close_list(sink, false, b')', Kind::RightParen);
         } else {
-            self.close_group(token, Kind::RightParen);
+            self.close_group(sink, token, Kind::RightParen);
         }
     }
 
@@ -186,12 +190,12 @@ impl<'a> Formatter<'a> {
     }
 
     // Writes the `)` of a broken signature, at the indent of its parameters; the indent goes back after it.
-    fn close_signature(&mut self)
-        requires { CanWrite self.old }
-        ensures { Done (close_signature (options_of self.old.options)) self.old self.new }
+    fn close_signature(&mut self, sink: &mut Sink)
+        requires { CanWrite self.old sink.old }
+        ensures { Puts (close_signature (options_of self.old.options)) self.old sink.old self.new sink.new }
     {
         let spaces = self.indent_size();
-        self.sink.write_closer(false, self.at_line_start, spaces, b')');
+        sink.write_closer(false, self.at_line_start, spaces, b')');
         self.sig_break_depth = None;
         self.indent = self.indent.saturating_sub(1);
         self.group_depth.0 = self.group_depth.0.saturating_sub(1);
@@ -200,15 +204,15 @@ impl<'a> Formatter<'a> {
     }
 
     // Writes the closer of a broken list, of this kind, and a comma before it where one is wanted.
-    fn close_list(&mut self, wanted: bool, closer: u8, kind: Kind)
-        requires { CanWrite self.old × (self.old.commas < most32) }
-        ensures { Done (close_list (options_of self.old.options) wanted (closer ∷ []) (kind_number kind))
-            self.old self.new }
+    fn close_list(&mut self, sink: &mut Sink, wanted: bool, closer: u8, kind: Kind)
+        requires { CanWrite self.old sink.old × (self.old.commas < most32) }
+        ensures { Puts (close_list (options_of self.old.options) wanted (closer ∷ []) (kind_number kind))
+            self.old sink.old self.new sink.new }
     {
         self.break_stack.pop();
         self.indent = self.indent.saturating_sub(1);
         let spaces = self.indent_size();
-        self.sink.write_closer(wanted, self.at_line_start, spaces, closer);
+        sink.write_closer(wanted, self.at_line_start, spaces, closer);
         self.commas += count_comma(wanted);
         self.group_depth.0 = self.group_depth.0.saturating_sub(1);
         self.at_line_start = false;
@@ -216,45 +220,47 @@ impl<'a> Formatter<'a> {
     }
 
     // Writes the closer of a group that stays on its line. `kind` is the token's, a constant in each call.
-    fn close_group(&mut self, token: TokenAt, kind: Kind)
-        requires can_write { CanWrite self.old }
+    fn close_group(&mut self, sink: &mut Sink, token: TokenAt, kind: Kind)
+        requires can_write { CanWrite self.old sink.old }
         requires in_rows { HasRows token self.old × (kind ≡ token.kind) }
-        ensures { Done (close_group (options_of self.old.options)
-            (bare_token (kind_number kind) (lexeme_of token self.old))) self.old self.new }
+        ensures { Puts (close_group (options_of self.old.options)
+            (bare_token (kind_number kind) (lexeme_of token self.old))) self.old sink.old self.new sink.new }
     {
-        self.push_lexeme(token, kind);
+        self.push_lexeme(sink, token, kind);
         self.group_depth.0 = self.group_depth.0.saturating_sub(1);
     }
 
     // `]` closes a broken list or a group that stays on its line.
-    pub fn right_bracket_arm(&mut self, token: TokenAt)
-        requires ready { Ready self.old }
+    pub fn right_bracket_arm(&mut self, sink: &mut Sink, token: TokenAt)
+        requires ready { Ready self.old sink.old }
         requires in_rows { HasRows token self.old × (kind_number token.kind ≡ RightBracket) }
         ensures { AtToken token self.old
-            (λ t ts. Done (right_bracket_arm (options_of self.old.options) t) self.old self.new) }
+            (λ t ts. Puts (right_bracket_arm (options_of self.old.options) t)
+            self.old sink.old self.new sink.new) }
     {
         if self.in_broken_list() {
             let wanted = !self.prev_is(Kind::Comma);
-            self.close_list(wanted, b']', Kind::RightBracket);
+            self.close_list(sink, wanted, b']', Kind::RightBracket);
         } else {
-            self.close_group(token, Kind::RightBracket);
+            self.close_group(sink, token, Kind::RightBracket);
         }
     }
 
     // `,` ends its line or is a lexeme like others.
-    pub fn comma_arm(&mut self, token: TokenAt)
-        requires ready { Ready self.old }
+    pub fn comma_arm(&mut self, sink: &mut Sink, token: TokenAt)
+        requires ready { Ready self.old sink.old }
         requires in_rows { HasRows token self.old × (kind_number token.kind ≡ Comma) }
         ensures { AtToken token self.old
-            (λ t ts. Done (comma_arm (options_of self.old.options) token.index t) self.old self.new) }
+            (λ t ts. Puts (comma_arm (options_of self.old.options) token.index t)
+            self.old sink.old self.new sink.new) }
     {
         if self.breaks_comma() {
-            self.sink.write_comma_line();
+            sink.write_comma_line();
             self.suppress_newline_at = Some(token.index + 1);
             self.at_line_start = true;
             self.prev = Some(Kind::Comma);
         } else {
-            self.push_lexeme(token, Kind::Comma);
+            self.push_lexeme(sink, token, Kind::Comma);
         }
     }
 

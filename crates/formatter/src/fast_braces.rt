@@ -4,12 +4,14 @@ ghost use Rattle.shared.specs.Numbers.{past64};
 ghost use Rattle.shared.specs.Bytes.{byte};
 ghost use Rattle.rows.specs.Row.{row_size, rows_of};
 ghost use Rattle.sink.specs.Sink.{Writes};
+ghost use Rattle.formatter.specs.CodeState.{code_state};
 ghost use Rattle.formatter.specs.Format.{RowsLeft, only_tokens};
 ghost use Rattle.formatter.specs.FastBraces.{MayStartFastBraces, LaysFastBraces};
 ghost use Rattle.formatter.specs.FastBraces.{opener_bytes, closer_bytes, after_opener, after_closer};
 
 use crate::{FnState, Formatter, InlineDepth};
 use rows::{Kind, ROW_BYTES, row_at};
+use sink::write::Sink;
 
 // A place among fast braces: the index of the next row, the length of the text, the last token's kind, and
 // the state's `inline_depth` and `just_closed_inline`.
@@ -55,32 +57,32 @@ impl<'a> Formatter<'a> {
 
     // Lays out the braces from the row at `from` on, while they stand in a one-line block and two bytes are
     // free, and answers the index of the row after them.
-    pub fn push_fast_braces(&mut self, from: usize) -> usize
+    pub fn push_fast_braces(&mut self, sink: &mut Sink, from: usize) -> usize
         requires at_in_bounds { (from ≤ length self.old.source.rows.now)
-            × (self.old.sink.len ≤ length self.old.sink.out.now) }
+            × (sink.old.len ≤ length sink.old.out.now) }
         requires rows_value { only_tokens (rows_of (drop from self.old.source.rows.now)) ≡ true }
         requires rows_bound { self.old.inline_depth.0 + length self.old.source.rows.now < past64 }
-        ensures { LaysFastBraces self.old from result self.new }
+        ensures { LaysFastBraces (code_state self.old sink.old) from result (code_state self.new sink.new) }
     {
         let rows = self.source.rows;
         let mut b = FastBraces {
             at: from,
-            len: self.sink.len,
+            len: sink.len,
             prev: self.prev.unwrap_or(Kind::Eof),
             depth: self.inline_depth.0,
             closed: self.just_closed_inline,
         };
         while ROW_BYTES <= rows.len() - b.at {
-            if !takes_brace(b.depth, self.sink.out.len() - b.len) {
+            if !takes_brace(b.depth, sink.out.len() - b.len) {
                 break;
             }
             match row_at(rows, b.at).token_kind() {
-                Kind::LeftBrace => b = open_fast_brace(self.sink.out, b),
-                Kind::RightBrace => b = close_fast_brace(self.sink.out, b),
+                Kind::LeftBrace => b = open_fast_brace(sink.out, b),
+                Kind::RightBrace => b = close_fast_brace(sink.out, b),
                 _ => break,
             }
         }
-        self.sink.len = b.len;
+        sink.len = b.len;
         self.prev = Some(b.prev);
         self.inline_depth = InlineDepth(b.depth);
         self.just_closed_inline = b.closed;

@@ -6,7 +6,7 @@ ghost use Rattle.rows.specs.Kinds.{Other};
 ghost use Rattle.spaces.specs.Between.{bit};
 ghost use Rattle.rows.specs.Row.{row_size};
 ghost use Rattle.definition.specs.Emit.{is_some};
-ghost use Rattle.formatter.specs.CodeState.{signature_of};
+ghost use Rattle.formatter.specs.CodeState.{code_state, signature_of};
 ghost use Rattle.formatter.specs.Format.{CheckedRows, TokenBoundary, RowsLeft, NoTriviaIf};
 ghost use Rattle.formatter.specs.FastTokens.{MayStartFastTokens, BareRow, RowAhead, IsFastToken};
 ghost use Rattle.formatter.specs.FastTokens.{LaysFastTokens, TracksFastToken};
@@ -16,6 +16,7 @@ ghost use Rattle.formatter.specs.FastTokens.{fn_after, pending_after, unary_afte
 use crate::lexeme::{named_after, record_pending_after};
 use crate::{FnState, Formatter, GroupDepth};
 use rows::{Kind, KindSet, ROW_BYTES, What, row_at};
+use sink::write::Sink;
 use spaces::is_value;
 use spaces::loose::loose_after;
 
@@ -65,12 +66,12 @@ impl<'a> Formatter<'a> {
 
     // Lays out the fast tokens from the row at `from` on, as many as fit, and answers the index of the row
     // after them. What each turn reads is in locals: in fields it takes longer.
-    pub fn push_fast_tokens(&mut self, from: usize) -> usize
-        requires len_in_bounds { self.old.sink.len ≤ length self.old.sink.out.now }
+    pub fn push_fast_tokens(&mut self, sink: &mut Sink, from: usize) -> usize
+        requires len_in_bounds { sink.old.len ≤ length sink.old.out.now }
         requires checked { CheckedRows self.old.source.rows.now self.old.source.text.now }
         requires token_boundary { TokenBoundary self.old.source.rows.now self.old.source.text.now from }
         requires no_trivia_if { NoTriviaIf self.old.bare self.old.source.rows.now }
-        ensures { LaysFastTokens self.old from result self.new }
+        ensures { LaysFastTokens (code_state self.old sink.old) from result (code_state self.new sink.new) }
     {
         let bare = self.bare;
         let rows = self.source.rows;
@@ -81,10 +82,10 @@ impl<'a> Formatter<'a> {
         let mut at = from;
         let mut prev = self.prev.unwrap_or(Kind::Eof) as u32;
         let mut spaced = bit(loose, prev);
-        while is_fast_token(fast, rows, at, bare, self.sink.room(), spaced) {
+        while is_fast_token(fast, rows, at, bare, sink.room(), spaced) {
             let row = row_at(rows, at);
             let space = space_before(spaced, row.kind);
-            self.sink.put_token(space, text, row.start as usize, row.end as usize);
+            sink.put_token(space, text, row.start as usize, row.end as usize);
             if bit(changing, row.kind) == 1 {
                 self.track_fast_token(Kind::of(prev), row.token_kind());
                 changing = changing_kinds(self.fn_state, self.record_pending);

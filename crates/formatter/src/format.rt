@@ -5,7 +5,7 @@ ghost use Rattle.rows.specs.Options.{most_indent_width};
 ghost use Rattle.rows.specs.Row.{row_size};
 ghost use Rattle.definition.specs.PushToken.{arm, overflows};
 ghost use Rattle.formatter.specs.declared.WalkError.TheVariants.{Full};
-ghost use Rattle.formatter.specs.CodeState.{Locals, fields_of, options_of};
+ghost use Rattle.formatter.specs.CodeState.{Locals, code_state, fields_of, options_of};
 ghost use Rattle.formatter.specs.Does.{Does};
 ghost use Rattle.formatter.specs.Token.{Ready, HasRows, HasEnds, AtToken};
 ghost use Rattle.formatter.specs.Parts.{returns_early, took_next};
@@ -15,48 +15,49 @@ ghost use Rattle.formatter.specs.Format.{HasToken, TokenPushed};
 use crate::token::{Place, ends_of, place_at, token_at};
 use crate::{Finished, Formatter, TokenAt, WalkError};
 use rows::{Kind, ROW_BYTES};
+use sink::write::Sink;
 
 impl<'a> Formatter<'a> {
-    // Lays out all tokens of checked rows, and tells how that ends.
-    pub fn format(&mut self) -> Result<Finished, WalkError>
-        requires fresh { Fresh self.old × (self.old.options.indent_width ≤ most_indent_width) }
+    // Lays out all tokens of checked rows into an empty sink, and tells how that ends.
+    pub fn format(&mut self, sink: &mut Sink) -> Result<Finished, WalkError>
+        requires fresh { Fresh self.old sink.old × (self.old.options.indent_width ≤ most_indent_width) }
         requires checked_rows { CheckedRows self.old.source.rows.now self.old.source.text.now }
         requires no_trivia_if { NoTriviaIf self.old.bare self.old.source.rows.now }
         ensures laid_out { LaidOut self.old.source.rows.now self.old.source.text.now
-            (options_of self.old.options) self.old.sink.out.now result self.new.sink.out.now }
-        ensures lent { self.new.sink.out.ghost_name ≡ self.old.sink.out.ghost_name }
+            (options_of self.old.options) sink.old.out.now result sink.new.out.now }
+        ensures lent { sink.new.out.ghost_name ≡ sink.old.out.ghost_name }
     {
         self.ends = ends_of(self.source.rows, self.options.list_width);
         let mut place = Place { at: 0, index: 0 };
         while place.at < self.source.rows.len() {
             let token = token_at(self.source.rows, place.at, place.index, self.bare);
-            self.push_token(token)?;
+            self.push_token(sink, token)?;
             place = self.next_place(token);
             if self.may_start_fast_tokens(place.at) {
-                let at = self.push_fast_tokens(place.at);
+                let at = self.push_fast_tokens(sink, place.at);
                 place = place_at(place, at);
             } else if self.may_start_fast_braces(place.at) {
-                let at = self.push_fast_braces(place.at);
+                let at = self.push_fast_braces(sink, place.at);
                 place = place_at(place, at);
             }
         }
         Ok(Finished {
-            length: self.sink.len,
+            length: sink.len,
             commas: self.commas,
         })
     }
 
     // Lays out a token with its trivia.
-    fn push_token(&mut self, token: TokenAt) -> Result<(), WalkError>
-        requires { HasToken token self.old }
-        ensures { TokenPushed token self.old result self.new }
+    fn push_token(&mut self, sink: &mut Sink, token: TokenAt) -> Result<(), WalkError>
+        requires { HasToken token self.old sink.old }
+        ensures { TokenPushed token (code_state self.old sink.old) result (code_state self.new sink.new) }
     {
         let inline_close = self.takes_inline_close(token);
         if token.lead == token.own {
             self.just_closed_inline = false;
         } else {
-            self.push_leading(token);
-            if self.sink.is_full() {
+            self.push_leading(sink, token);
+            if sink.is_full() {
                 return Err(full_at(token));
             }
         }
@@ -66,12 +67,12 @@ impl<'a> Formatter<'a> {
             });
         }
         let trails = self.writes_trailing(token);
-        self.push_arm(token, inline_close);
+        self.push_arm(sink, token, inline_close);
         if trails {
-            self.push_trailing(token);
+            self.push_trailing(sink, token);
         }
         self.track_fn_state(token.kind);
-        if self.sink.is_full() {
+        if sink.is_full() {
             return Err(full_at(token));
         }
         Ok(())
@@ -79,25 +80,26 @@ impl<'a> Formatter<'a> {
 
     // Does the arm of the token's kind; they stand in the order of format.rs. `inline_close` is true where
     // the `}` of a one-line block stands right before the token.
-    fn push_arm(&mut self, token: TokenAt, inline_close: bool)
-        requires ready { Ready self.old }
+    fn push_arm(&mut self, sink: &mut Sink, token: TokenAt, inline_close: bool)
+        requires ready { Ready self.old sink.old }
         requires in_rows { HasRows token self.old × HasEnds token self.old }
         ensures { AtToken token self.old (λ t ts. (x : Locals) → x.inline_close ≡ inline_close
             → overflows (options_of self.old.options) t ts (fields_of self.old) ≡ false
-            → Does (arm (options_of self.old.options) token.index t ts) x self.old self.new) }
+            → Does (arm (options_of self.old.options) token.index t ts) x
+            (code_state self.old sink.old) (code_state self.new sink.new)) }
     {
         match token.kind {
             Kind::Eof => {}
-            Kind::Newline => self.newline_arm(token),
-            Kind::RightBrace => self.right_brace_arm(),
-            Kind::LeftBrace => self.left_brace_arm(token),
-            Kind::LeftParen => self.left_paren_arm(token),
-            Kind::LeftBracket => self.left_bracket_arm(token),
-            Kind::RightParen => self.right_paren_arm(token),
-            Kind::RightBracket => self.right_bracket_arm(token),
-            Kind::Comma => self.comma_arm(token),
-            Kind::Else => self.else_arm(token, inline_close),
-            _ => self.other_arm(token),
+            Kind::Newline => self.newline_arm(sink, token),
+            Kind::RightBrace => self.right_brace_arm(sink),
+            Kind::LeftBrace => self.left_brace_arm(sink, token),
+            Kind::LeftParen => self.left_paren_arm(sink, token),
+            Kind::LeftBracket => self.left_bracket_arm(sink, token),
+            Kind::RightParen => self.right_paren_arm(sink, token),
+            Kind::RightBracket => self.right_bracket_arm(sink, token),
+            Kind::Comma => self.comma_arm(sink, token),
+            Kind::Else => self.else_arm(sink, token, inline_close),
+            _ => self.other_arm(sink, token),
         }
     }
 
@@ -143,7 +145,8 @@ impl<'a> Formatter<'a> {
 
     // Where the next token's rows start, and its index. The `{` of `record E {}` took the `}` along.
     fn next_place(&self, token: TokenAt) -> Place
-        requires next_in_bounds { (token.next ≤ length self.now.source.rows.now) × (token.index + 1 < most32) }
+        requires next_in_bounds { (token.next ≤ length self.now.source.rows.now)
+            × (token.index + 1 < most32) }
         requires next_token { took_next token.kind self.now.prev ≡ true
             → NextToken self.now.source.rows.now token.next self.now.bare }
         ensures { NextPlace self.now.source.rows.now token (took_next token.kind self.now.prev) result }

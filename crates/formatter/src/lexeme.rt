@@ -7,8 +7,9 @@ ghost use Rattle.definition.specs.Emit.{track_fn_state, track_minus, push_lexeme
 ghost use Rattle.definition.specs.Arms.{else_arm, else_on_new_line, other_arm};
 ghost use Rattle.sink.specs.Tail.{tail_bytes};
 ghost use Rattle.sink.specs.Sink.{past_gap};
-ghost use Rattle.formatter.specs.CodeState.{Locals, fields_of, fn_number, formatter_of, options_of};
-ghost use Rattle.formatter.specs.Does.{Does, Done};
+ghost use Rattle.sink.specs.declared.write.Sink.{Sink};
+ghost use Rattle.formatter.specs.CodeState.{Locals, code_state, fields_of, fn_number, formatter_of, options_of};
+ghost use Rattle.formatter.specs.Does.{Does, Puts};
 ghost use Rattle.formatter.specs.Token.{CanWrite, Ready, HasRows, Kept, IndentBounds, AtToken};
 ghost use Rattle.formatter.specs.Token.{bare_token, lexeme_of};
 ghost use Rattle.formatter.specs.Parts.{gap_size, indent_or_space_size, emit_tail};
@@ -16,26 +17,27 @@ ghost use Rattle.formatter.specs.Parts.{gap_size, indent_or_space_size, emit_tai
 use crate::{FnState, Formatter, TokenAt};
 use row_writers::write_lexeme;
 use rows::Kind;
-use sink::write::Tail;
+use sink::write::{Sink, Tail};
 use spaces::is_value;
 use spaces::loose::{loose_after, spaces_between};
 
 impl<'a> Formatter<'a> {
     // `else` starts a line after the `}` of a block over several lines, or is a lexeme like others.
     // `inline_close` is true where the `}` of a one-line block stands right before it.
-    pub fn else_arm(&mut self, token: TokenAt, inline_close: bool)
-        requires ready { Ready self.old }
+    pub fn else_arm(&mut self, sink: &mut Sink, token: TokenAt, inline_close: bool)
+        requires ready { Ready self.old sink.old }
         requires in_rows { HasRows token self.old × (kind_number token.kind ≡ Else) }
         ensures { AtToken token self.old (λ t ts. (x : Locals) → x.inline_close ≡ inline_close
-            → Does (else_arm (options_of self.old.options) t) x self.old self.new) }
+            → Does (else_arm (options_of self.old.options) t) x
+            (code_state self.old sink.old) (code_state self.new sink.new)) }
     {
         if self.else_on_new_line(inline_close) {
             let spaces = self.indent_size();
-            self.sink.write_else(spaces);
+            sink.write_else(spaces);
             self.at_line_start = false;
             self.prev = Some(Kind::Else);
         } else {
-            self.push_lexeme(token, Kind::Else);
+            self.push_lexeme(sink, token, Kind::Else);
         }
     }
 
@@ -52,41 +54,42 @@ impl<'a> Formatter<'a> {
 
     // Any other token writes its lexeme. `record` sets `record_pending`, a name leaves it, anything else
     // clears it.
-    pub fn other_arm(&mut self, token: TokenAt)
-        requires ready { Ready self.old }
+    pub fn other_arm(&mut self, sink: &mut Sink, token: TokenAt)
+        requires ready { Ready self.old sink.old }
         requires in_rows { HasRows token self.old }
         ensures { AtToken token self.old
-            (λ t ts. Done (other_arm (options_of self.old.options) t) self.old self.new) }
+            (λ t ts. Puts (other_arm (options_of self.old.options) t) self.old sink.old self.new sink.new) }
     {
         self.record_pending = record_pending_after(self.record_pending, token.kind);
-        self.push_lexeme(token, token.kind);
+        self.push_lexeme(sink, token, token.kind);
     }
 
     // Writes the spaces and the token's lexeme, and tracks `prev` and whether a `-` is unary. `kind` is the
     // token's, a constant in most arms.
-    pub fn push_lexeme(&mut self, token: TokenAt, kind: Kind)
-        requires can_write { CanWrite self.old }
+    pub fn push_lexeme(&mut self, sink: &mut Sink, token: TokenAt, kind: Kind)
+        requires can_write { CanWrite self.old sink.old }
         requires in_rows { HasRows token self.old × (kind ≡ token.kind) }
-        ensures does { Done (push_lexeme (options_of self.old.options)
-            (bare_token (kind_number kind) (lexeme_of token self.old))) self.old self.new }
+        ensures does { Puts (push_lexeme (options_of self.old.options)
+            (bare_token (kind_number kind) (lexeme_of token self.old))) self.old sink.old self.new sink.new }
         ensures kept { Kept self.old self.new }
     {
         let unary = self.minus_is_unary_after(kind);
-        self.emit_token_text(token, kind, Tail::Nothing);
+        self.emit_token_text(sink, token, kind, Tail::Nothing);
         self.prev_minus_is_unary = unary;
     }
 
     // Writes the spaces, the token's lexeme and the tail after it, and tracks `prev`; it does not track
     // whether a `-` is unary.
-    pub fn emit_token_text(&mut self, token: TokenAt, kind: Kind, tail: Tail)
-        requires can_write { CanWrite self.old }
+    pub fn emit_token_text(&mut self, sink: &mut Sink, token: TokenAt, kind: Kind, tail: Tail)
+        requires can_write { CanWrite self.old sink.old }
         requires in_rows { HasRows token self.old × (kind ≡ token.kind) }
-        ensures does { Done (emit_tail (options_of self.old.options)
-            (bare_token (kind_number kind) (lexeme_of token self.old)) (tail_bytes tail)) self.old self.new }
+        ensures does { Puts (emit_tail (options_of self.old.options)
+            (bare_token (kind_number kind) (lexeme_of token self.old)) (tail_bytes tail))
+            self.old sink.old self.new sink.new }
         ensures kept { Kept self.old self.new }
     {
         let gap = self.gap_before(kind);
-        write_lexeme(&mut self.sink, gap, self.source, token.own, tail);
+        write_lexeme(sink, gap, self.source, token.own, tail);
         self.at_line_start = false;
         self.prev = Some(kind);
     }
@@ -133,7 +136,7 @@ impl<'a> Formatter<'a> {
 
     // Tracks `fn name (`. `Outside`, which is most frequent, is asked for first.
     pub fn track_fn_state(&mut self, kind: Kind)
-        ensures { Done (update (track_fn_state (kind_number kind))) self.old self.new }
+        ensures { (s : Sink) → Puts (update (track_fn_state (kind_number kind))) self.old s self.new s }
     {
         if kind != Kind::Fn && self.fn_state == FnState::Outside {
             return;

@@ -1,4 +1,6 @@
-// The formatter of format.rs: its state and its methods, under the names that they have there.
+// The formatter of format.rs: its state and its methods, under the names that they have there. What it writes
+// goes to a sink, which is lent to the methods that write. It is no field: of an output that is lent two
+// structs deep the checker knows nothing once the formatter is gone.
 #![tactic(auto)]
 
 ghost use Rattle.std.specs.Prelude.{◌≡◌, ◌*◌, ◌<◌};
@@ -6,6 +8,7 @@ ghost use Rattle.rows.specs.KindNumber.{kind_number};
 ghost use Rattle.definition.specs.Emit.{is_at, is_some};
 ghost use Rattle.definition.specs.Arms.{at_record_fields, in_broken_list, in_one_line_block};
 ghost use Rattle.sink.specs.Sink.{past_gap};
+ghost use Rattle.sink.specs.declared.write.Sink.{Sink};
 ghost use Rattle.formatter.specs.CodeState.{prev_of, signature_of, fields_of};
 ghost use Rattle.formatter.specs.Token.{IndentBounds};
 ghost use Rattle.formatter.specs.Format.{Fresh};
@@ -25,7 +28,6 @@ use crate::stack::Stack;
 use crate::token::ends_not_sought;
 use row_writers::Source;
 use rows::Kind;
-use sink::write::Sink;
 
 // How far the walk has come in `fn name (`: `fn_state`, a number in format.rs.
 #[derive(Clone, Copy, Debug, PartialEq, Eq)]
@@ -104,7 +106,6 @@ pub struct Formatter<'a> {
     pub source: Source<'a>,
     pub ends: Ends,
     pub bare: bool,
-    pub sink: Sink<'a>,
     pub indent: usize,
     pub at_line_start: bool,
     pub prev: Option<Kind>,
@@ -140,20 +141,16 @@ pub enum WalkError {
 }
 
 impl<'a> Formatter<'a> {
-    // The state before the first token of `source`, which is laid out into `out`. Where `bare` is true, no row
-    // is trivia.
-    pub fn new(options: Options, source: Source<'a>, bare: bool, out: &'a mut [u8]) -> Self
-        ensures fresh { Fresh result }
+    // The state before the first token of `source`. Where `bare` is true, no row is trivia.
+    pub fn new(options: Options, source: Source<'a>, bare: bool) -> Self
+        ensures fresh { (s : Sink) → s.len ≡ 0 → Fresh result s }
         ensures given { (result.options ≡ options) × (result.source ≡ source.entry) × (result.bare ≡ bare) }
-        ensures output { result.sink.out.now ≡ out.old }
-        ensures lent { result.sink.out.ghost_name ≡ out.entry.ghost_name }
     {
         Formatter {
             options,
             source,
             ends: ends_not_sought(source.rows),
             bare,
-            sink: Sink { out, len: 0 },
             indent: 0,
             at_line_start: true,
             prev: None,

@@ -4,8 +4,8 @@ ghost use Rattle.rows.specs.Row.{row_size};
 ghost use Rattle.rows.specs.Token.{tokens_of};
 ghost use Rattle.definition.specs.Emit.{is_at};
 ghost use Rattle.definition.specs.Arms.{ends_with_two_feeds, newline_arm};
-ghost use Rattle.formatter.specs.CodeState.{Locals, newline_of, state_of};
-ghost use Rattle.formatter.specs.Does.{Done};
+ghost use Rattle.formatter.specs.CodeState.{Locals, code_state, newline_of, state_of};
+ghost use Rattle.formatter.specs.Does.{Puts};
 ghost use Rattle.formatter.specs.Token.{AtToken};
 ghost use Rattle.formatter.specs.Parts.{feeds_line};
 
@@ -16,14 +16,15 @@ use sink::write::Sink;
 
 impl<'a> Formatter<'a> {
     // Newline: it is swallowed, or writes a line feed, or is left out.
-    pub fn newline_arm(&mut self, token: TokenAt)
+    pub fn newline_arm(&mut self, sink: &mut Sink, token: TokenAt)
         requires { token.own + row_size ≤ length self.old.source.rows.now }
-        ensures { AtToken token self.old (λ t ts. Done (newline_arm token.index ts) self.old self.new) }
+        ensures { AtToken token self.old
+            (λ t ts. Puts (newline_arm token.index ts) self.old sink.old self.new sink.new) }
     {
         if self.suppresses(token.index) {
             self.suppress_newline_at = None;
-        } else if self.feeds(token.own) {
-            self.sink.write_byte(b'\n');
+        } else if self.feeds(sink, token.own) {
+            sink.write_byte(b'\n');
             self.at_line_start = true;
             self.prev = Some(Kind::Newline);
         }
@@ -39,20 +40,20 @@ impl<'a> Formatter<'a> {
     // Whether a Newline that is not swallowed writes a line feed, before the tokens of the rows after `own`:
     // not at the text's start before a comment, not in a record or a one-line block, and never a third line
     // feed.
-    fn feeds(&self, own: usize) -> bool
+    fn feeds(&self, sink: &Sink, own: usize) -> bool
         requires { own + row_size ≤ length self.now.source.rows.now }
-        ensures { (x : Locals) → self.now.sink.len ≤ length self.now.sink.out.now
+        ensures { (x : Locals) → sink.now.len ≤ length sink.now.out.now
             → result ≡ feeds_line
             (tokens_of (drop (own + row_size) self.now.source.rows.now) self.now.source.text.now)
-            (state_of x self.now) }
+            (state_of x (code_state self.now sink.now)) }
     {
-        if self.sink.len == 0 && next_has_comment(&self.source.rows[own + ROW_BYTES..]) {
+        if sink.len == 0 && next_has_comment(&self.source.rows[own + ROW_BYTES..]) {
             return false;
         }
         if self.in_record || self.in_one_line_block() {
             return false;
         }
-        !self.at_line_start || !ends_with_two_feeds(&self.sink)
+        !self.at_line_start || !ends_with_two_feeds(sink)
     }
 }
 

@@ -6,7 +6,7 @@ ghost use Rattle.rows.specs.Token.{trivia_of};
 ghost use Rattle.definition.specs.Emit.{lead_act, trailing_trivia};
 ghost use Rattle.sink.specs.Appends.{Appends};
 ghost use Rattle.formatter.specs.CodeState.{options_of};
-ghost use Rattle.formatter.specs.Does.{Done};
+ghost use Rattle.formatter.specs.Does.{Puts};
 ghost use Rattle.formatter.specs.Token.{IndentBounds};
 ghost use Rattle.formatter.specs.Trivia.{WholeRows, trivia_in, lead_token, trail_bytes};
 
@@ -17,53 +17,56 @@ use sink::write::Sink;
 
 impl<'a> Formatter<'a> {
     // Writes the token's leading rows, of which there is at least one; `just_closed_inline` stays as it is.
-    pub fn push_leading(&mut self, token: TokenAt)
+    pub fn push_leading(&mut self, sink: &mut Sink, token: TokenAt)
         requires indent_bounds { IndentBounds self.old }
-        requires whole_rows { WholeRows self.old.source.rows.now self.old.source.text.now token.lead token.own }
+        requires whole_rows { WholeRows self.old.source.rows.now self.old.source.text.now
+            token.lead token.own }
         requires lead_lt_own { token.lead < token.own }
-        ensures { Done (lead_token (options_of self.old.options)
+        ensures { Puts (lead_token (options_of self.old.options)
             (trivia_in self.old.source.rows.now self.old.source.text.now token.lead token.own))
-            self.old self.new }
+            self.old sink.old self.new sink.new }
     {
         let rows = self.source.rows;
         let end = token.own;
         let mut at = token.lead;
         while at < end {
-            self.push_lead(row_at(rows, at));
+            self.push_lead(sink, row_at(rows, at));
             at += ROW_BYTES;
         }
     }
 
     // Writes one leading row. It never breaks a line by itself, unless it is a blank line.
-    fn push_lead(&mut self, row: Row)
+    fn push_lead(&mut self, sink: &mut Sink, row: Row)
         requires indent_bounds { IndentBounds self.old }
         requires inside { Inside self.old.source.text.now (row_of row) }
-        ensures does { Done (lead_act (options_of self.old.options)
-            (trivia_of self.old.source.text.now (row_of row))) self.old self.new }
+        ensures does { Puts (lead_act (options_of self.old.options)
+            (trivia_of self.old.source.text.now (row_of row))) self.old sink.old self.new sink.new }
         ensures indent { self.new.indent ≡ self.old.indent }
     {
         if row.is_blank_line() {
-            write_blank_line(&mut self.sink, self.in_record);
+            write_blank_line(sink, self.in_record);
             self.at_line_start = true;
             return;
         }
         let gap = self.indent_or_space();
-        self.sink.write_spaces(gap);
-        write_lead(&mut self.sink, self.source.text, row);
+        sink.write_spaces(gap);
+        write_lead(sink, self.source.text, row);
     }
 
-    // Writes the token's trailing rows.
-    pub fn push_trailing(&mut self, token: TokenAt)
-        requires { WholeRows self.old.source.rows.now self.old.source.text.now (token.own + row_size) token.next }
-        ensures { Done (trailing_trivia
-            (trivia_in self.old.source.rows.now self.old.source.text.now (token.own + row_size) token.next))
-            self.old self.new }
+    // Writes the token's trailing rows. They change no field.
+    pub fn push_trailing(&self, sink: &mut Sink, token: TokenAt)
+        requires { WholeRows self.now.source.rows.now self.now.source.text.now
+            (token.own + row_size) token.next }
+        ensures { Puts (trailing_trivia
+            (trivia_in self.now.source.rows.now self.now.source.text.now (token.own + row_size) token.next))
+            self.now sink.old self.now sink.new }
     {
         let rows = self.source.rows;
+        let text = self.source.text;
         let end = token.next;
         let mut at = token.own + ROW_BYTES;
         while at < end {
-            push_trail(&mut self.sink, self.source.text, row_at(rows, at));
+            push_trail(sink, text, row_at(rows, at));
             at += ROW_BYTES;
         }
     }

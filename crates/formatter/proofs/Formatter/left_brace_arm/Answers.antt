@@ -3,19 +3,18 @@ use mathlib.Core.Bool.{false}
 use mathlib.Core.Path.{ap}
 use Rattle.std.proofs.Math.Option.{none}
 use Rattle.definition.specs.Arms.{empty_record, open_block}
-use Rattle.formatter.specs.CodeState.{Given, options_of}
+use Rattle.formatter.specs.CodeState.{Given, code_state, options_of}
 use Rattle.formatter.proofs.Blocks.{brace, same-options}
 use Rattle.formatter.proofs.Does.{told, yes, no, seq}
 use Rattle.formatter.proofs.Formatter.left_brace_arm.Goals as goal
 
 pub open_block_multiline-requires-clause-can_write : goal.open_block_multiline-requires-clause-can_write
 open_block_multiline-requires-clause-can_write c =
-    let k = c.enter_record.ensures.kept in
-    let n = (c.enter_record.ensures.does (record { inline_close = false; returned = false; skip_next = false; too_deep = none })).same.given in
+    let n = (c.enter_record.ensures.does c.args.sink.now (record { inline_close = false; returned = false; skip_next = false; too_deep = none })).same.given in
     record {
-      within = rw k.1 c.requires.ready.fits.within;
+      within = c.requires.ready.fits.within;
       width = rw (ap (λ (g : Given). g.options) n) c.requires.ready.fits.width;
-      indent = rw k.0 c.requires.ready.fits.indent;
+      indent = rw c.enter_record.ensures.indent c.requires.ready.fits.indent;
     }
 
 pub returns-then-empties_record : goal.returns-then-empties_record
@@ -35,7 +34,7 @@ returns-then-opens_block c = λ t ts σ x.
     (λ n. told (c.empties_record.ensures t ts σ) c.if-empties_record.false)
     (yes
     (λ n. told (c.opens_block.ensures t ts σ) c.if-opens_block.true)
-    (seq (c.enter_record.ensures.does x) (same-options (λ o. open_block o c.args.token.index) c.args.self.now (c.enter_record.ensures.does x).same.given (c.open_block_multiline.ensures _)))))
+    (seq (c.enter_record.ensures.does c.args.sink.now x) (same-options (λ o. open_block o c.args.token.index) (code_state c.args.self.now c.args.sink.now) (c.enter_record.ensures.does c.args.sink.now x).same.given (c.open_block_multiline.ensures _)))))
 
 pub returns-else-opens_block : goal.returns-else-opens_block
 returns-else-opens_block c = λ t ts σ x.

@@ -5,7 +5,7 @@ use Rattle.definition.specs.Arms.{newline_arm}
 use Rattle.definition.proofs.Said.{said}
 use Rattle.sink.proofs.Appends.{nothing}
 use Rattle.formatter.specs.Parts.{feeds_line}
-use Rattle.formatter.specs.CodeState.{state_of}
+use Rattle.formatter.specs.CodeState.{code_state, state_of}
 use Rattle.formatter.proofs.Does.{told, yes, no, stays, does, updated}
 use Rattle.formatter.proofs.Looked.{looked_after}
 use Rattle.formatter.proofs.Newlines.{newline}
@@ -24,7 +24,7 @@ returns-then-feeds c = λ t ts σ x.
     (λ n.
     told
     (looked_after σ
-    (λ l. feeds_line l (state_of x c.args.self.now))
+    (λ l. feeds_line l (state_of x (code_state c.args.self.now c.args.sink.now)))
     refl (c.feeds.ensures x n))
     c.if-feeds.true)
     (does refl refl refl c.write_byte.ensures))
@@ -37,7 +37,7 @@ returns-else-feeds c = λ t ts σ x.
     (λ n.
     told
     (looked_after σ
-    (λ l. feeds_line l (state_of x c.args.self.now))
+    (λ l. feeds_line l (state_of x (code_state c.args.self.now c.args.sink.now)))
     refl (c.feeds.ensures x n))
     c.if-feeds.false)
     stays)

@@ -5,7 +5,7 @@ use Rattle.formatter.proofs.FastBraces.{FastBracesLoop}
 use Rattle.formatter.proofs.Formatter.push_fast_braces.Given as goal
 
 abbrev pub invariant-loop-b : goal.invariant-loop-b
-invariant-loop-b l = FastBracesLoop l.rows l.initial.b l.b l.initial.self l.self
+invariant-loop-b l = FastBracesLoop l.rows l.initial.b l.b l.initial.sink l.sink
 
 abbrev pub decreases-loop-b : goal.decreases-loop-b
 decreases-loop-b l = length l.rows - l.b.at

@@ -5,9 +5,10 @@ use Rattle.rows.specs.Kinds.{Other}
 use Rattle.rows.specs.KindNumber.{kind_number}
 use Rattle.rows.proofs.KindNumbers.{tag_is}
 use Rattle.definition.specs.Formatter.{set_prev}
+use Rattle.formatter.specs.CodeState.{code_state}
 use Rattle.formatter.specs.FastTokens.{fast_kinds_of}
 use Rattle.formatter.proofs.Numbered.{read_as}
-use Rattle.formatter.proofs.FastTokens.{taken-fits, whole_row, row_known, starts, appended, unchanged, few, goes_on}
+use Rattle.formatter.proofs.FastTokens.{taken-fits, whole_row, row_known, starts, unchanged, few, goes_on}
 use Rattle.formatter.proofs.Formatter.push_fast_tokens.Goals as goal
 use Rattle.formatter.proofs.Formatter.push_fast_tokens.Goals.{then-bit-eq1, else-bit-eq1}
 
@@ -57,19 +58,19 @@ loop-rows-preserved c =
           let τ = w.track_fast_token.ensures in
           let p : kind_number w.of.result ≡ c.loop-rows.prev = read_as w.of.result w.of.ensures i.so_far.known in
           let k : kind_number w.token_kind.result ≡ c.row_at-row.result.kind = read_as w.token_kind.result w.token_kind.ensures known in
-          goes_on ω i w.self-is t c.room.ensures _ c.row_at-row.ensures c.space_before-space.ensures c.fast_kinds-fast.ensures
+          goes_on ω i (ap (λ f. code_state f c.put_token.new.self) w.self-is) t c.room.ensures _ c.row_at-row.ensures c.space_before-space.ensures c.fast_kinds-fast.ensures
           (record {
             state = rw (p, k) at τ.state;
             form = τ.form;
             given = τ.given;
-            sink = appended τ.sink c.put_token.ensures;
+            sink = c.put_token.ensures;
             commas = τ.commas;
           })
           (ap (λ s. s.0) w.changing-is ∙ w.changing_kinds-changing-then-bit-eq1.ensures)
           (ap (λ s. s.0) w.loose-is ∙ w.loose_after-loose-then-bit-eq1.ensures)
           c.bit-spaced-in-loop-rows.ensures
       | else-bit-eq1 w ↦
-          goes_on ω i w.self-is t c.room.ensures _ c.row_at-row.ensures c.space_before-space.ensures c.fast_kinds-fast.ensures
+          goes_on ω i (ap (λ f. code_state f c.put_token.new.self) w.self-is) t c.room.ensures _ c.row_at-row.ensures c.space_before-space.ensures c.fast_kinds-fast.ensures
           (record {
             state = unchanged ω i c.row_at-row.result.kind known (λ e. w.if-bit-eq1.false (c.bit.ensures ∙ e));
             form = λ x. refl;

@@ -2,7 +2,7 @@
 use Rattle.formatter.proofs.Gaps.{gapped, indent_or_space_lem}
 use Rattle.formatter.proofs.Does.{does_then}
 use Rattle.formatter.proofs.Comments.{blank_row, lead-comment}
-use Rattle.formatter.specs.CodeState.{options_of, formatter_of}
+use Rattle.formatter.specs.CodeState.{code_state, options_of, formatter_of}
 use Rattle.sink.proofs.Appends.{and_then}
 use Rattle.rows.specs.Bounds.{row_of}
 use Rattle.definition.proofs.Said.{said}
@@ -18,7 +18,7 @@ use Rattle.formatter.proofs.Formatter.push_lead.Goals as goal
 pub returns-then-is_blank_line : goal.returns-then-is_blank_line
 unfolding run said
 returns-then-is_blank_line c = record {
-  does = λ x. rw (blank_row c.args.self.now.source.text.now (row_of c.args.row) (search rules)) (does_then {a = comment (λ f. cond f.in_record [] line_feed)} {g = set_at_line_start true} {x = x} {p = c.args.self.now} refl refl refl c.write_blank_line.ensures);
+  does = λ x. rw (blank_row c.args.self.now.source.text.now (row_of c.args.row) (search rules)) (does_then {a = comment (λ f. cond f.in_record [] line_feed)} {g = set_at_line_start true} {x = x} {p = code_state c.args.self.now c.args.sink.now} refl refl refl c.write_blank_line.ensures);
   indent = refl;
 }
 

@@ -4,8 +4,8 @@ use mathlib.Core.Path.{◌≡◌, refl, sym, subst, ◌∙◌}
 use native.Mathlib.Omega.{arith}
 use lib.Dec.{ltb}
 use lib.ListN.{length}
-use Rattle.formatter.specs.CodeState.{Given, options_of, given}
-use Rattle.formatter.specs.Does.{Done}
+use Rattle.formatter.specs.CodeState.{code_state, options_of, given}
+use Rattle.formatter.specs.Does.{Puts}
 use Rattle.formatter.specs.Trivia.{WholeRows, trivia_in, lead_token}
 use Rattle.formatter.proofs.Pushed.{Armed, Calls, written, left_out, has_rows, lead_rows, trail_rows, no_leading, lead_same}
 use Rattle.formatter.proofs.Pushed.{pushed-lead-full, pushed_ready, pushed_rows, pushed_ends, pushed_deep, pushed_trail_rows, pushed_full, pushed_ok}
@@ -16,28 +16,30 @@ use Rattle.formatter.proofs.Formatter.push_token.Goals.{Joined-token, After-push
 abbrev LeadAt : Joined-token → Type 0
 LeadAt c =
     let p = c.args.self.now in
-    Done (lead_token (options_of p.options) (trivia_in p.source.rows.now p.source.text.now c.args.token.lead c.args.token.own)) p c.if-token.self
+    Puts (lead_token (options_of p.options) (trivia_in p.source.rows.now p.source.text.now c.args.token.lead c.args.token.own))
+    p c.args.sink.now c.if-token.self c.if-token.sink
 
 leading : (c : Joined-token) → LeadAt c
 leading c =
     elim c.if-token.branch [
-      | then-token w ↦ rw w.self-is (no_leading c.requires w.if-token.true)
-      | else-token+else-is_full w ↦ rw w.self-is w.push_leading.ensures
+      | then-token w ↦ rw (w.self-is, w.sink-is) (no_leading c.requires w.if-token.true)
+      | else-token+else-is_full w ↦ rw (w.self-is, w.sink-is) w.push_leading.ensures
     ]
 
 -- They fit.
-fits : (c : Joined-token) → ltb (length c.if-token.self.sink.out.now) c.if-token.self.sink.len ≡ false
+fits : (c : Joined-token) → ltb (length c.if-token.sink.out.now) c.if-token.sink.len ≡ false
 fits c =
     elim c.if-token.branch [
-      | then-token w ↦ rw w.self-is (let z = c.requires.ready.fits.within in search (arith))
-      | else-token+else-is_full w ↦ rw w.self-is (sym w.is_full.ensures ∙ w.if-is_full.false)
+      | then-token w ↦ rw w.sink-is (let z = c.requires.ready.fits.within in search (arith))
+      | else-token+else-is_full w ↦ rw w.sink-is (sym w.is_full.ensures ∙ w.if-is_full.false)
     ]
 
 -- What the calls of the turn say, after the leading trivia.
 abbrev ArmedAt : After-push_arm → Type 0
 ArmedAt c =
-    Armed (given c.if-token.self) c.args.token c.args.self.now c.if-token.self
-    c.overflows.result c.takes_inline_close-inline_close.result c.writes_trailing-trails.result c.push_arm.new.self
+    Armed (given c.if-token.self) c.args.token (code_state c.args.self.now c.args.sink.now) (code_state c.if-token.self c.if-token.sink)
+    c.overflows.result c.takes_inline_close-inline_close.result c.writes_trailing-trails.result
+    (code_state c.push_arm.new.self c.push_arm.new.sink)
 
 armed : (c : After-push_arm) → ArmedAt c
 armed c =
@@ -51,9 +53,10 @@ armed c =
 
 abbrev CallsAt : After-track_fn_state → Type 0
 CallsAt c =
-    Calls (given c.if-token.self) c.args.token c.args.self.now c.if-token.self
+    Calls (given c.if-token.self) c.args.token (code_state c.args.self.now c.args.sink.now) (code_state c.if-token.self c.if-token.sink)
     c.overflows.result c.takes_inline_close-inline_close.result c.writes_trailing-trails.result
-    c.push_arm.new.self c.if-trails.self c.track_fn_state.new.self
+    (code_state c.push_arm.new.self c.push_arm.new.sink) (code_state c.push_arm.new.self c.if-trails.sink)
+    (code_state c.track_fn_state.new.self c.if-trails.sink)
 
 calls : (c : After-track_fn_state) → CallsAt c
 calls c =
@@ -66,10 +69,10 @@ calls c =
         arms = c.push_arm.ensures;
       };
       trailed = elim c.if-trails.branch [
-        | then-trails w ↦ written w.if-trails.true (rw w.self-is w.push_trailing.ensures)
-        | else-trails w ↦ left_out w.if-trails.false w.self-is
+        | then-trails w ↦ written w.if-trails.true (rw w.sink-is w.push_trailing.ensures)
+        | else-trails w ↦ left_out w.if-trails.false (rw w.sink-is)
       ];
-      tracked = c.track_fn_state.ensures;
+      tracked = c.track_fn_state.ensures _;
     }
 
 -- ---- the answers
