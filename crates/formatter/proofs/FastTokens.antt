@@ -26,7 +26,6 @@ use Rattle.definition.specs.Arms.{at_record_fields, in_broken_list}
 use Rattle.definition.specs.PushToken.{turn}
 use Rattle.definition.specs.Layout.{finished, lay_from}
 use Rattle.sink.specs.Sink.{Writes}
-use Rattle.sink.specs.declared.write.Sink.{Sink}
 use Rattle.sink.specs.Appends.{Appends}
 use Rattle.spaces.specs.Between.{loose_after, bit, spaces}
 use Rattle.spaces.proofs.Pairs.{bit-few}

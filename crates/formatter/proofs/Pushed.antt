@@ -7,20 +7,18 @@ use Prim.Native.Nat.{ℕ, zero, suc, ◌+◌, ◌*◌, ◌≤◌, ◌<◌, ◌-�
 use native.Mathlib.Omega.{arith}
 use borrow.Author.Tests.{leb-true, leb-false, le-ltb, lt-ltb, ltb-true, ltb-false, eq-eqb, ne_eqb}
 use lib.Dec.{leb, eqb, ltb}
-use lib.ListN.{length, take, drop}
-use lib.Seq.{length-take-le}
+use lib.ListN.{length, drop}
 use Rattle.std.specs.Prelude.{Result, Ok, Err}
-use Rattle.shared.specs.Report.{deep, full}
 use Rattle.shared.proofs.Logic.{split}
 use Rattle.rows.specs.Options
 use Rattle.rows.specs.Row.{first_rows}
-use Rattle.rows.specs.Token.{Token, Trivia, trivia_of, tokens_of}
+use Rattle.rows.specs.Token.{Token, Trivia, trivia_of}
 use Rattle.lookahead.specs.Measure.{is_empty}
 use Rattle.definition.specs.Formatter as definition
 use Rattle.definition.specs.Act.{State, run, update}
 use Rattle.definition.specs.Emit.{track_fn_state, trailing_trivia, leading_trivia}
 use Rattle.definition.specs.PushToken.{arm, overflows, turn, take_inline_close}
-use Rattle.definition.specs.Layout.{finished, stopped, checked}
+use Rattle.definition.specs.Layout.{checked}
 use Rattle.definition.proofs.Growth.{depth}
 use Rattle.rows.specs.KindNumber.{kind_number}
 use Rattle.formatter.specs.declared.TokenAt.{TokenAt}

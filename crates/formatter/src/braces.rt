@@ -142,7 +142,10 @@ impl<'a> Formatter<'a> {
             (λ t ts. result ≡ self.now.record_pending && next_is RightBrace ts) }
     {
         self.record_pending
-            && next_is(&self.source.rows[token.own + ROW_BYTES..], Kind::RightBrace as u32)
+            && next_is(
+                &self.source.rows[token.own + ROW_BYTES..],
+                Kind::RightBrace as u32,
+            )
     }
 
     // Writes the braces of `record E {}`, which stay on one line: the `{` takes the `}` along.

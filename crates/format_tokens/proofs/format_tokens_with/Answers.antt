@@ -1,5 +1,5 @@
 -- `format_tokens::format_tokens_with` meets its contract. Assumes nothing.
-use mathlib.Core.Path.{◌≡◌, sym, ap, ◌∙◌}
+use mathlib.Core.Path.{◌≡◌, sym, ◌∙◌}
 use Rattle.rows.proofs.Passed.{passed, few_rows}
 use Rattle.std.specs.Prelude.{Result}
 use Rattle.formatter.specs.declared.Finished.{Finished}

@@ -1,8 +1,5 @@
 -- `format_tokens::lay_out` meets its contract. Assumes nothing.
-use Prim.Native.Nat.{ℕ}
-use mathlib.Core.List.{List}
-use mathlib.Core.Path.{sym, ◌∙◌}
-use borrow.Author.Rules.{rules}
+use mathlib.Core.Path.{refl, sym, ◌∙◌}
 use Rattle.format_tokens.proofs.Bare.{plain-bare}
 use Rattle.format_tokens.proofs.lay_out.Goals as goal
 
@@ -11,5 +8,5 @@ format-requires-clause-no_trivia_if c =
     let given = c.new-formatter.ensures.given in
     rw (given.1, given.2) (λ b. plain-bare _ _ c.requires.checked_rows.good (sym c.requires.plain_value ∙ b))
 
-pub returns : goal.returns
-returns c = ?
+pub format-requires-clause-fresh : goal.format-requires-clause-fresh
+format-requires-clause-fresh c = (c.new-formatter.ensures.fresh _ refl, rw c.new-formatter.ensures.given.0 c.requires.indent_width_bound)

@@ -1,12 +1,12 @@
 -- `formatter::Formatter::format` meets its contract. Assumes nothing.
-use mathlib.Core.Path.{◌≡◌, sym, ap, ◌∙◌}
+use mathlib.Core.Path.{ap}
 use Prim.Native.Nat.{◌<◌}
 use native.Mathlib.Omega.{arith}
 use lib.ListN.{length}
 use Rattle.formatter.specs.CodeState.{CodeState, code_state}
 use Rattle.formatter.proofs.Going.{laid_done}
-use Rattle.formatter.proofs.Loop.{Loop, begins, rows_same, next_token_there, has_token, refused_as, next_there_too, next-bounds, placed, further}
-use Rattle.formatter.proofs.Loop.{rows_left, past, boundary_there, past_fast_tokens, fast_braces_place, fast_braces_rows, fast_braces_depth, past_fast_braces}
+use Rattle.formatter.proofs.Loop.{Loop, begins, rows_same, next_token_there, refused_as, next_there_too, next-bounds, placed, further}
+use Rattle.formatter.proofs.Loop.{rows_left, boundary_there, past_fast_tokens, fast_braces_place, fast_braces_rows, fast_braces_depth, past_fast_braces}
 use Rattle.formatter.proofs.Formatter.format.Goals as goal
 use Rattle.formatter.proofs.Formatter.format.Goals.{After-loop-place, In_ok-push_token, After-next_place-place}
 

@@ -17,13 +17,13 @@ returns c = λ x.
     let e = indent_or_space_lem o f in
     let n = c.indent_or_space-gap.ensures.0 in
     elim c.if-omits_brace.branch [
-      then-omits_brace w ↦
-        rw w.sink-is
-        (one_line o refl refl refl
-        (rw (told c.omits_brace.ensures w.if-omits_brace.true)
-        (gapped _ _ _ e n (same_bytes (sym (append-nil (replicate c.indent_or_space-gap.result 32))) w.write_spaces.ensures))))
-    | else-omits_brace w ↦
-        rw w.sink-is
-        (one_line o refl refl refl
-        (rw (told c.omits_brace.ensures w.if-omits_brace.false) (gapped _ _ _ e n w.write_brace.ensures)))
+      | then-omits_brace w ↦
+          rw w.sink-is
+          (one_line o refl refl refl
+          (rw (told c.omits_brace.ensures w.if-omits_brace.true)
+          (gapped _ _ _ e n (same_bytes (sym (append-nil (replicate c.indent_or_space-gap.result 32))) w.write_spaces.ensures))))
+      | else-omits_brace w ↦
+          rw w.sink-is
+          (one_line o refl refl refl
+          (rw (told c.omits_brace.ensures w.if-omits_brace.false) (gapped _ _ _ e n w.write_brace.ensures)))
     ]

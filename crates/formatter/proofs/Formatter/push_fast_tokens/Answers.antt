@@ -53,8 +53,8 @@ loop-rows-preserved c =
     let i = c.loop-rows.invariant in
     let ω = c.requires.checked in
     let known : c.row_at-row.result.kind ≤ Other = row_known ω i.so_far.head t.ahead _ c.row_at-row.ensures in
-    elim c.if-bit-eq1.branch
-      [ then-bit-eq1 w ↦
+    elim c.if-bit-eq1.branch [
+      | then-bit-eq1 w ↦
           let τ = w.track_fast_token.ensures in
           let p : kind_number w.of.result ≡ c.loop-rows.prev = read_as w.of.result w.of.ensures i.so_far.known in
           let k : kind_number w.token_kind.result ≡ c.row_at-row.result.kind = read_as w.token_kind.result w.token_kind.ensures known in
@@ -81,4 +81,4 @@ loop-rows-preserved c =
           (ap (λ s. s.0) w.changing-is ∙ i.changing)
           (ap (λ s. s.0) w.loose-is ∙ i.loose)
           c.bit-spaced-in-loop-rows.ensures
-      ]
+    ]

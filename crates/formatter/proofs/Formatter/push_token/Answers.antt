@@ -1,13 +1,13 @@
 -- `formatter::Formatter::push_token` meets its contract. Assumes nothing.
-use mathlib.Core.Bool.{true, false}
-use mathlib.Core.Path.{◌≡◌, refl, sym, subst, ◌∙◌}
+use mathlib.Core.Bool.{false}
+use mathlib.Core.Path.{◌≡◌, sym, ◌∙◌}
 use native.Mathlib.Omega.{arith}
 use lib.Dec.{ltb}
 use lib.ListN.{length}
 use Rattle.formatter.specs.CodeState.{code_state, options_of, given}
 use Rattle.formatter.specs.Does.{Puts}
-use Rattle.formatter.specs.Trivia.{WholeRows, trivia_in, lead_token}
-use Rattle.formatter.proofs.Pushed.{Armed, Calls, written, left_out, has_rows, lead_rows, trail_rows, no_leading, lead_same}
+use Rattle.formatter.specs.Trivia.{trivia_in, lead_token}
+use Rattle.formatter.proofs.Pushed.{Armed, Calls, written, left_out, lead_rows, no_leading}
 use Rattle.formatter.proofs.Pushed.{pushed-lead-full, pushed_ready, pushed_rows, pushed_ends, pushed_deep, pushed_trail_rows, pushed_full, pushed_ok}
 use Rattle.formatter.proofs.Formatter.push_token.Goals as goal
 use Rattle.formatter.proofs.Formatter.push_token.Goals.{Joined-token, After-push_arm, After-track_fn_state, then-token, else-token+else-is_full, then-trails, else-trails}
