@@ -23,7 +23,7 @@ pub fn write_lead(sink: &mut Sink, text: &[u8], row: Row)
     let kind = row.trivia();
     write_head(sink, kind);
     sink.write_byte(b' ');
-    sink.write_part(text, row.start as usize, row.end as usize);
+    sink.write_part(&text[row.start as usize..row.end as usize]);
     if kind == Trivia::BlockComment {
         sink.write_byte(b' ');
         write_tail(sink);
@@ -42,11 +42,11 @@ pub fn write_trail(sink: &mut Sink, text: &[u8], row: Row)
     let kind = row.trivia();
     write_head(sink, kind);
     if kind == Trivia::BlockComment {
-        sink.write_part(text, row.start as usize, row.end as usize);
+        sink.write_part(&text[row.start as usize..row.end as usize]);
         write_tail(sink);
     } else {
         sink.write_byte(b' ');
-        sink.write_part(text, row.start as usize, row.end as usize);
+        sink.write_part(&text[row.start as usize..row.end as usize]);
     }
 }
 

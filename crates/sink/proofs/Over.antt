@@ -1,16 +1,22 @@
--- A write over an earlier one: a copy in turns, and a lexeme over a space. Assumes nothing.
-use mathlib.Core.List.{List, ◌++◌, append_assoc}
+-- Copying in turns, of which the last may go over an earlier one, and a lexeme over a space. Assumes nothing.
+use mathlib.Core.List.{List, [], ◌∷◌, ◌++◌, append_assoc}
 use mathlib.Core.Path.{◌≡◌, refl, sym, ◌∙◌}
-use Prim.Native.Nat.{ℕ, zero, suc, ◌+◌, ◌-◌, ◌≤◌, ◌<◌, min}
-use native.Mathlib.Nat.{min-eq_left, min-eq_right}
+use Prim.Native.Nat.{ℕ, zero, suc, ◌+◌, ◌-◌, ◌≤◌, ◌<◌}
 use native.Mathlib.Omega.{arith}
-use lib.ListN.{length, take, drop, set, get_or, replicate, length-append, length-set}
-use lib.Seq.{slice, length-slice, length-take-le, take-take, take-add, take-append-add, drop-drop, drop_at}
-use lib.Dec.{leb}
-use borrow.Author.Tests.{leb-true, leb-false}
-use Rattle.shared.proofs.Logic.{split}
+use lib.ListN.{length, take, set, get_or, replicate, length-append, length-set}
+use lib.Seq.{length-take-le, take-take, take-append-add}
 use Rattle.sink.specs.Sink.{Writes}
-use Rattle.sink.proofs.Sink.{Copied, later, one, same_bytes_lem, part_none, part_done, slice_one}
+use borrow.Rule.Slice.PartMut.{put_mid}
+use Rattle.sink.proofs.Sink.{later, one, fills}
+
+-- ---- a part that is copied as far as the index i
+
+pub record Agree (i : ℕ) (l m : List ℕ) : Type 0 where
+  pub size : length l ≡ length m
+  pub within : i ≤ length m
+  pub same : take i l ≡ take i m
+
+-- ---- a write over an earlier one
 
 take-over : (l m xs : List ℕ) (n p q j : ℕ) → q ≡ n + j → q ≤ p → n ≤ length l → take p m ≡ take n l ++ xs → take q m ≡ take n l ++ take j xs
 take-over l m xs n p q j d b h e =
@@ -48,76 +54,31 @@ over-space (suc (suc j)) h g b w = absurd (omega arith)
 over-byte : (l : List ℕ) (n b : ℕ) {k xs : List ℕ} {r : ℕ} → n < length l → 1 ≤ length xs → Writes (set l n b) n xs k r → Writes l n xs k r
 over-byte l n b g h w = overwrite 0 (omega arith) (omega arith) (omega arith) (one g) w
 
--- ---- parts of the text
-
-slice_take : (s i : ℕ) (t : List ℕ) → s ≤ length t → slice s (s + i) t ≡ take i (drop s t)
-slice_take s i t h = rw (take-add s i t) (drop_at (take s t) (take i (drop s t)) s (length-take-le s t h))
-
-take_slice : (s j i : ℕ) (t : List ℕ) → s ≤ length t → j ≤ i → take j (slice s (s + i) t) ≡ slice s (s + j) t
-take_slice s j i t h g = rw (slice_take s i t h, slice_take s j t h) (take-take j i (drop s t) g)
-
-slice_join : (s j w : ℕ) (t : List ℕ) → s + j ≤ length t → slice s (s + j) t ++ slice (s + j) (s + j + w) t ≡ slice s (s + (j + w)) t
-slice_join s j w t h =
-    let g : s ≤ length t = omega arith in
-    rw (slice_take s j t g, slice_take (s + j) w t h, slice_take s (j + w) t g, take-add j w (drop s t), drop-drop j s t)
-
--- ---- a loop's turn
-
--- w bytes more, from a place no later than what is copied
-pub part_over : {l t m k : List ℕ} {n s i : ℕ} (j w : ℕ) → j ≤ i → i ≤ j + w → s + j + w ≤ length t → Copied l n t s m i → Writes m (n + j) (slice (s + j) (s + j + w) t) k (n + j + w) → Copied l n t s k (j + w)
-part_over {l} {t} {m} {k} {n} {s} {i} j w a b h p x =
-    let f : n + j + w ≡ n + (j + w) = omega arith in
-    let g = length-slice s (s + i) t (omega arith) in
-    let d = length-slice (s + j) (s + j + w) t h in
-    record {
-      size = x.size ∙ p.size;
-      wrote = rw (← f) (same_bytes_lem (rw (take_slice s j i t (omega arith) a) (slice_join s j w t (omega arith))) (overwrite j (omega arith) (omega arith) refl p.wrote x));
-    }
-
--- what is copied in turns of w bytes is the least of i and size, and the last turn may go over an earlier one
-pub turn-none : {l t : List ℕ} {n s : ℕ} (size : ℕ) → Copied l n t s l (size - (size - 0))
-turn-none size = let e : size - (size - 0) ≡ 0 = omega arith in rw e part_none
-
-turn : {l t m k : List ℕ} {n s : ℕ} (w i j p : ℕ) → j ≤ i → i ≤ j + w → s + j + w ≤ length t → p ≡ j + w → Copied l n t s m i → Writes m (n + j) (slice (s + j) (s + j + w) t) k (n + j + w) → Copied l n t s k p
-turn w i j p a b h e q x = rw e (part_over j w a b h q x)
-
-pub turn_more : {l t m k : List ℕ} {n s : ℕ} (w size i j : ℕ) → w ≤ size → s + size ≤ length t → i < size → j ≡ min i (size - w)
-    → Copied l n t s m (size - (size - i)) → Writes m (n + j) (slice (s + j) (s + j + w) t) k (n + j + w)
-    → Copied l n t s k (size - (size - (i + w)))
-turn_more w size i j a h g b p x =
-    split (leb i (size - w))
-    (λ q.
-    let f = leb-true i (size - w) q in
-    let e : j ≡ i = b ∙ min-eq_left f in
-    turn w (size - (size - i)) j (size - (size - (i + w))) (omega arith) (omega arith) (omega arith) (omega arith) p x)
-    (λ q.
-    let f = leb-false i (size - w) q in
-    let e : j ≡ size - w = b ∙ min-eq_right (omega arith) in
-    turn w (size - (size - i)) j (size - (size - (i + w))) (omega arith) (omega arith) (omega arith) (omega arith) p x)
-
--- the first w bytes and the last w, which may go over them
-pub ends : {l m k : List ℕ} {n : ℕ} (t : List ℕ) (s w size : ℕ) → w ≤ size → size ≤ w + w → s + size ≤ length t → Writes l n (slice s (s + w) t) m (n + w) → Writes m (n + (size - w)) (slice (s + (size - w)) (s + (size - w) + w) t) k (n + (size - w) + w) → Writes l n (slice s (s + size) t) k (n + size)
-ends t s w size a b h x y = part_done (s + size) size (part_over (size - w) w (omega arith) (omega arith) (omega arith) (record { size = x.size; wrote = x }) y) (omega arith) (omega arith)
-
--- ---- one byte
-
-pub part_one : {l t : List ℕ} {n s : ℕ} → s < length t → n < length l → Copied l n t s (set l n (get_or t s 0)) 1
-part_one {l} {t} {n} {s} g h = record { size = length-set l n (get_or t s 0); wrote = same_bytes_lem (sym (slice_one s (s + 1) t (omega arith) (omega arith))) (one h) }
-
 -- ---- a lexeme over a space
 
-module _ (l t : List ℕ) (n j s e : ℕ) (lexeme : (s < e) × (e ≤ length t)) (space : j ≤ 1) (room : n + (j + (e - s)) ≤ length l) where
+one_byte : (xs : List ℕ) → length xs ≡ 1 → xs ≡ get_or xs 0 0 ∷ []
+one_byte [] e = absurd (omega arith)
+one_byte (x ∷ []) e = refl
+one_byte (x ∷ y ∷ xs) e = absurd (omega arith)
+
+module _ (l xs : List ℕ) (n j : ℕ) (some : 0 < length xs) (space : j ≤ 1) (room : n + (j + length xs) ≤ length l) where
+  abbrev begun : List ℕ
+  begun = set (set l n 32) (n + j) (get_or xs 0 0)
+
+  begun-size : length begun ≡ length l
+  begun-size = length-set (set l n 32) (n + j) (get_or xs 0 0) ∙ length-set l n 32
+
   -- the lexeme's first byte is written by itself, and is the whole of it
-  pub put_one : e - s ≤ 1 → Writes l n (replicate j 32 ++ slice s e t) (set (set l n 32) (n + j) (get_or t s 0)) (n + j + (e - s))
+  pub put_one : length xs ≤ 1 → Writes l n (replicate j 32 ++ xs) begun (n + j + length xs)
   put_one h =
-      let d : e - s ≡ 1 = omega arith in
+      let d : length xs ≡ 1 = omega arith in
       let f = length-set l n 32 in
-      over-space j space (omega arith) (omega (arith, length-slice s e t lexeme.1)) (rw (d, slice_one s e t d lexeme.1) (one (omega arith)))
+      over-space j space (omega arith) some (rw (d, one_byte xs d) (one (omega arith)))
 
   -- the whole lexeme is copied over its first byte
-  pub put-more : {k : List ℕ} → Writes (set (set l n 32) (n + j) (get_or t s 0)) (n + j) (slice s (s + (e - s)) t) k (n + j + (e - s)) → Writes l n (replicate j 32 ++ slice s e t) k (n + j + (e - s))
-  put-more w =
-      let d : s + (e - s) ≡ e = omega arith in
+  pub put_more : {ys : List ℕ} → ys ≡ xs → Writes l n (replicate j 32 ++ xs) (put_mid (n + j) (n + j + length xs - (n + j)) begun ys) (n + j + length xs)
+  put_more e =
       let f = length-set l n 32 in
-      let g = length-slice s e t lexeme.1 in
-      over-space j space (omega arith) (omega arith) (over-byte (set l n 32) (n + j) (get_or t s 0) (omega arith) (omega arith) (rw d at w))
+      let g = begun-size in
+      over-space j space (omega arith) (omega arith)
+      (over-byte (set l n 32) (n + j) (get_or xs 0 0) (omega arith) (omega arith) (fills (omega arith) (omega arith) (omega arith) e))

@@ -5,11 +5,10 @@ use mathlib.Core.Path.{◌≡◌, refl, sym, ◌∙◌}
 use Prim.Native.Nat.{ℕ, ◌+◌, ◌-◌, ◌≤◌, ◌<◌}
 use native.Mathlib.Omega.{arith}
 use native.Mathlib.Numerals.{add-one}
-use native.Mathlib.Nat.{add-zero}
 use borrow.Author.Tests.{leb-true, leb-false}
 use lib.Dec.{leb}
-use lib.ListN.{length, take, drop, length-drop, set, get_or, replicate, length-append, length-take, length-set, length-replicate, take-append-drop}
-use lib.Seq.{length-take-le, take_all, sets, sets-eq, slice, drop-drop, take-suc-set, drop-set-lt, take-suc, drop-append-le, slice_empty}
+use lib.ListN.{length, take, drop, length-drop, set, replicate, length-append, length-set, length-replicate, take-append-drop}
+use lib.Seq.{length-take-le, sets, sets-eq, drop-drop, take-suc-set, drop-set-lt}
 use borrow.Rule.Slice.PartMut.{put_mid}
 use Rattle.std.proofs.lemmas.Slice.{take-put_mid, drop-put_mid}
 use Rattle.shared.proofs.Logic.{split}
@@ -26,9 +25,6 @@ nothing {l} {n} = record {
   fits = λ h. record { far = omega arith; text = sym (append-nil (take n l)); rest = refl };
   over = λ h. omega arith;
 }
-
-pub nothing-more : {l : List ℕ} {n : ℕ} → Writes l n [] l (n + 0)
-nothing-more {l} {n} = rw (add-zero n) nothing
 
 pub and_then : {l m k : List ℕ} {n p q : ℕ} {xs ys : List ℕ} → Writes l n xs m p → Writes m p ys k q → Writes l n (xs ++ ys) k q
 and_then {l} {m} {k} {n} {p} {q} {xs} {ys} x y = record {
@@ -91,16 +87,14 @@ fills {l} {xs} {ys} {n} {e} a b c d =
       over = λ g. omega arith;
     })
 
--- a part of the output, of which all i bytes are spaces
-pub fills_spaces : {l : List ℕ} {n : ℕ} (ys : List ℕ) (k i : ℕ) → n + k ≤ length l → length ys ≡ length (take (n + k - n) (drop n l)) → i ≡ length ys → take i ys ≡ replicate i 32 → Writes l n (replicate k 32) (put_mid n (n + k - n) l ys) (n + k)
-fills_spaces {l} {n} ys k i h e f t =
+-- the same byte in each place of a part
+pub each :
+    {l ys : List ℕ} {n : ℕ} (k b : ℕ) → n + k ≤ length l → ys ≡ replicate (length (take (n + k - n) (drop n l))) b
+    → Writes l n (replicate k b) (put_mid n (n + k - n) l ys) (n + k)
+each {l} {ys} {n} k b h e =
     let w : n + k - n ≡ k = omega arith in
-    let g : i ≡ k = f ∙ e ∙ rw w (length-take-le k (drop n l) (omega (arith, length-drop n l))) in
-    fills (omega arith) h (rw w (length-replicate k 32)) (sym (take_all i ys (omega arith)) ∙ rw (← g) t)
-
--- where they do not fit, the length is past the end
-pub past : {l xs : List ℕ} {n : ℕ} → length l < n + length xs → Writes l n xs l (length l + 1)
-past h = record { size = refl; fits = λ g. absurd (omega arith); over = λ g. omega arith }
+    let z : length (take k (drop n l)) ≡ k = length-take-le k (drop n l) (omega (arith, length-drop n l)) in
+    fills (omega arith) h (omega (arith, length-replicate {A = ℕ} k b)) (e ∙ rw (w, z))
 
 -- ---- bytes that have been written
 
@@ -121,34 +115,3 @@ module _ {l : List ℕ} {n : ℕ} {xs m : List ℕ} {r : ℕ} (w : Writes l n xs
   past_over h =
       split (leb (n + length xs) (length l)) (λ e. let o = (w.fits (leb-true _ _ e)).far in let i : n + length xs ≤ length l = leb-true _ _ e in absurd (omega arith))
       (λ e. leb-false _ _ e)
-
--- ---- a loop's turn: one byte more
-
-pub slice_more : (s e : ℕ) (l : List ℕ) → s ≤ e → e < length l → slice s (e + 1) l ≡ slice s e l ++ (get_or l e 0 ∷ [])
-slice_more s e l g h =
-    let f : s ≤ length (take e l) = omega (arith, length-take e l) in
-    rw (add-one e, take-suc l e 0 h) (drop-append-le s (take e l) (get_or l e 0 ∷ []) f)
-
-pub slice_one : (s e : ℕ) (l : List ℕ) → e - s ≡ 1 → e ≤ length l → slice s e l ≡ get_or l s 0 ∷ []
-slice_one s e l g h =
-    let f : e ≡ s + 1 = omega arith in
-    rw (f, slice_more s s l (omega arith) (omega arith), slice_empty s l)
-
-pub record Copied (l : List ℕ) (n : ℕ) (t : List ℕ) (s : ℕ) (m : List ℕ) (i : ℕ) : Type 0 where
-  pub size : length m ≡ length l
-  pub wrote : Writes l n (slice s (s + i) t) m (n + i)
-
-pub part_none : {l : List ℕ} {n : ℕ} {t : List ℕ} {s : ℕ} → Copied l n t s l 0
-part_none {l} {n} {t} {s} = let e : s + 0 ≡ s = omega arith in let f : n + 0 ≡ n = omega arith in record { size = refl; wrote = rw (e, f) (same_bytes_lem (sym (slice_empty s t)) nothing) }
-
-pub part_more : {l : List ℕ} {n : ℕ} {t : List ℕ} {s : ℕ} {m : List ℕ} {i : ℕ} → Copied l n t s m i → s + i < length t → n + i < length m → Copied l n t s (set m (n + i) (get_or t (s + i) 0)) (i + 1)
-part_more {l} {n} {t} {s} {m} {i} p g h =
-    let e : s + (i + 1) ≡ s + i + 1 = omega arith in
-    let f : n + (i + 1) ≡ n + i + 1 = omega arith in
-    record {
-      size = length-set m (n + i) (get_or t (s + i) 0) ∙ p.size;
-      wrote = rw (e, f) (same_bytes_lem (sym (slice_more s (s + i) t (omega arith) g)) (and_then p.wrote (one h)));
-    }
-
-pub part_done : {l : List ℕ} {n : ℕ} {t : List ℕ} {s : ℕ} {m : List ℕ} {i : ℕ} (e k : ℕ) → Copied l n t s m i → s + i ≡ e → i ≡ k → Writes l n (slice s e t) m (n + k)
-part_done {l} {n} {t} {s} {m} {i} e k p a b = rw (← a, ← b) p.wrote

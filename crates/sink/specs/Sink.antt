@@ -23,9 +23,6 @@ past_gap = 68719476736
 abbrev pub spaces : ℕ → List ℕ
 spaces n = replicate n (byte " ")
 
--- how many commas and line feeds are put
+-- how many commas are put
 abbrev pub count_comma : Bool → ℕ
 count_comma wanted = cond wanted 1 0
-
-abbrev pub count_feed : Bool → ℕ
-count_feed at_line_start = cond at_line_start 0 1

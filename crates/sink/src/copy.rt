@@ -1,5 +1,5 @@
-// Copies a part of a text into the lent output, where it is known to fit.
-ghost use Rattle.std.specs.Prelude.{◌+◌, ◌≤◌, length};
+// Copies a part of a text into a place of the lent output that has its length.
+ghost use Rattle.std.specs.Prelude.{◌≡◌, ◌+◌, ◌≤◌, length};
 ghost use Rattle.std.proofs.Math.Seq.{slice};
 ghost use Rattle.sink.specs.Sink.{Writes};
 
@@ -8,78 +8,62 @@ const FOUR: usize = 4;
 
 const EIGHT: usize = 8;
 
-// Copies `size` bytes of `text`, two or more, from `from` on to `out` from `to` on, without a loop where they
-// are few.
-pub fn copy(out: &mut [u8], to: usize, text: &[u8], from: usize, size: usize)
-    requires le_size { 2 ≤ size }
-    requires size_in_bounds { from + size ≤ length text.now }
-    requires size_in_bounds_2 { to + size ≤ length out.old }
-    ensures { Writes out.old to (slice from (from + size) text.now)
-        out.new (to + size) }
+// Copies two bytes or more, without a loop where they are few.
+pub fn copy(place: &mut [u8], part: &[u8])
+    requires { (2 ≤ length part.now) × (length place.old ≡ length part.now) }
+    ensures { place.new ≡ part.now }
 {
-    if size < FOUR {
-        copy_ends::<2>(out, to, text, from, size);
-        return;
+    if part.len() < FOUR {
+        copy_ends::<2>(place, part);
+    } else if part.len() < EIGHT {
+        copy_ends::<FOUR>(place, part);
+    } else {
+        copy_eights(place, part);
     }
-    if size < EIGHT {
-        copy_ends::<FOUR>(out, to, text, from, size);
-        return;
-    }
-    copy_eights(out, to, text, from, size);
 }
 
 // Copies byte by byte, for the bytes of comments.
-pub fn copy_bytes(out: &mut [u8], to: usize, text: &[u8], from: usize, size: usize)
-    requires size_in_bounds { from + size ≤ length text.now }
-    requires size_in_bounds_2 { to + size ≤ length out.old }
-    ensures { Writes out.old to (slice from (from + size) text.now)
-        out.new (to + size) }
+pub fn copy_bytes(place: &mut [u8], part: &[u8])
+    requires { length place.old ≡ length part.now }
+    ensures { place.new ≡ part.now }
 {
-    for (i, &byte) in text[from..from + size].iter().enumerate() {
-        out[to + i] = byte;
+    for (i, &byte) in part.iter().enumerate() {
+        place[i] = byte;
     }
 }
 
 // Copies the first N bytes, and the last N, which may go over them.
-fn copy_ends<const N: usize>(out: &mut [u8], to: usize, text: &[u8], from: usize, size: usize)
-    requires le_size { (N ≤ size) × (size ≤ N + N) }
-    requires size_in_bounds { from + size ≤ length text.now }
-    requires size_in_bounds_2 { to + size ≤ length out.old }
-    ensures { Writes out.old to (slice from (from + size) text.now)
-        out.new (to + size) }
+fn copy_ends<const N: usize>(place: &mut [u8], part: &[u8])
+    requires size { (N ≤ length part.now) × (length part.now ≤ N + N) }
+    requires same_size { length place.old ≡ length part.now }
+    ensures { place.new ≡ part.now }
 {
-    let last = size - N;
-    copy_block::<N>(out, to, text, from);
-    copy_block::<N>(out, to + last, text, from + last);
+    copy_block::<N>(place, part, 0);
+    copy_block::<N>(place, part, part.len() - N);
 }
 
 // Copies eight bytes at a time. The last eight may go over bytes that are copied already. The index is
 // counted by hand: by `step_by`, functions and comments are laid out in 17 and 22 % more instructions, and
 // take longer than docs/BENCHMARKS.md asks.
-fn copy_eights(out: &mut [u8], to: usize, text: &[u8], from: usize, size: usize)
-    requires le_size { 8 ≤ size }
-    requires size_in_bounds { from + size ≤ length text.now }
-    requires size_in_bounds_2 { to + size ≤ length out.old }
-    ensures { Writes out.old to (slice from (from + size) text.now)
-        out.new (to + size) }
+fn copy_eights(place: &mut [u8], part: &[u8])
+    requires { (8 ≤ length part.now) × (length place.old ≡ length part.now) }
+    ensures { place.new ≡ part.now }
 {
-    let last = size - EIGHT;
+    let last = part.len() - EIGHT;
     let mut i = 0;
-    while i < size {
-        let at = i.min(last);
-        copy_block::<EIGHT>(out, to + at, text, from + at);
+    while i < part.len() {
+        copy_block::<EIGHT>(place, part, i.min(last));
         i += EIGHT;
     }
 }
 
-// Copies N bytes. All are loaded before one is stored: the compiler makes one load and one store of it.
-fn copy_block<const N: usize>(out: &mut [u8], to: usize, text: &[u8], from: usize)
-    requires from_in_bounds { from + N ≤ length text.now }
-    requires to_in_bounds { to + N ≤ length out.old }
-    ensures { Writes out.old to (slice from (from + N) text.now)
-        out.new (to + N) }
+// Copies the N bytes from `at` on. All are loaded before one is stored: the compiler makes one load and one
+// store of it.
+fn copy_block<const N: usize>(place: &mut [u8], part: &[u8], at: usize)
+    requires { (at + N ≤ length part.now) × (length place.old ≡ length part.now) }
+    ensures { Writes place.old at (slice at (at + N) part.now) place.new (at + N) }
 {
     let mut block = [0u8; N];
-    block.copy_from_slice(&text[from..from + N]);
-    out[to..to + N].copy_from_slice(&block);
+    block.copy_from_slice(&part[at..at + N]);
+    place[at..at + N].copy_from_slice(&block);
 }

@@ -1,103 +1,67 @@
-// Puts bytes into the lent output where they are known to fit.
-ghost use Rattle.std.specs.Prelude.{cond, [], ◌∷◌, ◌++◌, ◌+◌, ◌-◌, ◌≤◌, ◌<◌, length};
-ghost use Rattle.std.specs.Int.{from_bool};
-ghost use Rattle.std.proofs.Math.Seq.{slice};
-ghost use Rattle.shared.specs.Bytes.{else_word};
+// Puts bytes into a place of the lent output that has their length.
+ghost use Rattle.std.specs.Prelude.{◌≡◌, ◌++◌, ◌+◌, ◌≤◌, ◌<◌, length, replicate};
 ghost use Rattle.sink.specs.Sink.{Writes, spaces};
 ghost use Rattle.sink.specs.Tail.{tail_bytes};
 
 use crate::copy::copy;
 use crate::write::Tail;
 
-// Puts the byte `b`, if it is wanted.
-pub fn put_if(out: &mut [u8], at: usize, b: u8, wanted: bool)
-    requires { at + from_bool wanted ≤ length out.old }
-    ensures { Writes out.old at (cond wanted (b ∷ []) []) out.new
-        (at + from_bool wanted) }
+// Puts the byte `b` in each place: mostly in none, in one, or in an indent's.
+pub fn put_each(place: &mut [u8], b: u8)
+    ensures { place.new ≡ replicate (length place.old) b }
 {
-    if wanted {
-        out[at] = b;
-    }
-}
-
-// Puts the word `else`.
-pub fn put_else(out: &mut [u8], at: usize)
-    requires { at + 4 ≤ length out.old }
-    ensures { Writes out.old at else_word out.new (at + 4) }
-{
-    out[at..at + 4].copy_from_slice(b"else");
-}
-
-// Puts `size` spaces: mostly none, one, or an indent.
-pub fn put_gap(out: &mut [u8], at: usize, size: usize)
-    requires { at + size ≤ length out.old }
-    ensures { Writes out.old at (spaces size) out.new (at + size) }
-{
-    match size {
+    match place.len() {
         0 => {}
-        1 => out[at] = b' ',
+        1 => place[0] = b,
         _ => {
-            for place in out[at..at + size].iter_mut() {
-                *place = b' ';
+            for byte in place.iter_mut() {
+                *byte = b;
             }
         }
     }
 }
 
-// Puts `size` bytes of `text` from `from` on. One byte needs no loop.
-pub fn put_part(out: &mut [u8], to: usize, text: &[u8], from: usize, size: usize)
-    requires size_in_bounds { from + size ≤ length text.now }
-    requires size_in_bounds_2 { to + size ≤ length out.old }
-    ensures { Writes out.old to (slice from (from + size) text.now)
-        out.new (to + size) }
+// Puts the bytes of `part`. One byte needs no loop.
+pub fn put_part(place: &mut [u8], part: &[u8])
+    requires { length place.old ≡ length part.now }
+    ensures { place.new ≡ part.now }
 {
-    if size == 1 {
-        out[to] = text[from];
-        return;
-    }
-    if 1 < size {
-        copy(out, to, text, from, size);
+    match part.len() {
+        0 => {}
+        1 => place[0] = part[0],
+        _ => copy(place, part),
     }
 }
 
 // Puts what stands after a lexeme.
-pub fn put_tail(out: &mut [u8], at: usize, tail: Tail)
-    requires { at + length (tail_bytes tail) ≤ length out.old }
-    ensures { Writes out.old at (tail_bytes tail) out.new
-        (at + length (tail_bytes tail)) }
+pub fn put_tail(place: &mut [u8], tail: Tail)
+    requires { length place.old ≡ length (tail_bytes tail) }
+    ensures { place.new ≡ tail_bytes tail }
 {
     match tail {
         Tail::Nothing => {}
-        Tail::Feed => out[at] = b'\n',
-        Tail::Braces => out[at..at + 2].copy_from_slice(b"{}"),
+        Tail::Feed => place[0] = b'\n',
+        Tail::Braces => place.copy_from_slice(b"{}"),
     }
 }
 
-// Puts a space or none, and the bytes of `text` from `start` to `end`, of which there is one at least.
-// Answers the length after them.
-pub fn put_token(
-    out: &mut [u8],
-    len: usize,
-    space: usize,
-    text: &[u8],
-    start: usize,
-    end: usize,
-) -> usize
-    requires start_lt_end { (start < end) × (end ≤ length text.now) }
+// Puts a space or none after the first `len` bytes of an output, and the lexeme, which has one byte at least.
+// Answers the length after them. It is a function of the output and the length: as a method of the sink, it
+// would load both again after each byte that it stores.
+pub fn put_token(out: &mut [u8], len: usize, space: usize, lexeme: &[u8]) -> usize
+    requires some { 0 < length lexeme.now }
     requires space_bound { space ≤ 1 }
-    requires start_in_bounds { len + (space + (end - start)) ≤ length out.old }
-    ensures { Writes out.old len
-        (spaces space ++ slice start end text.now) out.new result }
+    requires fits { len + (space + length lexeme.now) ≤ length out.old }
+    ensures { Writes out.old len (spaces space ++ lexeme.now) out.new result }
 {
     // Where no space is wanted, the lexeme goes over it.
     out[len] = b' ';
     let at = len + space;
-    let size = end - start;
-    let next = at + size;
+    let next = at + lexeme.len();
     // A token of one byte needs no loop.
-    out[at] = text[start];
-    if 1 < size {
-        copy(out, at, text, start, size);
+    out[at] = lexeme[0];
+    if 1 < lexeme.len() {
+        copy(&mut out[at..next], lexeme);
     }
     next
 }

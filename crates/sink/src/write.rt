@@ -1,14 +1,13 @@
 // The sink: a lent output and the length of the text in it so far. Each writer has one room test for all that
 // it writes. Where that does not fit, nothing is written, and the length is one past the output's end.
 ghost use Rattle.std.specs.Prelude.{cond, [], ◌∷◌, ◌++◌, ◌≡◌, ◌+◌, ◌-◌, ◌≤◌, ◌<◌, ltb, length, MatchBool};
-ghost use Rattle.std.proofs.Math.Seq.{slice};
 ghost use Rattle.shared.specs.Bytes.{comma, else_word, left_brace, left_paren, line_feed};
-ghost use Rattle.sink.specs.Sink.{Writes, spaces, count_comma};
+ghost use Rattle.sink.specs.Sink.{Writes, spaces, count_comma, past_gap};
 ghost use Rattle.sink.specs.Appends.{Appends, Room};
 ghost use Rattle.sink.specs.Tail.{tail_bytes};
 
 use crate::copy::copy_bytes;
-use crate::put::{put_else, put_gap, put_if, put_part, put_tail, put_token};
+use crate::put::{put_each, put_part, put_tail, put_token};
 
 // What stands after a lexeme.
 #[derive(Clone, Copy)]
@@ -44,36 +43,33 @@ impl<'a> Sink<'a> {
         self.out.len() - self.len
     }
 
-    // Puts a space or none, and the bytes of `text` from `start` to `end`, of which there is one at least,
-    // where they are known to fit.
-    pub fn put_token(&mut self, space: usize, text: &[u8], start: usize, end: usize)
-        requires start_lt_end { (start < end) × (end ≤ length text.now) }
+    // Puts a space or none, and the lexeme, which has one byte at least, where they are known to fit.
+    pub fn put_token(&mut self, space: usize, lexeme: &[u8])
+        requires some { 0 < length lexeme.now }
         requires space_bound { space ≤ 1 }
-        requires start_in_bounds { self.old.len + (space + (end - start)) ≤ length self.old.out.now }
-        ensures { Appends self.old (spaces space ++ slice start end text.now) self.new }
+        requires fits { self.old.len + (space + length lexeme.now) ≤ length self.old.out.now }
+        ensures { Appends self.old (spaces space ++ lexeme.now) self.new }
     {
-        self.len = put_token(self.out, self.len, space, text, start, end);
+        self.len = put_token(self.out, self.len, space, lexeme);
     }
 
-    // Writes a gap, the bytes of `text` from `start` to `end`, and a tail.
-    pub fn write_token(&mut self, gap: usize, text: &[u8], start: u32, end: u32, tail: Tail)
+    // Writes a gap, a lexeme and a tail.
+    pub fn write_token(&mut self, gap: usize, lexeme: &[u8], tail: Tail)
         requires room { Room self.old gap }
-        requires start_le_end { (start ≤ end) × (end ≤ length text.now) }
-        ensures { Appends self.old
-            (spaces gap ++ (slice start end text.now ++ tail_bytes tail)) self.new }
+        requires small { length lexeme.now < past_gap }
+        ensures { Appends self.old (spaces gap ++ (lexeme.now ++ tail_bytes tail)) self.new }
     {
-        let from = start as usize;
-        let size = end as usize - from;
-        let at = self.len + gap;
-        let ended = at + size;
+        let len = self.len;
+        let at = len + gap;
+        let ended = at + lexeme.len();
         let next = ended + tail_size(tail);
         if self.out.len() < next {
             self.len = self.out.len() + 1;
             return;
         }
-        put_gap(self.out, self.len, gap);
-        put_part(self.out, at, text, from, size);
-        put_tail(self.out, ended, tail);
+        put_each(&mut self.out[len..at], b' ');
+        put_part(&mut self.out[at..ended], lexeme);
+        put_tail(&mut self.out[ended..next], tail);
         self.len = next;
     }
 
@@ -82,12 +78,13 @@ impl<'a> Sink<'a> {
         requires { Room self.old gap }
         ensures { Appends self.old (spaces gap ++ (brace ∷ [])) self.new }
     {
-        let at = self.len + gap;
+        let len = self.len;
+        let at = len + gap;
         if self.out.len() <= at {
             self.len = self.out.len() + 1;
             return;
         }
-        put_gap(self.out, self.len, gap);
+        put_each(&mut self.out[len..at], b' ');
         self.out[at] = brace;
         self.len = at + 1;
     }
@@ -99,16 +96,17 @@ impl<'a> Sink<'a> {
             (cond wanted comma [] ++ ((cond at_line_start [] line_feed ++ spaces indent) ++ (closer ∷ [])))
             self.new }
     {
-        let listed = self.len + usize::from(wanted);
+        let len = self.len;
+        let listed = len + usize::from(wanted);
         let fed = listed + usize::from(!at_line_start);
         let at = fed + indent;
         if self.out.len() <= at {
             self.len = self.out.len() + 1;
             return;
         }
-        put_if(self.out, self.len, b',', wanted);
-        put_if(self.out, listed, b'\n', !at_line_start);
-        put_gap(self.out, fed, indent);
+        put_each(&mut self.out[len..listed], b',');
+        put_each(&mut self.out[listed..fed], b'\n');
+        put_each(&mut self.out[fed..at], b' ');
         self.out[at] = closer;
         self.len = at + 1;
     }
@@ -120,15 +118,16 @@ impl<'a> Sink<'a> {
             ((cond at_line_start [] line_feed ++ spaces indent) ++ (left_brace ++ line_feed))
             self.new }
     {
-        let fed = self.len + usize::from(!at_line_start);
+        let len = self.len;
+        let fed = len + usize::from(!at_line_start);
         let at = fed + indent;
         let next = at + 2;
         if self.out.len() < next {
             self.len = self.out.len() + 1;
             return;
         }
-        put_if(self.out, self.len, b'\n', !at_line_start);
-        put_gap(self.out, fed, indent);
+        put_each(&mut self.out[len..fed], b'\n');
+        put_each(&mut self.out[fed..at], b' ');
         self.out[at..next].copy_from_slice(b"{\n");
         self.len = next;
     }
@@ -146,7 +145,7 @@ impl<'a> Sink<'a> {
             return;
         }
         self.out[at..fed].copy_from_slice(b"(\n");
-        put_gap(self.out, fed, indent);
+        put_each(&mut self.out[fed..next], b' ');
         self.len = next;
     }
 
@@ -170,16 +169,17 @@ impl<'a> Sink<'a> {
         requires { Room self.old indent }
         ensures { Appends self.old ((line_feed ++ spaces indent) ++ else_word) self.new }
     {
-        let fed = self.len + 1;
+        let len = self.len;
+        let fed = len + 1;
         let at = fed + indent;
         let next = at + 4;
         if self.out.len() < next {
             self.len = self.out.len() + 1;
             return;
         }
-        self.out[self.len] = b'\n';
-        put_gap(self.out, fed, indent);
-        put_else(self.out, at);
+        self.out[len] = b'\n';
+        put_each(&mut self.out[fed..at], b' ');
+        self.out[at..next].copy_from_slice(b"else");
         self.len = next;
     }
 
@@ -200,22 +200,22 @@ impl<'a> Sink<'a> {
             self.len = self.out.len() + 1;
             return;
         }
-        put_gap(self.out, self.len, n);
+        let len = self.len;
+        put_each(&mut self.out[len..len + n], b' ');
         self.len += n;
     }
 
-    // Writes the bytes of `text` from `start` to `end`.
-    pub fn write_part(&mut self, text: &[u8], start: usize, end: usize)
-        requires { (start ≤ end) × (end ≤ length text.now) }
-        ensures { Appends self.old (slice start end text.now) self.new }
+    // Writes the bytes of `part`.
+    pub fn write_part(&mut self, part: &[u8])
+        ensures { Appends self.old part.now self.new }
     {
-        let n = end - start;
-        if !self.has_room(n) {
+        let len = self.len;
+        if !self.has_room(part.len()) {
             self.len = self.out.len() + 1;
             return;
         }
-        copy_bytes(self.out, self.len, text, start, n);
-        self.len += n;
+        copy_bytes(&mut self.out[len..len + part.len()], part);
+        self.len += part.len();
     }
 
     // Answers whether `n` bytes fit after the text, of which there may be more than fit already.

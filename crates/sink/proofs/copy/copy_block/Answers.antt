@@ -9,7 +9,7 @@ use Rattle.sink.proofs.copy.copy_block.Goals as goal
 
 pub returns : goal.returns
 returns g c =
-    let t = c.args.text.now in
-    let s = c.args.from in
+    let t = c.args.part.now in
+    let s = c.args.at in
     let e = s + g.row.N in
     fills (omega arith) (omega arith) (omega (arith, length-slice s e t (omega arith))) (c.copy_from_slice-2.ensures.after ∙ c.copy_from_slice.ensures.after ∙ between_is t s e)
