@@ -17,8 +17,7 @@ use Rattle.definition.specs.PushToken.{arm, take_inline_close, turn}
 use Rattle.rows.specs.declared.kind.Kind.{Kind}
 use Rattle.rows.specs.declared.kind.Kind.TheVariants as kinds
 use Rattle.rows.specs.KindNumber.{kind_number}
-use Rattle.formatter.specs.declared.fast_braces.FastBraces.{FastBraces}
-use Rattle.formatter.specs.FastBraces.{BeforeFastBraces, after_fast_braces, opener_bytes, closer_bytes, after_opener, after_closer}
+use Rattle.formatter.specs.FastBraces.{FastBraces, BeforeFastBraces, after_fast_braces, opener_bytes, closer_bytes, after_opener, after_closer}
 use Rattle.formatter.proofs.Turn.{by_arm_lem, with_same, fn_kept}
 
 -- At the place b, a token of the kind k writes xs and goes to the place r.

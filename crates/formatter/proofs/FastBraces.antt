@@ -1,13 +1,13 @@
 -- The loop over fast braces: what holds at each turn, and what a turn does with it. Assumes nothing.
-use mathlib.Core.Bool.{Bool, true, false}
-use mathlib.Core.List.{List}
+use mathlib.Core.Bool.{Bool, true, false, not}
+use mathlib.Core.List.{List, [], ◌∷◌, ◌++◌}
 use mathlib.Core.Option.{none, some}
 use mathlib.Core.Path.{◌≡◌, refl, sym, ap, ◌∙◌}
 use Prim.Native.Nat.{ℕ, ◌+◌, ◌-◌, ◌/◌, ◌≤◌, ◌<◌}
 use native.Mathlib.Omega.{arith}
 use borrow.Author.Tests.{lt-ltb}
 use lib.Dec.{eqb, ltb}
-use lib.ListN.{length, take, drop}
+use lib.ListN.{length, take, drop, replicate}
 use lib.Seq.{length-take-le}
 use Rattle.shared.proofs.Logic.{split}
 use Rattle.rows.specs.Kinds.{LeftBrace, RightBrace, Other}
@@ -19,14 +19,15 @@ use Rattle.definition.specs.Act.{state}
 use Rattle.definition.specs.Layout.{finished, lay_from}
 use Rattle.sink.specs.Sink.{Writes}
 use Rattle.sink.proofs.Sink.{later}
+use Rattle.std.specs.Int.{from_bool}
+use Rattle.rows.specs.declared.kind.Kind.{Kind}
 use Rattle.rows.specs.declared.kind.Kind.TheVariants as kinds
 use Rattle.rows.specs.KindNumber.{kind_number}
 use Rattle.std.specs.Prelude.{unwrap_or, min}
 use Rattle.sink.specs.declared.write.Sink.{Sink}
-use Rattle.formatter.specs.declared.fast_braces.FastBraces.{FastBraces}
 use Rattle.formatter.specs.CodeState.{Locals, CodeState, prev_of, formatter_of}
 use Rattle.formatter.specs.Format.{only_tokens}
-use Rattle.formatter.specs.FastBraces.{MayStartFastBraces, BeforeFastBraces, after_fast_braces, fast_braces_at, FastBracesLaidOut, opener_bytes, closer_bytes, after_opener, after_closer}
+use Rattle.formatter.specs.FastBraces.{FastBraces, MayStartFastBraces, BeforeFastBraces, after_fast_braces, fast_braces_at, FastBracesLaidOut, opener_bytes, closer_bytes, after_opener, after_closer}
 use Rattle.formatter.proofs.BareRow.{row_token, only_after, lay-turn}
 use Rattle.formatter.proofs.FastBraceTurn.{Turns, open_turns, close_turns}
 
@@ -145,3 +146,7 @@ before_fast_braces p ν at x q s d =
       no_skip = s;
       shallow = d;
     }
+
+-- The bytes of a `}` after the last kind.
+pub closer_is : (k : Kind) {n : ℕ} → n ≡ from_bool (not (eqb (kind_number k) LeftBrace)) → replicate n 32 ++ (125 ∷ []) ≡ closer_bytes k
+closer_is k e = split (eqb (kind_number k) LeftBrace) (λ h. rw (e, h)) (λ h. rw (e, h))

@@ -15,7 +15,6 @@ use Rattle.definition.specs.Formatter.{Formatter, set_prev, set_inline_depth, se
 use Rattle.definition.specs.Act.{state}
 use Rattle.definition.specs.Layout.{finished, lay_from}
 use Rattle.formatter.specs.declared.Formatter as code
-use Rattle.formatter.specs.declared.fast_braces.FastBraces.{FastBraces}
 use Rattle.formatter.specs.CodeState.{CodeState, fn_number}
 use Rattle.formatter.specs.FastTokens.{ChangedBy}
 
@@ -28,6 +27,15 @@ pub record MayStartFastBraces (f : code.Formatter) : Type 0 where
   pub no_record : f.record_pending ≡ false
   pub outside : f.in_record ≡ false
   pub no_fn : fn_number f.fn_state ≡ 0
+
+-- A place among fast braces: the index of the next row, the length of the text, the last kind, and the state's `inline_depth`
+-- and `just_closed_inline`.
+pub record FastBraces : Type 0 where
+  pub at : ℕ
+  pub len : ℕ
+  pub prev : Kind
+  pub depth : ℕ
+  pub closed : Bool
 
 -- The place at the row at `at`, in the code's state p.
 abbrev pub fast_braces_at : CodeState → ℕ → FastBraces

@@ -4,8 +4,12 @@ use lib.ListN.{length}
 use Rattle.formatter.proofs.FastBraces.{FastBracesLoop}
 use Rattle.formatter.proofs.Formatter.push_fast_braces.Given as goal
 
-abbrev pub invariant-loop-b : goal.invariant-loop-b
-invariant-loop-b l = FastBracesLoop l.rows l.initial.b l.b l.initial.sink l.sink
+abbrev pub invariant-loop-at : goal.invariant-loop-at
+invariant-loop-at l =
+    FastBracesLoop l.rows
+    (record { at = l.initial.at; len = l.initial.sink.len; prev = l.initial.prev; depth = l.initial.depth; closed = l.initial.closed })
+    (record { at = l.at; len = l.sink.len; prev = l.prev; depth = l.depth; closed = l.closed })
+    l.initial.sink l.sink
 
-abbrev pub decreases-loop-b : goal.decreases-loop-b
-decreases-loop-b l = length l.rows - l.b.at
+abbrev pub decreases-loop-at : goal.decreases-loop-at
+decreases-loop-at l = length l.rows - l.at
