@@ -1,14 +1,28 @@
--- Where a run of rows ends. Assumes nothing.
+-- The row at an index, and where a run of rows ends. Assumes nothing.
 use mathlib.Core.List.{List, [], ◌∷◌}
 use mathlib.Core.Path.{◌≡◌, refl}
 use Prim.Native.Nat.{ℕ, ◌+◌, ◌-◌, ◌*◌, ◌≤◌, ◌<◌}
 use native.Mathlib.Omega.{arith}
-use borrow.Author.Tests.{ne_eqb, eq-eqb}
+use borrow.Author.Tests.{ltb-true, ltb-false, ne_eqb, eq-eqb}
+use lib.Dec.{ltb}
 use lib.ListN.{length, take, drop, length-drop}
 use Rattle.std.proofs.lemmas.List.{take_rest}
+use Rattle.shared.proofs.Logic.{split}
 use Rattle.rows.specs.Row.{Row, row_at, rows_of}
 use Rattle.rows.proofs.RowList.{part_cons, part_none, rows_length}
 use Rattle.formatter.specs.Format.{run_rows}
+
+-- r is the row at an index, and rs are the rows after it.
+pub record RowAt (rows : List ℕ) (at : ℕ) (r : Row) (rs : List Row) : Type 0 where
+  pub within : at + 16 ≤ length rows
+  pub row : r ≡ row_at rows at
+  pub after : rs ≡ rows_of (drop (at + 16) rows)
+
+pub first_at : (rows : List ℕ) (at : ℕ) {r : Row} {rs : List Row} → rows_of (drop at rows) ≡ r ∷ rs → RowAt rows at r rs
+first_at rows at {r} {rs} e =
+    split (ltb (length rows) (at + 16))
+    (λ b. absurd (cc (part_none rows at (ltb-true (length rows) (at + 16) b))))
+    (λ b. let h = ltb-false (length rows) (at + 16) b in record { within = h; row = cc (part_cons rows at h); after = cc (part_cons rows at h) })
 
 -- There is no run where another row stands, or none.
 pub other_run : (what : ℕ) (rows : List ℕ) (at : ℕ) → at + 16 ≤ length rows → ((row_at rows at).what ≡ what → ⊥) → run_rows what (rows_of (drop at rows)) ≡ 0

@@ -10,7 +10,7 @@ ghost use Rattle.formatter.specs.FastBraces.{MayStartFastBraces, LaysFastBraces}
 ghost use Rattle.formatter.specs.FastBraces.{opener_bytes, closer_bytes, after_opener, after_closer};
 
 use crate::{FnState, Formatter, InlineDepth};
-use rows::{Kind, ROW_BYTES, row_at};
+use rows::{Kind, ROW_BYTES, Rows, row_at};
 use sink::write::Sink;
 
 // A place among fast braces: the index of the next row, the length of the text, the last token's kind, and
@@ -64,7 +64,6 @@ impl<'a> Formatter<'a> {
         requires rows_bound { self.old.inline_depth.0 + length self.old.source.rows.now < past64 }
         ensures { LaysFastBraces (code_state self.old sink.old) from result (code_state self.new sink.new) }
     {
-        let rows = self.source.rows;
         let mut b = FastBraces {
             at: from,
             len: sink.len,
@@ -72,11 +71,11 @@ impl<'a> Formatter<'a> {
             depth: self.inline_depth.0,
             closed: self.just_closed_inline,
         };
-        while ROW_BYTES <= rows.len() - b.at {
+        for row in Rows::of(&self.source.rows[from..]) {
             if !takes_brace(b.depth, sink.out.len() - b.len) {
                 break;
             }
-            match row_at(rows, b.at).token_kind() {
+            match row.token_kind() {
                 Kind::LeftBrace => b = open_fast_brace(sink.out, b),
                 Kind::RightBrace => b = close_fast_brace(sink.out, b),
                 _ => break,

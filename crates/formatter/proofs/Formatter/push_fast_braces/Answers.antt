@@ -1,29 +1,49 @@
 -- `formatter::Formatter::push_fast_braces` meets its contract. Assumes nothing.
-use mathlib.Core.Path.{refl, sym}
-use Rattle.formatter.proofs.FastBraces.{goes_open, goes_close}
+use mathlib.Core.Path.{refl, sym, ap, ◌∙◌}
+use borrow.Author.Rules.{rules}
+use native.Mathlib.Omega.{arith}
+use Rattle.std.proofs.lemmas.List.{take_rest}
+use Rattle.rows.specs.Row.{rows_of}
+use Rattle.rows.specs.RowsLeft.{rows_left}
+use Rattle.formatter.proofs.FastBraces.{next_at, goes_open, goes_close}
 use Rattle.formatter.proofs.Formatter.push_fast_braces.Goals as goal
 
-pub loop-b-preserved-in-LeftBrace : goal.loop-b-preserved-in-LeftBrace
-loop-b-preserved-in-LeftBrace c =
-    let fits = c.takes_brace.ensures c.if-not-takes_brace.false in
-    let i = c.loop-b.invariant in
+pub loop-row-init : goal.loop-row-init
+loop-row-init c =
     record {
-      so_far = goes_open i.so_far c.loop-b-test.true _ c.row_at.ensures (sym c.in-LeftBrace.ensures) fits.0 fits.1 c.open_fast_brace-b.ensures;
+      so_far = search rules;
+      left = ap rows_left c.into_iter-row-iterator.ensures.into_iter_gives ∙ c.of-row-items.ensures ∙ ap rows_of (take_rest c.args.self.now.source.rows.now c.args.from);
+      lent = refl;
+    }
+
+pub open_fast_brace-b-requires-clause-depth_bound : goal.open_fast_brace-b-requires-clause-depth_bound
+open_fast_brace-b-requires-clause-depth_bound c = let f = next_at c.loop-row.invariant c.in-Some.ensures.steps in omega arith
+
+pub loop-row-preserved-in-LeftBrace : goal.loop-row-preserved-in-LeftBrace
+loop-row-preserved-in-LeftBrace c =
+    let fits = c.takes_brace.ensures c.if-not-takes_brace.false in
+    let i = c.loop-row.invariant in
+    let f = next_at i c.in-Some.ensures.steps in
+    record {
+      so_far = goes_open i.so_far f.within _ f.row (sym c.in-LeftBrace.ensures) fits.0 fits.1 c.open_fast_brace-b.ensures;
+      left = rw c.open_fast_brace-b.ensures.1 f.after;
       lent = i.lent;
     }
 
-pub loop-b-preserved : goal.loop-b-preserved
-loop-b-preserved c =
+pub loop-row-preserved : goal.loop-row-preserved
+loop-row-preserved c =
     let fits = c.takes_brace.ensures c.if-not-takes_brace.false in
-    let i = c.loop-b.invariant in
+    let i = c.loop-row.invariant in
+    let f = next_at i c.in-Some.ensures.steps in
     record {
-      so_far = goes_close i.so_far c.loop-b-test.true _ c.row_at.ensures (sym c.in-RightBrace.ensures) fits.0 fits.1 c.close_fast_brace-b.ensures;
+      so_far = goes_close i.so_far f.within _ f.row (sym c.in-RightBrace.ensures) fits.0 fits.1 c.close_fast_brace-b.ensures;
+      left = rw c.close_fast_brace-b.ensures.1 f.after;
       lent = i.lent;
     }
 
 pub returns : goal.returns
 returns c =
-    let i = c.loop-b.invariant in
+    let i = c.loop-row.invariant in
     record {
       laid = rw c.unwrap_or.ensures at i.so_far.done;
       changed = record { form = λ x. refl; same = record { given = refl; lent = i.lent }; commas = refl };

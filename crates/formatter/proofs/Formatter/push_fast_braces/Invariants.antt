@@ -1,11 +1,6 @@
--- The invariant and the measure of the loop of `formatter::Formatter::push_fast_braces`. Assumes nothing.
-use Prim.Native.Nat.{◌-◌}
-use lib.ListN.{length}
+use Rattle.rows.specs.RowsLeft.{rows_left}
 use Rattle.formatter.proofs.FastBraces.{FastBracesLoop}
 use Rattle.formatter.proofs.Formatter.push_fast_braces.Given as goal
 
-abbrev pub invariant-loop-b : goal.invariant-loop-b
-invariant-loop-b l = FastBracesLoop l.rows l.initial.b l.b l.initial.sink l.sink
-
-abbrev pub decreases-loop-b : goal.decreases-loop-b
-decreases-loop-b l = length l.rows - l.b.at
+abbrev pub invariant-loop-row : goal.invariant-loop-row
+invariant-loop-row l = FastBracesLoop l.self.source.rows.now l.initial.b l.b l.initial.sink l.sink (rows_left l.row-iterator)
