@@ -1,6 +1,6 @@
 -- A row of trivia, and rows of trivia one by one. Assumes nothing.
 use mathlib.Core.Bool.{false}
-use mathlib.Core.List.{List, [], ◌∷◌, ◌++◌, map, append-nil}
+use mathlib.Core.List.{List, [], ◌∷◌, ◌++◌, map}
 use mathlib.Core.Path.{◌≡◌, refl, sym, ap, ◌∙◌}
 use Prim.Native.Nat.{ℕ, zero, suc, ◌+◌, ◌-◌, ◌*◌, ◌/◌, ◌≤◌, ◌<◌}
 use lib.Dec.{eqb}
@@ -20,7 +20,7 @@ use Rattle.definition.specs.Act.{State, run}
 use Rattle.definition.specs.Emit.{indent_or_space, leading_trivia, trailing_trivia, lead_act}
 use Rattle.definition.proofs.Said.{said}
 use Rattle.sink.specs.Appends.{Appends}
-use Rattle.row_writers.specs.Comment.{comment_head, lead_tail, trail_head, trail_tail}
+use Rattle.row_writers.specs.Comment.{comment_head, lead_tail}
 use Rattle.sink.specs.declared.write.Sink.{Sink}
 use Rattle.sink.proofs.Appends.{and_then, nothing}
 use Rattle.formatter.specs.declared.Formatter.{Formatter}
@@ -35,15 +35,6 @@ use Rattle.formatter.proofs.Does.{does, then, seq, stays, updated}
 pub blank_row : (text : List ℕ) (r : Row) → BlockComment < r.kind → trivia_of text r ≡ blank_line
 blank_row text r h =
     rw (ne_eqb r.kind 0 (λ e. omega arith), ne_eqb r.kind 1 (λ e. omega arith), ne_eqb r.kind 2 (λ e. omega arith))
-
-pub trail_bytes_lem : (text : List ℕ) (r : Row) → r.kind < 3 → trail_head r.kind ++ (bytes_of text r ++ trail_tail r.kind) ≡ trail_bytes (trivia_of text r)
-trail_bytes_lem text r h = go r.kind refl
-  where
-    go : (k : ℕ) → r.kind ≡ k → trail_head r.kind ++ (bytes_of text r ++ trail_tail r.kind) ≡ trail_bytes (trivia_of text r)
-    go zero e = rw (e, append-nil)
-    go (suc zero) e = rw (e, append-nil)
-    go (suc (suc zero)) e = rw e
-    go (suc (suc (suc k))) e = absurd (omega arith)
 
 module _ (o : Options) {x : Locals} {p q : CodeState} (text : List ℕ) (r : Row) (h : r.kind < 3) (z : given q.form ≡ given p.form) (c : formatter_of p.form x ≡ formatter_of q.form x) (n : p.form.commas ≡ q.form.commas) where
   pub lead-comment :

@@ -1,18 +1,17 @@
 -- `push_token`: from its parts to the turn of the definition's walk. Assumes nothing.
 use mathlib.Core.Bool.{Bool, true, false, not, ◌&&◌}
-use mathlib.Core.List.{List, [], ◌∷◌, map}
+use mathlib.Core.List.{List, [], ◌∷◌}
 use mathlib.Core.Option.{none, some}
 use mathlib.Core.Path.{◌≡◌, refl, sym, ap, subst, ◌∙◌}
-use Prim.Native.Nat.{ℕ, zero, suc, ◌+◌, ◌*◌, ◌≤◌, ◌<◌, ◌-◌, ◌/◌}
+use Prim.Native.Nat.{ℕ, ◌+◌, ◌≤◌, ◌<◌}
 use native.Mathlib.Omega.{arith}
-use borrow.Author.Tests.{leb-true, leb-false, le-ltb, lt-ltb, ltb-true, ltb-false, eq-eqb, ne_eqb}
+use borrow.Author.Tests.{leb-true, leb-false, le-ltb, lt-ltb, ltb-true, ltb-false}
 use lib.Dec.{leb, eqb, ltb}
-use lib.ListN.{length, drop}
+use lib.ListN.{length}
 use Rattle.std.specs.Prelude.{Result, Ok, Err}
 use Rattle.shared.proofs.Logic.{split}
 use Rattle.rows.specs.Options
-use Rattle.rows.specs.Row.{first_rows}
-use Rattle.rows.specs.Token.{Token, Trivia, trivia_of}
+use Rattle.rows.specs.Token.{Token, Trivia}
 use Rattle.lookahead.specs.Measure.{is_empty}
 use Rattle.definition.specs.Formatter as definition
 use Rattle.definition.specs.Act.{State, run, update}
