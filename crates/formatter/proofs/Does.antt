@@ -34,6 +34,17 @@ module _ {x : Locals} {p q : CodeState} {t : State → Bool} {a b : Act} where
   unfolding run
   no e d = record { same = d.same; size = d.size; fits = λ n. rw (e n) (d.fits n); over = λ n. rw (e n) (d.over n); stays = d.stays }
 
+pub told : {r b v : Bool} → r ≡ b → r ≡ v → b ≡ v
+told e h = sym e ∙ h
+
+-- By what the code's test answered.
+module _ {x : Locals} {p q : CodeState} {t : State → Bool} {a b : Act} {r : Bool} (e : r ≡ t (state_of x p)) where
+  pub when : r ≡ true → Does a x p q → Does (choose t a b) x p q
+  when h d = yes (λ n. told e h) d
+
+  pub unless : r ≡ false → Does b x p q → Does (choose t a b) x p q
+  unless h d = no (λ n. told e h) d
+
 -- ---- what no method changes
 
 pub then : {p q r : CodeState} → Same p q → Same q r → Same p r
@@ -152,8 +163,3 @@ module _ (t : Formatter → Bool) {a b c : Act} {g : Formatter → Formatter} {x
   unfolding run
   picked true e d = same-run {a = update g ⨾ b ⨾ c} (ap (λ z. run c (cond z (run a (run (update g) (state_of x p))) (run b (run (update g) (state_of x p))))) (sym (turned (t (g (state_of x p).formatter)) e))) d
   picked false e d = same-run {a = update g ⨾ a ⨾ c} (ap (λ z. run c (cond z (run a (run (update g) (state_of x p))) (run b (run (update g) (state_of x p))))) (sym (turned (t (g (state_of x p).formatter)) e))) d
-
--- ---- what a test that was run says of the definition's
-
-pub told : {r b v : Bool} → r ≡ b → r ≡ v → b ≡ v
-told e h = sym e ∙ h

@@ -1,20 +1,8 @@
 -- `formatter::Formatter::push_fast_braces` meets its contract. Assumes nothing.
-use mathlib.Core.Path.{refl, sym, ap, ◌∙◌}
-use borrow.Author.Rules.{rules}
+use mathlib.Core.Path.{sym}
 use native.Mathlib.Omega.{arith}
-use Rattle.std.proofs.lemmas.List.{take_rest}
-use Rattle.rows.specs.Row.{rows_of}
-use Rattle.rows.specs.RowsLeft.{rows_left}
 use Rattle.formatter.proofs.FastBraces.{next_at, goes_open, goes_close}
 use Rattle.formatter.proofs.Formatter.push_fast_braces.Goals as goal
-
-pub loop-row-init : goal.loop-row-init
-loop-row-init c =
-    record {
-      so_far = search rules;
-      left = ap rows_left c.into_iter-row-iterator.ensures.into_iter_gives ∙ c.of-row-items.ensures ∙ ap rows_of (take_rest c.args.self.now.source.rows.now c.args.from);
-      lent = refl;
-    }
 
 pub open_fast_brace-b-requires-clause-depth_bound : goal.open_fast_brace-b-requires-clause-depth_bound
 open_fast_brace-b-requires-clause-depth_bound c = let f = next_at c.loop-row.invariant c.in-Some.ensures.steps in omega arith
@@ -39,12 +27,4 @@ loop-row-preserved c =
       so_far = goes_close i.so_far f.within _ f.row (sym c.in-RightBrace.ensures) fits.0 fits.1 c.close_fast_brace-b.ensures;
       left = rw c.close_fast_brace-b.ensures.1 f.after;
       lent = i.lent;
-    }
-
-pub returns : goal.returns
-returns c =
-    let i = c.loop-row.invariant in
-    record {
-      laid = rw c.unwrap_or.ensures at i.so_far.done;
-      changed = record { form = λ x. refl; same = record { given = refl; lent = i.lent }; commas = refl };
     }
