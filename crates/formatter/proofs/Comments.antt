@@ -28,7 +28,7 @@ use Rattle.row_writers.specs.declared.Source.{Source}
 use Rattle.formatter.specs.CodeState.{Locals, CodeState, formatter_of, Given, given, options_of}
 use Rattle.formatter.specs.Does.{Same, Does, Done, Puts}
 use Rattle.formatter.specs.Trivia.{WholeRows, trivia_in, lead_token, trail_bytes}
-use Rattle.formatter.proofs.Does.{does, then, seq, stays, updated}
+use Rattle.formatter.proofs.Does.{does, then, same_options, seq, stays, updated}
 
 -- ---- a row, by its kind
 
@@ -107,10 +107,6 @@ pub record LeadsLeft (all left : List Row) (f₀ f : CodeState) : Type 0 where
   pub rest :
       (q : CodeState) → Done (leading_trivia (options_of f₀.form.options) (map (trivia_of f₀.form.source.text.now) left)) f q
       → Done (leading_trivia (options_of f₀.form.options) (map (trivia_of f₀.form.source.text.now) all)) f₀ q
-
--- What stays as given, by its fields.
-pub same_options : {p q : CodeState} → Same p q → q.form.options ≡ p.form.options
-same_options s = ap (λ (z : Given). z.options) s.given
 
 pub same_source : {p q : CodeState} → Same p q → q.form.source ≡ p.form.source
 same_source s = ap (λ (z : Given). z.source) s.given

@@ -17,7 +17,7 @@ use Rattle.sink.specs.Sink.{count_comma}
 use Rattle.sink.specs.Appends.{Appends}
 use Rattle.sink.proofs.Sink.{later}
 use Rattle.sink.proofs.Appends.{nothing}
-use Rattle.formatter.specs.CodeState.{Locals, CodeState, state_of, locals_of, formatter_of, given}
+use Rattle.formatter.specs.CodeState.{Locals, CodeState, Given, state_of, locals_of, formatter_of, given}
 use Rattle.formatter.specs.Does.{Arrives, Same, Does}
 
 pub grows : (a : Act) (s : State) → length s.out ≤ length (run a s).out
@@ -49,6 +49,9 @@ module _ {x : Locals} {p q : CodeState} {t : State → Bool} {a b : Act} {r : Bo
 
 pub then : {p q r : CodeState} → Same p q → Same q r → Same p r
 then u v = record { given = v.given ∙ u.given; lent = v.lent ∙ u.lent }
+
+pub same_options : {p q : CodeState} → Same p q → q.form.options ≡ p.form.options
+same_options s = ap (λ (z : Given). z.options) s.given
 
 -- ---- one act after the other
 

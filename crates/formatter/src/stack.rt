@@ -64,6 +64,7 @@ impl Stack {
     }
 
     // Puts a depth on the stack. A full one stays as it is.
+    #[tactic(auto, using(crate::proofs::Entries::top_length, crate::proofs::Entries::top_pushed))]
     pub fn push(&mut self, depth: u32)
         ensures { self.new ≡ cond (ltb (length self.old) stack_size) (depth ∷ self.old) self.old }
     {

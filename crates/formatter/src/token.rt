@@ -70,6 +70,7 @@ fn rows_end(rows: &[u8], at: usize, what: What) -> usize
 
 // Finds where the last Comma and the last `}` stand in the rows, and how wide all tokens are. Few rows are
 // not searched.
+#[tactic(auto, using(lookahead::proofs::Lacks::none_after, lookahead::proofs::Narrow::width_part))]
 pub fn ends_of(rows: &[u8], list_width: u32) -> Ends
     requires { length rows.now ≤ most_row_bytes }
     ensures { Ending rows.now result }
@@ -95,6 +96,7 @@ pub fn ends_of(rows: &[u8], list_width: u32) -> Ends
 }
 
 // What is told of rows in which nothing was looked for.
+#[tactic(auto, using(lookahead::proofs::Lacks::none_left))]
 pub fn ends_not_sought(rows: &[u8]) -> Ends
     ensures { Ending rows.now result }
 {

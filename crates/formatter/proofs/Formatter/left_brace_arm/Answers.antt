@@ -1,19 +1,17 @@
 -- `formatter::Formatter::left_brace_arm` meets its contract. Assumes nothing.
 use mathlib.Core.Bool.{false}
-use mathlib.Core.Path.{ap}
 use Rattle.std.proofs.Math.Option.{none}
 use Rattle.definition.specs.Arms.{empty_record, open_block}
-use Rattle.formatter.specs.CodeState.{Given, code_state}
-use Rattle.formatter.proofs.Blocks.{brace, same-options}
-use Rattle.formatter.proofs.Does.{seq, when, unless}
+use Rattle.formatter.proofs.Blocks.{brace, by_options}
+use Rattle.formatter.proofs.Does.{seq, when, unless, same_options}
 use Rattle.formatter.proofs.Formatter.left_brace_arm.Goals as goal
 
 pub open_block_multiline-requires-clause-can_write : goal.open_block_multiline-requires-clause-can_write
 open_block_multiline-requires-clause-can_write c =
-    let n = (c.enter_record.ensures.does c.args.sink.now (record { inline_close = false; returned = false; skip_next = false; too_deep = none })).same.given in
+    let n = (c.enter_record.ensures.does c.args.sink.now (record { inline_close = false; returned = false; skip_next = false; too_deep = none })).same in
     record {
       within = c.requires.ready.fits.within;
-      width = rw (ap (λ (g : Given). g.options) n) c.requires.ready.fits.width;
+      width = rw (same_options n) c.requires.ready.fits.width;
       indent = rw c.enter_record.ensures.indent c.requires.ready.fits.indent;
     }
 
@@ -29,7 +27,7 @@ returns-then-opens_block c = λ t ts σ x.
     brace _ _ t ts
     (unless (c.empties_record.ensures t ts σ) c.if-empties_record.false
     (when (c.opens_block.ensures t ts σ) c.if-opens_block.true
-    (seq (c.enter_record.ensures.does c.args.sink.now x) (same-options (λ o. open_block o c.args.token.index) (code_state c.args.self.now c.args.sink.now) (c.enter_record.ensures.does c.args.sink.now x).same.given (c.open_block_multiline.ensures _)))))
+    (seq (c.enter_record.ensures.does c.args.sink.now x) (by_options (λ o. open_block o c.args.token.index) (c.enter_record.ensures.does c.args.sink.now x).same (c.open_block_multiline.ensures _)))))
 
 pub returns-else-opens_block : goal.returns-else-opens_block
 returns-else-opens_block c = λ t ts σ x.
