@@ -18,18 +18,18 @@ use Rattle.definition.specs.Arms.{in_one_line_block, empty_record, open_block, l
 use Rattle.lookahead.specs.Measure.{next_is}
 use Rattle.definition.proofs.Said.{said}
 use Rattle.sink.specs.Appends.{Appends}
-use Rattle.formatter.specs.CodeState.{Locals, CodeState, Given, options_of, state_of, formatter_of, given}
+use Rattle.formatter.specs.CodeState.{Locals, CodeState, options_of, state_of, formatter_of, given}
 use Rattle.formatter.specs.Parts.{opens_block, record_entered, open_one_line, one_line_bytes, braced}
-use Rattle.formatter.specs.Does.{Does}
-use Rattle.formatter.proofs.Does.{same-run, does, yes, no}
+use Rattle.formatter.specs.Does.{Same, Does}
+use Rattle.formatter.proofs.Does.{same-run, same_options, does, yes, no}
 
 -- ---- the options, which a method that was called left as they were
 
 same-act : {a b : Act} {x : Locals} {p q : CodeState} → a ≡ b → Does a x p q → Does b x p q
 same-act e d = rw e at d
 
-pub same-options : (a : Options → Act) (p : CodeState) {x : Locals} {m q : CodeState} → given m.form ≡ given p.form → Does (a (options_of m.form.options)) x m q → Does (a (options_of p.form.options)) x m q
-same-options a p e d = same-act (ap (λ (g : Given). a (options_of g.options)) e) d
+pub by_options : (a : Options → Act) {p m q : CodeState} {x : Locals} → Same p m → Does (a (options_of m.form.options)) x m q → Does (a (options_of p.form.options)) x m q
+by_options a s d = same-act (ap (λ o. a (options_of o)) (same_options s)) d
 
 -- ---- a block over several lines, by its style
 

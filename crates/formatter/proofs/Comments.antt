@@ -1,25 +1,26 @@
 -- A row of trivia, and rows of trivia one by one. Assumes nothing.
 use mathlib.Core.Bool.{false}
-use mathlib.Core.List.{List, [], ◌∷◌, ◌++◌, append-nil}
+use mathlib.Core.List.{List, [], ◌∷◌, ◌++◌, map}
 use mathlib.Core.Path.{◌≡◌, refl, sym, ap, ◌∙◌}
-use Prim.Native.Nat.{ℕ, zero, suc, ◌+◌, ◌-◌, ◌/◌, ◌≤◌, ◌<◌}
-use native.Mathlib.Nat.{add-zero}
+use Prim.Native.Nat.{ℕ, zero, suc, ◌+◌, ◌-◌, ◌*◌, ◌/◌, ◌≤◌, ◌<◌}
+use lib.Dec.{eqb}
 use native.Mathlib.Omega.{arith}
-use lib.ListN.{drop}
-use lib.Seq.{drop-drop}
-use borrow.Author.Tests.{ne_eqb}
+use lib.ListN.{length, take, drop, length-drop}
+use borrow.Author.Tests.{eq-eqb, ne_eqb}
+use Rattle.std.proofs.lemmas.List.{length-take, get_or-take, drop-take}
 use Rattle.shared.specs.Bytes.{space}
 use Rattle.rows.specs.Kinds.{BlockComment}
-use Rattle.rows.specs.Row.{Row, row_at, first_rows}
+use Rattle.rows.specs.Row.{Row, number, row_at, first_rows, rows_of}
 use Rattle.rows.specs.Bounds.{Inside, InBounds}
 use Rattle.rows.specs.Options.{Options}
 use Rattle.rows.specs.Token.{Trivia, line_comment, doc_comment, block_comment, blank_line, bytes_of, trivia_of}
-use Rattle.rows.proofs.RowList.{row_drop}
+use Rattle.rows.proofs.RowList.{rows_cons, rows_none}
+use Rattle.lookahead.specs.Measure.{is_empty}
 use Rattle.definition.specs.Act.{State, run}
 use Rattle.definition.specs.Emit.{indent_or_space, leading_trivia, trailing_trivia, lead_act}
 use Rattle.definition.proofs.Said.{said}
 use Rattle.sink.specs.Appends.{Appends}
-use Rattle.row_writers.specs.Comment.{comment_head, lead_tail, trail_head, trail_tail}
+use Rattle.row_writers.specs.Comment.{comment_head, lead_tail}
 use Rattle.sink.specs.declared.write.Sink.{Sink}
 use Rattle.sink.proofs.Appends.{and_then, nothing}
 use Rattle.formatter.specs.declared.Formatter.{Formatter}
@@ -27,22 +28,13 @@ use Rattle.row_writers.specs.declared.Source.{Source}
 use Rattle.formatter.specs.CodeState.{Locals, CodeState, formatter_of, Given, given, options_of}
 use Rattle.formatter.specs.Does.{Same, Does, Done, Puts}
 use Rattle.formatter.specs.Trivia.{WholeRows, trivia_in, lead_token, trail_bytes}
-use Rattle.formatter.proofs.Does.{does, then, seq, stays, updated}
+use Rattle.formatter.proofs.Does.{does, then, same_options, seq, stays, updated}
 
 -- ---- a row, by its kind
 
 pub blank_row : (text : List ℕ) (r : Row) → BlockComment < r.kind → trivia_of text r ≡ blank_line
 blank_row text r h =
     rw (ne_eqb r.kind 0 (λ e. omega arith), ne_eqb r.kind 1 (λ e. omega arith), ne_eqb r.kind 2 (λ e. omega arith))
-
-pub trail_bytes_lem : (text : List ℕ) (r : Row) → r.kind < 3 → trail_head r.kind ++ (bytes_of text r ++ trail_tail r.kind) ≡ trail_bytes (trivia_of text r)
-trail_bytes_lem text r h = go r.kind refl
-  where
-    go : (k : ℕ) → r.kind ≡ k → trail_head r.kind ++ (bytes_of text r ++ trail_tail r.kind) ≡ trail_bytes (trivia_of text r)
-    go zero e = rw (e, append-nil)
-    go (suc zero) e = rw (e, append-nil)
-    go (suc (suc zero)) e = rw e
-    go (suc (suc (suc k))) e = absurd (omega arith)
 
 module _ (o : Options) {x : Locals} {p q : CodeState} (text : List ℕ) (r : Row) (h : r.kind < 3) (z : given q.form ≡ given p.form) (c : formatter_of p.form x ≡ formatter_of q.form x) (n : p.form.commas ≡ q.form.commas) where
   pub lead-comment :
@@ -57,85 +49,104 @@ module _ (o : Options) {x : Locals} {p q : CodeState} (text : List ℕ) (r : Row
       go (suc (suc zero)) e = rw e (does z c n (rw e at w))
       go (suc (suc (suc k))) e = absurd (omega arith)
 
--- ---- the first of some rows
+-- ---- the rows of a slice
+
+number_take : (m j : ℕ) (b : List ℕ) → j + 4 ≤ m → number (take m b) j ≡ number b j
+number_take m j b h = rw (get_or-take m b j 0 (omega arith), get_or-take m b (j + 1) 0 (omega arith), get_or-take m b (j + 2) 0 (omega arith), get_or-take m b (j + 3) 0 (omega arith))
+
+first_take : (n : ℕ) (b : List ℕ) → 16 * n ≤ length b → rows_of (take (16 * n) b) ≡ first_rows n b
+unfolding first_rows
+first_take zero b h = rows_none [] (omega arith)
+first_take (suc n) b h =
+    let m : 16 * suc n ≡ 16 + 16 * n = omega arith in
+    rw (m, rows_cons (take (16 + 16 * n) b) (omega (arith, length-take (16 + 16 * n) b)), drop-take 16 (16 * n) b)
+    (rw (number_take (16 + 16 * n) 0 b (omega arith), number_take (16 + 16 * n) 4 b (omega arith), number_take (16 + 16 * n) 8 b (omega arith), number_take (16 + 16 * n) 12 b (omega arith))
+    (ap (λ rs. row_at b 0 ∷ rs) (first_take n (drop 16 b) (omega (arith, length-drop 16 b)))))
+
+module _ {rows text : List ℕ} {from to : ℕ} (π : WholeRows rows text from to) {left : List Row} (e : left ≡ rows_of (take (to - from) (drop from rows))) where
+  slice_is : left ≡ first_rows ((to - from) / 16) (drop from rows)
+  slice_is =
+      let w = π.whole in
+      let o = π.ordered in
+      let i = π.within in
+      let m : to - from ≡ 16 * ((to - from) / 16) = omega arith in
+      e ∙ ap (λ n. rows_of (take n (drop from rows))) m ∙ first_take ((to - from) / 16) (drop from rows) (omega (arith, length-drop from rows))
+
+  pub slice_bounds : InBounds text left
+  slice_bounds = rw slice_is π.bounds
+
+  pub slice_trivia : map (trivia_of text) left ≡ trivia_in rows text from to
+  slice_trivia = rw slice_is
 
 -- No rows have no trivia.
 pub no_trivia : (rows text : List ℕ) {at to : ℕ} → to ≤ at → trivia_in rows text at to ≡ []
 unfolding first_rows
 no_trivia rows text {at} {to} h = let e : (to - at) / 16 ≡ 0 = omega arith in rw e
 
-module _ {rows text : List ℕ} {at to : ℕ} (π : WholeRows rows text at to) (h : at < to) where
-  first-row : first_rows ((to - at) / 16) (drop at rows) ≡ row_at rows at ∷ first_rows ((to - (at + 16)) / 16) (drop (at + 16) rows)
-  unfolding first_rows
-  first-row =
-      let w = π.whole in
-      let e : (to - at) / 16 ≡ suc ((to - (at + 16)) / 16) = omega arith in
-      ap (λ n. first_rows n (drop at rows)) e
-      ∙ ap (λ r. r ∷ first_rows ((to - (at + 16)) / 16) (drop 16 (drop at rows))) (row_drop at rows 0 ∙ ap (row_at rows) (add-zero at))
-      ∙ ap (λ l. row_at rows at ∷ first_rows ((to - (at + 16)) / 16) l) (drop-drop 16 at rows)
+-- A token without leading rows has no leading trivia.
+pub empty_is : (rows text : List ℕ) (from to : ℕ) → WholeRows rows text from to → eqb from to ≡ is_empty (trivia_in rows text from to)
+unfolding first_rows
+empty_is rows text from to π = go ((to - from) / 16) π.whole
+  where
+    go : (n : ℕ) → to ≡ from + 16 * n → eqb from to ≡ is_empty (map (trivia_of text) (first_rows n (drop from rows)))
+    go zero e = eq-eqb from to (omega arith)
+    go (suc n) e = ne_eqb from to (λ x. omega arith)
 
-  bounds-first : Inside text (row_at rows at) × InBounds text (first_rows ((to - (at + 16)) / 16) (drop (at + 16) rows))
-  unfolding InBounds
-  bounds-first = rw first-row at π.bounds
-
-  pub row_inside : {r : Row} → r ≡ row_at rows at → Inside text r
-  row_inside e = rw e bounds-first.0
-
-  part_after : WholeRows rows text (at + 16) to
-  part_after =
-      let w = π.whole in
-      record { ordered = omega arith; within = π.within; whole = omega arith; bounds = bounds-first.1 }
-
-  first_trivia : {r : Row} → r ≡ row_at rows at → trivia_in rows text at to ≡ trivia_of text r ∷ trivia_in rows text (at + 16) to
-  first_trivia e = rw (first-row, e)
+-- The first of some rows in the text, and the others.
+pub bounds-first : {text : List ℕ} {left : List Row} {r : Row} {rs : List Row} → InBounds text left → left ≡ r ∷ rs → Inside text r × InBounds text rs
+unfolding InBounds
+bounds-first β e = rw e at β
 
 -- ---- leading rows
 
--- From the state f, the rows from `at` on do what is left of the whole that begins in the state f₀.
-pub record LeadsLeft (from to : ℕ) (f₀ : CodeState) (at : ℕ) (f : CodeState) : Type 0 where
-  pub part : WholeRows f₀.form.source.rows.now f₀.form.source.text.now at to
+-- From the state f, the rows that are left do what is left of what all of them do from the state f₀.
+pub record LeadsLeft (all left : List Row) (f₀ f : CodeState) : Type 0 where
+  pub bounds : InBounds f₀.form.source.text.now left
   pub same : Same f₀ f
   pub indent : f.form.indent ≤ 4294967295
   pub rest :
-      (q : CodeState) → Done (leading_trivia (options_of f₀.form.options) (trivia_in f₀.form.source.rows.now f₀.form.source.text.now at to)) f q
-      → Done (leading_trivia (options_of f₀.form.options) (trivia_in f₀.form.source.rows.now f₀.form.source.text.now from to)) f₀ q
-
--- What stays as given, by its fields.
-pub same_options : {p q : CodeState} → Same p q → q.form.options ≡ p.form.options
-same_options s = ap (λ (z : Given). z.options) s.given
+      (q : CodeState) → Done (leading_trivia (options_of f₀.form.options) (map (trivia_of f₀.form.source.text.now) left)) f q
+      → Done (leading_trivia (options_of f₀.form.options) (map (trivia_of f₀.form.source.text.now) all)) f₀ q
 
 pub same_source : {p q : CodeState} → Same p q → q.form.source ≡ p.form.source
 same_source s = ap (λ (z : Given). z.source) s.given
 
-module _ {from to : ℕ} {f₀ : CodeState} {at : ℕ} {f : CodeState} (left : LeadsLeft from to f₀ at f) where
-  pub leads-after :
-      at < to → {r : Row} → r ≡ row_at f₀.form.source.rows.now at → {g : CodeState} → g.form.indent ≡ f.form.indent
-      → Done (lead_act (options_of f.form.options) (trivia_of f.form.source.text.now r)) f g → LeadsLeft from to f₀ (at + 16) g
-  unfolding leading_trivia
-  leads-after h {r} e {g} i d =
-      record {
-        part = part_after left.part h;
-        same = then left.same (d none).same;
-        indent = rw i left.indent;
-        rest = λ q y. left.rest q (λ x. rw (first_trivia left.part h e) (seq (same-lead x) (y _)));
-      }
-    where
-      none : Locals
-      none = record { inline_close = false; returned = false; skip_next = false; too_deep = Rattle.std.proofs.Math.Option.none }
+pub leads_start : {all : List Row} {f : CodeState} → InBounds f.form.source.text.now all → f.form.indent ≤ 4294967295 → LeadsLeft all all f f
+leads_start β i = record { bounds = β; same = record { given = refl; lent = refl }; indent = i; rest = λ q d. d }
 
-      same-lead : Done (lead_act (options_of f₀.form.options) (trivia_of f₀.form.source.text.now r)) f g
-      same-lead = rw (sym (same_options left.same), sym (ap (λ (z : Source). z.text.now) (same_source left.same))) d
+module _ {all left : List Row} {f₀ f : CodeState} (σ : LeadsLeft all left f₀ f) where
+  module _ {r : Row} {rs : List Row} (e : left ≡ r ∷ rs) where
+    pub lead_inside : Inside f.form.source.text.now r
+    lead_inside = rw (same_source σ.same) (bounds-first σ.bounds e).0
+
+    pub leads_more :
+        {g : CodeState} → g.form.indent ≡ f.form.indent → Done (lead_act (options_of f.form.options) (trivia_of f.form.source.text.now r)) f g
+        → LeadsLeft all rs f₀ g
+    unfolding leading_trivia
+    leads_more {g} i d =
+        record {
+          bounds = (bounds-first σ.bounds e).1;
+          same = then σ.same (d none).same;
+          indent = rw i σ.indent;
+          rest = λ q y. σ.rest q (λ x. rw e (seq (same-lead x) (y _)));
+        }
+      where
+        none : Locals
+        none = record { inline_close = false; returned = false; skip_next = false; too_deep = Rattle.std.proofs.Math.Option.none }
+
+        same-lead : Done (lead_act (options_of f₀.form.options) (trivia_of f₀.form.source.text.now r)) f g
+        same-lead = rw (sym (same_options σ.same), sym (ap (λ (z : Source). z.text.now) (same_source σ.same))) d
 
   -- At the end nothing is left.
-  module _ (h : to ≤ at) where
-    leads-none : Done (leading_trivia (options_of f₀.form.options) (trivia_in f₀.form.source.rows.now f₀.form.source.text.now from to)) f₀ f
-    unfolding leading_trivia
-    leads-none = left.rest f (λ x. rw (no_trivia f₀.form.source.rows.now f₀.form.source.text.now h) stays)
+  pub leads_done : left ≡ [] → Done (leading_trivia (options_of f₀.form.options) (map (trivia_of f₀.form.source.text.now) all)) f₀ f
+  unfolding leading_trivia
+  leads_done e = σ.rest f (λ x. rw e stays)
 
-    pub lead_after :
-        WholeRows f₀.form.source.rows.now f₀.form.source.text.now from to → from < to
-        → Done (lead_token (options_of f₀.form.options) (trivia_in f₀.form.source.rows.now f₀.form.source.text.now from to)) f₀ f
-    lead_after π i x = seq (leads-none x) (rw (first_trivia π i refl) (updated refl refl refl nothing))
+-- And `just_closed_inline` stays, where there was a row.
+pub lead_done :
+    {rows text : List ℕ} {from to : ℕ} → WholeRows rows text from to → from < to → (o : Options) {p q : CodeState}
+    → Done (leading_trivia o (trivia_in rows text from to)) p q → Done (lead_token o (trivia_in rows text from to)) p q
+lead_done {rows} {text} {from} {to} π h o d x = seq (d x) (rw (← empty_is rows text from to π, ne_eqb from to (λ e. omega arith)) (updated refl refl refl nothing))
 
 -- ---- trailing rows
 
@@ -172,22 +183,19 @@ trailing_does ts z c n w =
     let h = trailing-same ts _ in
     does z (rw h.formatter c) (h.commas ∙ n) (rw (trailing_said ts) w)
 
--- The rows from `at` on write what is left of the whole.
-pub record TrailsLeft (rows text : List ℕ) (from to : ℕ) (s₀ : Sink) (at : ℕ) (s : Sink) : Type 0 where
-  pub part : WholeRows rows text at to
-  pub rest : (t : Sink) → Appends s (trails_bytes (trivia_in rows text at to)) t → Appends s₀ (trails_bytes (trivia_in rows text from to)) t
+-- The rows that are left write what is left of what all of them write.
+pub record TrailsLeft (text : List ℕ) (all left : List Row) (s₀ s : Sink) : Type 0 where
+  pub bounds : InBounds text left
+  pub rest : (t : Sink) → Appends s (trails_bytes (map (trivia_of text) left)) t → Appends s₀ (trails_bytes (map (trivia_of text) all)) t
 
-module _ {rows text : List ℕ} {from to : ℕ} {s₀ : Sink} {at : ℕ} {s : Sink} (left : TrailsLeft rows text from to s₀ at s) where
-  pub trails-after :
-      at < to → {r : Row} → r ≡ row_at rows at → {t : Sink} → Appends s (trail_bytes (trivia_of text r)) t
-      → TrailsLeft rows text from to s₀ (at + 16) t
-  unfolding trails_bytes
-  trails-after h e w =
-      record {
-        part = part_after left.part h;
-        rest = λ u y. left.rest u (rw (first_trivia left.part h e) (and_then w y));
-      }
+pub trails_start : {text : List ℕ} {all : List Row} {s : Sink} → InBounds text all → TrailsLeft text all all s s
+trails_start β = record { bounds = β; rest = λ t w. w }
 
-  pub trails_done : to ≤ at → {f : Formatter} → Puts (trailing_trivia (trivia_in rows text from to)) f s₀ f s
+module _ {text : List ℕ} {all left : List Row} {s₀ s : Sink} (τ : TrailsLeft text all left s₀ s) where
+  pub trails_more : {r : Row} {rs : List Row} → left ≡ r ∷ rs → {t : Sink} → Appends s (trail_bytes (trivia_of text r)) t → TrailsLeft text all rs s₀ t
   unfolding trails_bytes
-  trails_done h x = trailing_does _ refl refl refl (left.rest s (rw (no_trivia rows text h) nothing))
+  trails_more e w = record { bounds = (bounds-first τ.bounds e).1; rest = λ u y. τ.rest u (rw e (and_then w y)) }
+
+  pub trails_done : left ≡ [] → {f : Formatter} → Puts (trailing_trivia (map (trivia_of text) all)) f s₀ f s
+  unfolding trails_bytes
+  trails_done e x = trailing_does _ refl refl refl (τ.rest s (rw e nothing))

@@ -17,7 +17,7 @@ use Rattle.sink.specs.Sink.{count_comma}
 use Rattle.sink.specs.Appends.{Appends}
 use Rattle.sink.proofs.Sink.{later}
 use Rattle.sink.proofs.Appends.{nothing}
-use Rattle.formatter.specs.CodeState.{Locals, CodeState, state_of, locals_of, formatter_of, given}
+use Rattle.formatter.specs.CodeState.{Locals, CodeState, Given, state_of, locals_of, formatter_of, given}
 use Rattle.formatter.specs.Does.{Arrives, Same, Does}
 
 pub grows : (a : Act) (s : State) → length s.out ≤ length (run a s).out
@@ -34,10 +34,24 @@ module _ {x : Locals} {p q : CodeState} {t : State → Bool} {a b : Act} where
   unfolding run
   no e d = record { same = d.same; size = d.size; fits = λ n. rw (e n) (d.fits n); over = λ n. rw (e n) (d.over n); stays = d.stays }
 
+pub told : {r b v : Bool} → r ≡ b → r ≡ v → b ≡ v
+told e h = sym e ∙ h
+
+-- By what the code's test answered.
+module _ {x : Locals} {p q : CodeState} {t : State → Bool} {a b : Act} {r : Bool} (e : r ≡ t (state_of x p)) where
+  pub when : r ≡ true → Does a x p q → Does (choose t a b) x p q
+  when h d = yes (λ n. told e h) d
+
+  pub unless : r ≡ false → Does b x p q → Does (choose t a b) x p q
+  unless h d = no (λ n. told e h) d
+
 -- ---- what no method changes
 
 pub then : {p q r : CodeState} → Same p q → Same q r → Same p r
 then u v = record { given = v.given ∙ u.given; lent = v.lent ∙ u.lent }
+
+pub same_options : {p q : CodeState} → Same p q → q.form.options ≡ p.form.options
+same_options s = ap (λ (z : Given). z.options) s.given
 
 -- ---- one act after the other
 
@@ -152,8 +166,3 @@ module _ (t : Formatter → Bool) {a b c : Act} {g : Formatter → Formatter} {x
   unfolding run
   picked true e d = same-run {a = update g ⨾ b ⨾ c} (ap (λ z. run c (cond z (run a (run (update g) (state_of x p))) (run b (run (update g) (state_of x p))))) (sym (turned (t (g (state_of x p).formatter)) e))) d
   picked false e d = same-run {a = update g ⨾ a ⨾ c} (ap (λ z. run c (cond z (run a (run (update g) (state_of x p))) (run b (run (update g) (state_of x p))))) (sym (turned (t (g (state_of x p).formatter)) e))) d
-
--- ---- what a test that was run says of the definition's
-
-pub told : {r b v : Bool} → r ≡ b → r ≡ v → b ≡ v
-told e h = sym e ∙ h

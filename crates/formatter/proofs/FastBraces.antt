@@ -28,6 +28,7 @@ use Rattle.sink.specs.declared.write.Sink.{Sink}
 use Rattle.formatter.specs.CodeState.{Locals, CodeState, prev_of, formatter_of}
 use Rattle.formatter.specs.Format.{only_tokens}
 use Rattle.formatter.specs.FastBraces.{FastBraces, MayStartFastBraces, BeforeFastBraces, after_fast_braces, fast_braces_at, FastBracesLaidOut, opener_bytes, closer_bytes, after_opener, after_closer}
+use Rattle.formatter.proofs.RunEnd.{RowAt, first_at}
 use Rattle.formatter.proofs.BareRow.{row_token, only_after, lay-turn}
 use Rattle.formatter.proofs.FastBraceTurn.{Turns, open_turns, close_turns}
 
@@ -39,10 +40,14 @@ pub record FastBracesSoFar (rows : List ℕ) (from : FastBraces) (l : List ℕ) 
   pub only : only_tokens (rows_of (drop b.at rows)) ≡ true
   pub done : FastBracesLaidOut rows from l m b
 
--- The same of the sinks: s at the call, t at the loop's head.
-pub record FastBracesLoop (rows : List ℕ) (from b : FastBraces) (s t : Sink) : Type 0 where
+-- The same of the sinks, s at the call and t at the loop's head, where these rows are left.
+pub record FastBracesLoop (rows : List ℕ) (from b : FastBraces) (s t : Sink) (rs : List Row) : Type 0 where
   pub so_far : FastBracesSoFar rows from s.out.now b t.out.now
+  pub left : rs ≡ rows_of (drop b.at rows)
   pub lent : t.out.ghost_name ≡ s.out.ghost_name
+
+pub next_at : {rows : List ℕ} {from b : FastBraces} {s t : Sink} {left : List Row} → FastBracesLoop rows from b s t left → {r : Row} {rs : List Row} → left ≡ r ∷ rs → RowAt rows b.at r rs
+next_at i e = first_at _ _ (sym i.left ∙ e)
 
 -- ---- one brace
 
@@ -60,10 +65,7 @@ still_before_fast_braces taken close r σ =
       shallow = σ.shallow;
     }
 
-module _ {rows l m : List ℕ} {from b : FastBraces} (α : FastBracesSoFar rows from l b m) (h : 16 ≤ length rows - b.at) where
-  here : b.at + 16 ≤ length rows
-  here = let w = α.done.within in omega arith
-
+module _ {rows l m : List ℕ} {from b : FastBraces} (α : FastBracesSoFar rows from l b m) (here : b.at + 16 ≤ length rows) where
   module _ {k : ℕ} {xs m' : List ℕ} (r : FastBraces) (kind : (row_at rows b.at).kind ≡ k) (turns : Turns k b xs r) (next : r.at ≡ b.at + 16) (deep : r.depth ≤ b.depth + 1) (fits : b.len + length xs ≤ length m) (w : Writes m b.len xs m' r.len) where
     text-fits : length (take r.len m') ≤ length l
     text-fits =

@@ -2,9 +2,7 @@
 use mathlib.Core.Bool.{Bool}
 use mathlib.Core.List.{List, [], ◌++◌, append-nil, append_assoc}
 use mathlib.Core.Path.{◌≡◌, refl, sym, ap}
-use Prim.Native.Nat.{ℕ, ◌*◌, ◌≤◌, ◌<◌}
-use native.Mathlib.Nat.{lt_of_le_of_lt, mul-le-mul}
-use lib.Dec.{lit<}
+use Prim.Native.Nat.{ℕ}
 use lib.ListN.{replicate}
 use Rattle.rows.specs.Options.{Options}
 use Rattle.rows.specs.Token.{Token}
@@ -20,10 +18,6 @@ use Rattle.formatter.specs.Does.{Does}
 use Rattle.formatter.specs.Parts.{gap_size, emit_tail}
 use Rattle.formatter.proofs.Does.{does, seq, same-run, updated}
 use Rattle.formatter.proofs.Gaps.{token_gap_lem, gapped}
-
--- The size of an indent is no large number.
-pub indent-small : {a b : ℕ} → a ≤ 16 → b ≤ 4294967295 → a * b < 68719476736
-indent-small h k = lt_of_le_of_lt (mul-le-mul h k) (lit< tt)
 
 -- ---- a lexeme
 

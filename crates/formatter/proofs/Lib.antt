@@ -12,7 +12,6 @@ pub mod Runs
 pub mod RunEnd
 pub mod Place
 pub mod Comments
-pub mod Overflow
 pub mod Locals
 pub mod Turned
 pub mod Pushed

@@ -3,7 +3,7 @@ use mathlib.Core.Bool.{true, false, ◌&&◌}
 use mathlib.Core.List.{List}
 use mathlib.Core.Option.{none, some}
 use mathlib.Core.Path.{◌≡◌, refl, sym, ap, subst, ◌∙◌}
-use Prim.Native.Nat.{ℕ, ◌+◌, ◌-◌, ◌*◌, ◌/◌, ◌≤◌, ◌<◌}
+use Prim.Native.Nat.{ℕ, ◌+◌, ◌-◌, ◌/◌, ◌≤◌, ◌<◌}
 use native.Mathlib.Omega.{arith}
 use lib.Dec.{eqb, ltb}
 use lib.ListN.{length, drop}
@@ -31,7 +31,7 @@ use Rattle.formatter.specs.Token.{StandsFor}
 use Rattle.formatter.specs.Parts.{took_next}
 use Rattle.formatter.specs.FastTokens.{MayStartFastTokens, LaysFastTokens, last_kind, after_fast_tokens, fast_state_of}
 use Rattle.formatter.specs.FastBraces.{MayStartFastBraces, LaysFastBraces, after_fast_braces, fast_braces_at}
-use Rattle.formatter.specs.Format.{TokenBoundary, Fresh, CheckedRows, Ending, TokenRows, NextToken, NextPlace, HasToken, TokenPushed, LaidOut, pushed_of, only_tokens, NoTriviaIf, RowsLeft, own_row, next_row}
+use Rattle.formatter.specs.Format.{TokenBoundary, Fresh, CheckedRows, Ending, TokenRows, NextToken, NextPlace, TokenPushed, LaidOut, pushed_of, only_tokens, NoTriviaIf, RowsLeft, own_row, next_row}
 use Rattle.formatter.proofs.Does.{then}
 use Rattle.formatter.proofs.Turned.{led, turn-deep, turn_skip, turn-taken}
 use Rattle.formatter.proofs.Place.{token_here, tokens_next, head-next, stands, next_token}
@@ -95,28 +95,6 @@ module _ {f : CodeState} {i at : ℕ} {p : CodeState} (width : f.form.options.in
 
   few : i ≤ 65535
   few = few_tokens ω ι.going
-
-  pub has_token : HasToken token p.form p.sink
-  has_token =
-      let c = ι.going.counts in
-      let b = few in
-      record {
-        checked = carried ι (λ z. CheckedRows z.source.rows.now z.source.text.now) ω;
-        boundary = carried ι (λ z. TokenBoundary z.source.rows.now z.source.text.now token.lead) (rw τ.lead ι.going.head);
-        inside = rw τ.lead inside;
-        its_rows = record { kind = its.kind; index = refl; lead = refl; own = rw its.lead its.own; next = its.next };
-        index = let e = τ.index in omega arith;
-        ends = carried ι (λ z. Ending z.source.rows.now z.ends) ε;
-        ready =
-            record {
-              fits = record { within = ι.going.room; width = carried ι (λ z. z.options.indent_width ≤ 16) width; indent = let a = c.indent in omega arith };
-              group = let a = c.group in omega arith;
-              inline = let a = c.inline in omega arith;
-              records = let a = c.records in omega arith;
-              signature = let a = c.signature in omega arith;
-              commas = let a = c.commas in omega arith;
-            };
-      }
 
   σ : StandsFor token rows text t ts
   σ = stands ω ι.going.head h τ
@@ -228,23 +206,12 @@ module _ {f : CodeState} {i at : ℕ} {p : CodeState} (width : f.form.options.in
             (λ c. place_taken (rw c at ν₀.at) (rw c at ν₀.index) c)
             (λ c. place_next (rw c at ν₀.at) (rw c at ν₀.index) c)
 
-        -- The next place lies further on.
-        pub further : at < place.at
-        further =
-            split (took_next token.kind q.form.prev)
-            (λ c. let a = rw c at ν₀.at in let b = next_is_lem in omega arith)
-            (λ c. let a = rw c at ν₀.at in let b = next_is_lem in omega arith)
-
 -- ---- fast tokens and fast braces
 
 module _ {f : CodeState} {i at : ℕ} {p : CodeState} (ω : CheckedRows f.form.source.rows.now f.form.source.text.now) (ι : Loop f i at p) where
   -- A whole number of rows is left.
   pub rows_left : RowsLeft p.form.source.rows.now at
   rows_left = carried ι (λ z. RowsLeft z.source.rows.now at) (ι.going.head.within, let a = ω.whole in let b = ι.going.head.whole in omega arith)
-
-  -- The rows up to a later place are few.
-  pub past : {to : ℕ} → to ≡ at + 16 * ((to - at) / 16) → to ≤ length p.form.source.rows.now → (at ≤ to) × (to ≤ 1048560) × (i + (to - at) / 16 ≤ 65535)
-  past w h = let e = ap length (rows_same ι) in let a = ι.going.index in let d = ω.few in (omega arith, omega arith, omega arith)
 
   -- ---- fast tokens
 

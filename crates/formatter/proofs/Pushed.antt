@@ -1,18 +1,17 @@
 -- `push_token`: from its parts to the turn of the definition's walk. Assumes nothing.
 use mathlib.Core.Bool.{Bool, true, false, not, ◌&&◌}
-use mathlib.Core.List.{List, [], ◌∷◌, map}
+use mathlib.Core.List.{List, [], ◌∷◌}
 use mathlib.Core.Option.{none, some}
 use mathlib.Core.Path.{◌≡◌, refl, sym, ap, subst, ◌∙◌}
-use Prim.Native.Nat.{ℕ, zero, suc, ◌+◌, ◌*◌, ◌≤◌, ◌<◌, ◌-◌, ◌/◌}
+use Prim.Native.Nat.{ℕ, ◌+◌, ◌≤◌, ◌<◌}
 use native.Mathlib.Omega.{arith}
-use borrow.Author.Tests.{leb-true, leb-false, le-ltb, lt-ltb, ltb-true, ltb-false, eq-eqb, ne_eqb}
+use borrow.Author.Tests.{leb-true, leb-false, le-ltb, lt-ltb, ltb-true, ltb-false}
 use lib.Dec.{leb, eqb, ltb}
-use lib.ListN.{length, drop}
+use lib.ListN.{length}
 use Rattle.std.specs.Prelude.{Result, Ok, Err}
 use Rattle.shared.proofs.Logic.{split}
 use Rattle.rows.specs.Options
-use Rattle.rows.specs.Row.{first_rows}
-use Rattle.rows.specs.Token.{Token, Trivia, trivia_of}
+use Rattle.rows.specs.Token.{Token, Trivia}
 use Rattle.lookahead.specs.Measure.{is_empty}
 use Rattle.definition.specs.Formatter as definition
 use Rattle.definition.specs.Act.{State, run, update}
@@ -37,7 +36,7 @@ use Rattle.sink.proofs.Appends.{nothing}
 use Rattle.formatter.proofs.Does.{seq, reached, stays, updated}
 use Rattle.formatter.proofs.Locals.{SameFields, lead-same, lead-commas}
 use Rattle.formatter.proofs.Turned.{trail_token, led, led_within, turns, trails, trails_not, turn-shallow, turn-deep}
-use Rattle.formatter.proofs.Comments.{no_trivia}
+use Rattle.formatter.proofs.Comments.{no_trivia, empty_is}
 use Rattle.formatter.proofs.Place
 use Rattle.formatter.proofs.Place.{token_here, tokens_next, tokens_here, stands, leading_is, trailing_is, in_rows, leads, ahead}
 
@@ -68,15 +67,6 @@ pub record Calls (z : Given) (token : TokenAt) (f g : CodeState) (r close b : Bo
   pub armed : Armed z token f g r close b g₂
   pub trailed : Trailed (trivia_in g₂.form.source.rows.now g₂.form.source.text.now (token.own + 16) token.next) b g₂ g₃
   pub tracked : Done (update (track_fn_state (kind_number token.kind))) g₃ g₄
-
--- A token without leading rows has no leading trivia.
-empty_is : (rows text : List ℕ) (from to : ℕ) → WholeRows rows text from to → eqb from to ≡ is_empty (trivia_in rows text from to)
-unfolding first_rows
-empty_is rows text from to π = go ((to - from) / 16) π.whole
-  where
-    go : (n : ℕ) → to ≡ from + 16 * n → eqb from to ≡ is_empty (map (trivia_of text) (first_rows n (drop from rows)))
-    go zero e = eq-eqb from to (omega arith)
-    go (suc n) e = ne_eqb from to (λ x. omega arith)
 
 -- No locals are set.
 abbrev pub quiet : Locals

@@ -7,7 +7,7 @@ ghost use Rattle.formatter.specs.Format.{RowsLeft, only_tokens};
 ghost use Rattle.formatter.specs.FastBraces.{MayStartFastBraces, LaysFastBraces};
 
 use crate::{FnState, Formatter, InlineDepth};
-use rows::{Kind, ROW_BYTES, row_at};
+use rows::{Kind, ROW_BYTES, Rows, row_at};
 use sink::write::Sink;
 
 impl<'a> Formatter<'a> {
@@ -50,16 +50,15 @@ impl<'a> Formatter<'a> {
         requires rows_bound { self.old.inline_depth.0 + length self.old.source.rows.now < past64 }
         ensures { LaysFastBraces (code_state self.old sink.old) from result (code_state self.new sink.new) }
     {
-        let rows = self.source.rows;
         let mut at = from;
         let mut prev = self.prev.unwrap_or(Kind::Eof);
         let mut depth = self.inline_depth.0;
         let mut closed = self.just_closed_inline;
-        while ROW_BYTES <= rows.len() - at {
+        for row in Rows::of(&self.source.rows[from..]) {
             if !takes_brace(depth, sink.room()) {
                 break;
             }
-            match row_at(rows, at).token_kind() {
+            match row.token_kind() {
                 Kind::LeftBrace => {
                     sink.put_token(1, b"{");
                     prev = Kind::LeftBrace;

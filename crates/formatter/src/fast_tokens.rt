@@ -82,6 +82,7 @@ impl<'a> Formatter<'a> {
         let mut at = from;
         let mut prev = self.prev.unwrap_or(Kind::Eof) as u32;
         let mut spaced = bit(loose, prev);
+        // No iterator over rows: the row after the one at hand is looked at too, and the index is the answer.
         while is_fast_token(fast, rows, at, bare, sink.room(), spaced) {
             let row = row_at(rows, at);
             let space = space_before(spaced, row.kind);

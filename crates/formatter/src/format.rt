@@ -29,6 +29,7 @@ impl<'a> Formatter<'a> {
     {
         self.ends = ends_of(self.source.rows, self.options.list_width);
         let mut place = Place { at: 0, index: 0 };
+        // No iterator over rows: a token takes as many rows as it has.
         while place.at < self.source.rows.len() {
             let token = token_at(self.source.rows, place.at, place.index, self.bare);
             self.push_token(sink, token)?;

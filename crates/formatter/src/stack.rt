@@ -29,6 +29,7 @@ impl Model for Stack {
 
 impl Stack {
     // The empty stack.
+    #[tactic(auto, unfolding(crate::specs::Stack::top_first))]
     pub fn new() -> Self
         ensures { result ≡ [] }
     {
@@ -39,6 +40,7 @@ impl Stack {
     }
 
     // Whether no depth is there.
+    #[tactic(auto, using(crate::proofs::Entries::top_length))]
     pub fn is_empty(&self) -> bool
         ensures { result ≡ eqb (length self.now) 0 }
     {
@@ -46,6 +48,7 @@ impl Stack {
     }
 
     // Whether there is no room for one more.
+    #[tactic(auto, using(crate::proofs::Entries::top_length))]
     pub fn is_full(&self) -> bool
         ensures { result ≡ leb stack_size (length self.now) }
     {
@@ -53,6 +56,7 @@ impl Stack {
     }
 
     // Whether the last depth is this one.
+    #[tactic(auto, using(crate::proofs::Entries::top_is, crate::proofs::Entries::top_isnt))]
     pub fn has_last(&self, depth: usize) -> bool
         ensures { result ≡ is_at (head? self.now) depth }
     {
@@ -60,6 +64,7 @@ impl Stack {
     }
 
     // Puts a depth on the stack. A full one stays as it is.
+    #[tactic(auto, using(crate::proofs::Entries::top_length, crate::proofs::Entries::top_pushed))]
     pub fn push(&mut self, depth: u32)
         ensures { self.new ≡ cond (ltb (length self.old) stack_size) (depth ∷ self.old) self.old }
     {
@@ -70,6 +75,7 @@ impl Stack {
     }
 
     // Takes the last depth away, if there is one.
+    #[tactic(auto, using(crate::proofs::Entries::top_popped))]
     pub fn pop(&mut self)
         ensures { self.new ≡ drop 1 self.old }
     {

@@ -7,7 +7,7 @@ ghost use Rattle.formatter.specs.Format.{Ending, NextToken, TokenRows, run_rows,
 
 use crate::{Ends, TokenAt};
 use lookahead::{after_last, total_width};
-use rows::{Kind, ROW_BYTES, What, row_at};
+use rows::{Kind, ROW_BYTES, Rows, What, row_at};
 
 // Where a token's rows start, and its index among the tokens.
 #[derive(Clone, Copy)]
@@ -58,8 +58,9 @@ fn rows_end(rows: &[u8], at: usize, what: What) -> usize
     ensures { result ≡ at + row_size * run_rows (what_number what) (rows_of (drop at rows.now)) }
 {
     let mut end = at;
-    while ROW_BYTES <= rows.len() - end {
-        if row_at(rows, end).what != what as u32 {
+    // `take_while` and `count`, or `position`, take 4 in 100 more where there are comments.
+    for row in Rows::of(&rows[at..]) {
+        if row.what != what as u32 {
             return end;
         }
         end += ROW_BYTES;
@@ -69,6 +70,7 @@ fn rows_end(rows: &[u8], at: usize, what: What) -> usize
 
 // Finds where the last Comma and the last `}` stand in the rows, and how wide all tokens are. Few rows are
 // not searched.
+#[tactic(auto, using(lookahead::proofs::Lacks::none_after, lookahead::proofs::Narrow::width_part))]
 pub fn ends_of(rows: &[u8], list_width: u32) -> Ends
     requires { length rows.now ≤ most_row_bytes }
     ensures { Ending rows.now result }
@@ -94,6 +96,7 @@ pub fn ends_of(rows: &[u8], list_width: u32) -> Ends
 }
 
 // What is told of rows in which nothing was looked for.
+#[tactic(auto, using(lookahead::proofs::Lacks::none_left))]
 pub fn ends_not_sought(rows: &[u8]) -> Ends
     ensures { Ending rows.now result }
 {

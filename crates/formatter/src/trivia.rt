@@ -12,7 +12,7 @@ ghost use Rattle.formatter.specs.Trivia.{WholeRows, trivia_in, lead_token, trail
 
 use crate::{Formatter, TokenAt};
 use row_writers::comments::{write_blank_line, write_lead, write_trail};
-use rows::{ROW_BYTES, Row, row_at};
+use rows::{ROW_BYTES, Row, Rows};
 use sink::write::Sink;
 
 impl<'a> Formatter<'a> {
@@ -27,11 +27,8 @@ impl<'a> Formatter<'a> {
             self.old sink.old self.new sink.new }
     {
         let rows = self.source.rows;
-        let end = token.own;
-        let mut at = token.lead;
-        while at < end {
-            self.push_lead(sink, row_at(rows, at));
-            at += ROW_BYTES;
+        for row in Rows::of(&rows[token.lead..token.own]) {
+            self.push_lead(sink, row);
         }
     }
 
@@ -63,11 +60,8 @@ impl<'a> Formatter<'a> {
     {
         let rows = self.source.rows;
         let text = self.source.text;
-        let end = token.next;
-        let mut at = token.own + ROW_BYTES;
-        while at < end {
-            push_trail(sink, text, row_at(rows, at));
-            at += ROW_BYTES;
+        for row in Rows::of(&rows[token.own + ROW_BYTES..token.next]) {
+            push_trail(sink, text, row);
         }
     }
 }

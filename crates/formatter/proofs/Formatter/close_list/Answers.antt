@@ -1,13 +1,11 @@
 -- `formatter::Formatter::close_list` meets its contract. Assumes nothing.
 use mathlib.Core.Path.{refl, sym}
-use Rattle.definition.specs.Emit.{on_new_line}
-use Rattle.formatter.specs.CodeState.{options_of}
 use Rattle.formatter.proofs.Does.{closing}
 use Rattle.formatter.proofs.Formatter.close_list.Goals as goal
 
 pub returns : goal.returns
 returns c = λ x.
-    closing (on_new_line (options_of c.args.self.now.options)) _
+    closing _ _
     c.args.wanted refl
     (sym (rw (c.pop.ensures, c.saturating_sub-self.ensures, c.saturating_sub-self-2.ensures)))
     (rw c.count_comma.ensures.0)

@@ -1,10 +1,8 @@
 -- `formatter::Formatter::close_record` meets its contract. Assumes nothing.
 use mathlib.Core.Bool.{◌||◌}
 use mathlib.Core.Path.{refl, sym}
-use Rattle.shared.specs.Bytes.{right_brace}
 use Rattle.rows.specs.Kinds.{Comma, LeftBrace}
-use Rattle.definition.specs.Emit.{prev_is, on_new_line}
-use Rattle.formatter.specs.CodeState.{options_of}
+use Rattle.definition.specs.Emit.{prev_is}
 use Rattle.formatter.proofs.Does.{closing, picked}
 use Rattle.formatter.proofs.Formatter.close_record.Goals as goal
 
@@ -13,7 +11,6 @@ returns c = λ x.
     picked
     (λ f. prev_is Comma f || prev_is LeftBrace f) c.wants_record_comma-wanted.result
     c.wants_record_comma-wanted.ensures
-    (closing (on_new_line (options_of c.args.self.now.options))
-    right_brace c.wants_record_comma-wanted.result refl (sym (rw c.saturating_sub-self.ensures))
+    (closing _ _ c.wants_record_comma-wanted.result refl (sym (rw c.saturating_sub-self.ensures))
     (rw c.count_comma.ensures.0)
     (rw (← c.saturating_sub-self.ensures, ← c.indent_size-spaces.ensures.0) c.write_closer.ensures))

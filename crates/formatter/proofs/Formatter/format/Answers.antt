@@ -1,14 +1,13 @@
 -- `formatter::Formatter::format` meets its contract. Assumes nothing.
 use mathlib.Core.Path.{ap}
-use Prim.Native.Nat.{◌<◌}
 use native.Mathlib.Omega.{arith}
 use lib.ListN.{length}
 use Rattle.formatter.specs.CodeState.{CodeState, code_state}
 use Rattle.formatter.proofs.Going.{laid_done}
-use Rattle.formatter.proofs.Loop.{Loop, begins, rows_same, next_token_there, refused_as, next_there_too, next-bounds, placed, further}
+use Rattle.formatter.proofs.Loop.{Loop, begins, rows_same, next_token_there, refused_as, next_there_too, next-bounds, placed}
 use Rattle.formatter.proofs.Loop.{rows_left, boundary_there, past_fast_tokens, fast_braces_place, fast_braces_rows, fast_braces_depth, past_fast_braces}
 use Rattle.formatter.proofs.Formatter.format.Goals as goal
-use Rattle.formatter.proofs.Formatter.format.Goals.{After-loop-place, In_ok-push_token, After-next_place-place}
+use Rattle.formatter.proofs.Formatter.format.Goals.{After-next_place-place}
 
 -- The state in which the loop begins.
 abbrev first : After-next_place-place → CodeState
@@ -18,12 +17,6 @@ first c = code_state (record c.args.self.now { ends = c.ends_of-self.result }) c
 at_place : (c : After-next_place-place) → Loop (first c) c.next_place-place.result.index c.next_place-place.result.at (code_state c.push_token.new.self c.push_token.new.sink)
 at_place c =
     placed c.requires.fresh.1 c.requires.checked_rows c.ends_of-self.ensures c.loop-place.invariant c.loop-place-test.true c.token_at-token.ensures
-    c.push_token.ensures c.in_ok-push_token.was c.next_place-place.ensures
-
--- The next place lies further on.
-is_further : (c : After-next_place-place) → c.loop-place.place.at < c.next_place-place.result.at
-is_further c =
-    further c.requires.fresh.1 c.requires.checked_rows c.ends_of-self.ensures c.loop-place.invariant c.loop-place-test.true c.token_at-token.ensures
     c.push_token.ensures c.in_ok-push_token.was c.next_place-place.ensures
 
 -- ---- the answers

@@ -2,7 +2,7 @@
 use mathlib.Core.Path.{◌∙◌}
 use Rattle.definition.specs.Arms.{left_bracket_arm}
 use Rattle.formatter.specs.CodeState.{options_of}
-use Rattle.formatter.proofs.Does.{yes, no, told}
+use Rattle.formatter.proofs.Does.{yes, told, unless}
 use Rattle.formatter.proofs.Groups.{bracket_room}
 use Rattle.formatter.proofs.Formatter.left_bracket_arm.Goals as goal
 
@@ -19,6 +19,5 @@ returns-then-breaks_list c = λ t ts σ v x.
 pub returns-else-breaks_list : goal.returns-else-breaks_list
 unfolding left_bracket_arm
 returns-else-breaks_list c = λ t ts σ v x.
-    no
-    (λ n. told (c.breaks_list.ensures t ts σ) c.if-breaks_list.false)
+    unless (c.breaks_list.ensures t ts σ) c.if-breaks_list.false
     (rw (σ.kind, σ.lexeme, c.requires.kind_value) (c.open_group.ensures x))

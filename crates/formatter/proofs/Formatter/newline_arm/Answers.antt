@@ -6,14 +6,14 @@ use Rattle.definition.proofs.Said.{said}
 use Rattle.sink.proofs.Appends.{nothing}
 use Rattle.formatter.specs.Parts.{feeds_line}
 use Rattle.formatter.specs.CodeState.{code_state, state_of}
-use Rattle.formatter.proofs.Does.{told, yes, no, stays, does, updated}
+use Rattle.formatter.proofs.Does.{told, yes, no, stays, does, updated, when}
 use Rattle.formatter.proofs.Looked.{looked_after}
 use Rattle.formatter.proofs.Newlines.{newline}
 use Rattle.formatter.proofs.Formatter.newline_arm.Goals as goal
 
 pub returns-then-suppresses : goal.returns-then-suppresses
 unfolding newline_arm
-returns-then-suppresses c = λ t ts σ x. yes (λ n. told c.suppresses.ensures c.if-suppresses.true) (updated refl refl refl nothing)
+returns-then-suppresses c = λ t ts σ x. when c.suppresses.ensures c.if-suppresses.true (updated refl refl refl nothing)
 
 pub returns-then-feeds : goal.returns-then-feeds
 unfolding run said

@@ -15,15 +15,13 @@ use mathlib.Core.Path.{refl}
 use borrow.Author.Rules.{rules}
 use Rattle.formatter.proofs.Formatter.push_lead.Goals as goal
 
-pub returns-then-is_blank_line : goal.returns-then-is_blank_line
+pub returns-then-is_blank_line-clause-does : goal.returns-then-is_blank_line-clause-does
 unfolding run said
-returns-then-is_blank_line c = record {
-  does = λ x. rw (blank_row c.args.self.now.source.text.now (row_of c.args.row) (search rules)) (does_then {a = comment (λ f. cond f.in_record [] line_feed)} {g = set_at_line_start true} {x = x} {p = code_state c.args.self.now c.args.sink.now} refl refl refl c.write_blank_line.ensures);
-  indent = refl;
-}
+returns-then-is_blank_line-clause-does c = λ x.
+    rw (blank_row c.args.self.now.source.text.now (row_of c.args.row) (search rules))
+    (does_then {a = comment (λ f. cond f.in_record [] line_feed)} {g = set_at_line_start true} {x = x} {p = code_state c.args.self.now c.args.sink.now} refl refl refl c.write_blank_line.ensures)
 
-pub returns : goal.returns
-returns c = record {
-  does = λ x. lead-comment (options_of c.args.self.now.options) c.args.self.now.source.text.now (row_of c.args.row) (search rules) refl refl refl (gapped _ _ _ (indent_or_space_lem (options_of c.args.self.now.options) (formatter_of c.args.self.now x)) c.indent_or_space-gap.ensures.0 (and_then c.write_spaces.ensures c.write_lead.ensures));
-  indent = refl;
-}
+pub returns-clause-does : goal.returns-clause-does
+returns-clause-does c = λ x.
+    lead-comment (options_of c.args.self.now.options) _ (row_of c.args.row) (search rules) refl refl refl
+    (gapped _ _ _ (indent_or_space_lem (options_of c.args.self.now.options) (formatter_of c.args.self.now x)) c.indent_or_space-gap.ensures.0 (and_then c.write_spaces.ensures c.write_lead.ensures))

@@ -1,10 +1,7 @@
+use Rattle.rows.specs.RowsLeft.{rows_left}
 use Rattle.formatter.specs.CodeState.{code_state}
 use Rattle.formatter.proofs.Comments.{LeadsLeft}
-use Prim.Native.Nat.{◌-◌}
 use Rattle.formatter.proofs.Formatter.push_leading.Given as goal
 
-abbrev pub invariant-loop-at : goal.invariant-loop-at
-invariant-loop-at l = LeadsLeft l.initial.at l.end (code_state l.initial.self l.initial.sink) l.at (code_state l.self l.sink)
-
-abbrev pub decreases-loop-at : goal.decreases-loop-at
-decreases-loop-at l = l.end - l.at
+abbrev pub invariant-loop-row : goal.invariant-loop-row
+invariant-loop-row l = LeadsLeft (rows_left l.initial.row-iterator) (rows_left l.row-iterator) (code_state l.fn.self l.fn.sink) (code_state l.self l.sink)

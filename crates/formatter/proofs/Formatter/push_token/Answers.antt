@@ -61,13 +61,7 @@ CallsAt c =
 calls : (c : After-track_fn_state) → CallsAt c
 calls c =
     record {
-      armed = record {
-        overflow = c.overflows.ensures;
-        calm = c.if-overflows.false;
-        taken = c.takes_inline_close-inline_close.ensures;
-        trailing = c.writes_trailing-trails.ensures;
-        arms = c.push_arm.ensures;
-      };
+      armed = armed (goal.at.After-track_fn_state c).After-push_arm;
       trailed = elim c.if-trails.branch [
         | then-trails w ↦ written w.if-trails.true (rw w.sink-is w.push_trailing.ensures)
         | else-trails w ↦ left_out w.if-trails.false (rw w.sink-is)

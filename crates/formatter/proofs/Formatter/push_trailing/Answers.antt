@@ -1,12 +1,19 @@
 -- `formatter::Formatter::push_trailing` meets its contract. Assumes nothing.
-use Rattle.formatter.proofs.Comments.{row_inside, trails-after, trails_done}
+use mathlib.Core.Path.{ap, ◌∙◌}
+use Rattle.rows.specs.RowsLeft.{rows_left}
+use Rattle.formatter.proofs.Comments.{slice_bounds, slice_trivia, bounds-first, trails_start, trails_more, trails_done}
 use Rattle.formatter.proofs.Formatter.push_trailing.Goals as goal
 
-pub push_trail-requires : goal.push_trail-requires
-push_trail-requires c = row_inside c.loop-at.invariant.part c.loop-at-test.true c.row_at.ensures
+pub loop-row-init : goal.loop-row-init
+loop-row-init c = trails_start (slice_bounds c.requires (ap rows_left c.into_iter-row-iterator.ensures.into_iter_gives ∙ c.of-row-items.ensures))
 
-pub loop-at-preserved : goal.loop-at-preserved
-loop-at-preserved c = trails-after c.loop-at.invariant c.loop-at-test.true c.row_at.ensures c.push_trail.ensures
+pub push_trail-requires : goal.push_trail-requires
+push_trail-requires c = (bounds-first c.loop-row.invariant.bounds c.in-Some.ensures.steps).0
+
+pub loop-row-preserved : goal.loop-row-preserved
+loop-row-preserved c = trails_more c.loop-row.invariant c.in-Some.ensures.steps c.push_trail.ensures
 
 pub returns : goal.returns
-returns c = trails_done c.loop-at.invariant c.loop-at-test.false
+returns c =
+    rw (← slice_trivia c.requires (ap rows_left c.into_iter-row-iterator.ensures.into_iter_gives ∙ c.of-row-items.ensures))
+    (trails_done c.loop-row.invariant c.in-None.ensures.steps.0)
