@@ -1,5 +1,5 @@
 -- The digits that an input begins with are a numeral. Assumes nothing.
-use Rattle.std.proofs.Common.{◌≡◌, ℕ, ◌+◌, ◌<◌, ◌≤◌, ◌==◌, Bool, true, false, cond, List, [], ◌∷◌, length, take, drop, refl, arith, ap, subst, ◌∙◌, length-drop, drop-drop, Bor}
+use Rattle.std.proofs.Common.{◌≡◌, ℕ, ◌+◌, ◌<◌, ◌≤◌, ◌==◌, Bool, true, false, cond, List, [], ◌∷◌, length, drop, refl, arith, ap, subst, ◌∙◌, length-drop, drop-drop, Bor}
 use Rattle.std.specs.Char.{is_ascii_digit, digit_value}
 use Rattle.std.specs.Str.Parse.{AllDigits, without_leading_plus, digits_value, ParsesUnsigned}
 use Rattle.std.proofs.lemmas.List.Sums.{take_while-cons}
@@ -23,11 +23,7 @@ all_digits (x ∷ xs) =
     rw (take_while-cons is_ascii_digit x xs)
     (elim (is_ascii_digit x) as P [ true ↦ λ e. (digit_small x e, all_digits xs) | false ↦ λ e. tt ] refl)
 
--- they are the first bytes, as many as they are
-pub digits_first : (l : List ℕ) → take (length (digits l)) l ≡ digits l
-digits_first l = rw (length-prefix_len is_ascii_digit l)
-
--- and no plus comes first
+-- no plus comes first
 no_plus : (x : ℕ) → digit_value x < 10 → (x == 43) ≡ false
 no_plus x h = grind (arith, common_steps)
 

@@ -15,6 +15,13 @@ ghost use Rattle.console.specs.Replay.{Replays};
 use std::io;
 use std::io::Read;
 
+// Fixed memory to read into.
+pub fn buffer<const N: usize>() -> [u8; N]
+    ensures { N ≡ length result }
+{
+    [0; N]
+}
+
 // Reads until `buf` is full or the input ends, and returns how many bytes were read. The count is what `read`
 // gives, so that no `for` goes over it.
 pub fn read_full(reader: &mut impl Read, buf: &mut [u8]) -> io::Result<usize>
