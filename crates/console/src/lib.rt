@@ -1,10 +1,26 @@
 // What the programs share: they read standard input into fixed memory, and the replays take cases off it.
 #![tactic(auto)]
 
-ghost use Rattle.std.specs.Prelude.{if◌then◌else◌, ◌≡◌, ◌≤◌, ◌<◌, leb, length, take, drop, is_some, IfOk, OnSome, MatchOption};
+ghost use Rattle.std.specs.Prelude.{if◌then◌else◌, ◌≡◌, ◌+◌, ◌≤◌, ◌<◌, leb, length, take, drop, is_some};
+ghost use Rattle.std.specs.Prelude.{IfOk, IfSome, OnSome, SomeIff, MatchOption};
+ghost use Rattle.std.specs.Char.{is_ascii_digit};
+ghost use Rattle.std.specs.Fn.{CalledAtMut};
+ghost use Rattle.std.specs.Int.{w32, from_le_bytes};
+ghost use Rattle.std.specs.List.{prefix_len};
+ghost use Rattle.std.specs.Str.Parse.{digits_value};
+ghost use Rattle.console.specs.declared.Left.{Left};
+ghost use Rattle.console.specs.Number.{digits, HasNumber};
+ghost use Rattle.console.specs.Replay.{Replays};
 
 use std::io;
 use std::io::Read;
+
+// Fixed memory to read into.
+pub fn buffer<const N: usize>() -> [u8; N]
+    ensures { N ≡ length result }
+{
+    [0; N]
+}
 
 // Reads until `buf` is full or the input ends, and returns how many bytes were read. The count is what `read`
 // gives, so that no `for` goes over it.
@@ -41,11 +57,15 @@ impl<'a> Left<'a> {
         Some(taken)
     }
 
-    // Takes the next decimal number, and the byte after it.
+    // Takes the next decimal number, and the byte after it. The digits are taken also where there is none.
     pub fn number(&mut self) -> Option<usize>
-        ensures { OnSome result (length self.new.bytes.now < length self.old.bytes.now) }
+        ensures value { SomeIff result (HasNumber self.old.bytes.now)
+            (digits_value 10 (digits self.old.bytes.now)) }
+        ensures left { self.new.bytes.now
+            ≡ drop (length (digits self.old.bytes.now) + 1) self.old.bytes.now }
+        ensures shorter { OnSome result (length self.new.bytes.now < length self.old.bytes.now) }
     {
-        let size = self.bytes.iter().take_while(|b| b.is_ascii_digit()).count();
+        let size = digits_len(self.bytes);
         let digits = str::from_utf8(self.take(size)?).ok()?;
         self.take(1)?;
         let number = digits.parse().ok()?;
@@ -55,6 +75,7 @@ impl<'a> Left<'a> {
     // Takes the next 32-bit number, its lowest byte first.
     pub fn number_32(&mut self) -> Option<u32>
         ensures taken { is_some result ≡ leb 4 (length self.old.bytes.now) }
+        ensures value { IfSome result (λ n. n ≡ from_le_bytes w32 (take 4 self.old.bytes.now)) }
         ensures left { self.new.bytes.now
             ≡ (if is_some result then drop 4 self.old.bytes.now else self.old.bytes.now) }
     {
@@ -64,12 +85,21 @@ impl<'a> Left<'a> {
     }
 }
 
+// Returns how many decimal digits come first.
+fn digits_len(bytes: &[u8]) -> usize
+    ensures { result ≡ prefix_len is_ascii_digit bytes.now }
+{
+    bytes.iter().take_while(|b| b.is_ascii_digit()).count()
+}
+
 // Runs case after case, until one is not whole. No case is empty, so that there are fewer of them than bytes.
 pub fn replay<F: FnMut(&mut Left<'_>) -> io::Result<bool>>(
     input: &[u8],
     mut case: F,
 ) -> io::Result<()>
     requires { F.IsAlwaysCallable case }
+    ensures { (left : Left) × (left.bytes.now ≡ input.now)
+        × Replays (CalledAtMut F.FnMut) (length input.now) case left result }
 {
     let mut left = Left { bytes: input };
     for _ in 0..input.len() {

@@ -8,13 +8,13 @@ abbrev pub is_report : List ℕ → Bool
 is_report xs = eqb (length xs) report_size
 
 -- What the door returns: the refusal or 0.
-unfoldable pub door_refusal : List ℕ → Report → ℕ
+abbrev pub door_refusal : List ℕ → Report → ℕ
 door_refusal xs r = cond (is_report xs) r.refusal report
 
 -- The report slice xs after it.
-unfoldable pub door_report : List ℕ → Report → List ℕ
+abbrev pub door_report : List ℕ → Report → List ℕ
 door_report xs r = cond (is_report xs) (report_bytes r) xs
 
 -- Another lent slice after it, which the call takes from `before` to `after`: refusal 11 comes first and changes nothing.
-unfoldable pub door_slice : List ℕ → List ℕ → List ℕ → List ℕ
+abbrev pub door_slice : List ℕ → List ℕ → List ℕ → List ℕ
 door_slice xs before after = cond (is_report xs) after before

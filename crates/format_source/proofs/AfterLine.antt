@@ -7,18 +7,14 @@ use native.Mathlib.Omega.{arith}
 use lib.Dec.{eqb, leb, ltb}
 use lib.ListN.{length, take, drop, length-append, length-take, length-drop, take-append-drop, drop_of_length-le}
 use lib.Seq.{take_all, drop_at}
-use borrow.Author.Tests.{eqb-true, leb-true, leb-false, lt-ltb, le-ltb, ltb-false}
+use borrow.Author.Tests.{eqb-true, leb-true, leb-false, ltb-false}
 use Rattle.shared.specs.Bytes.{line_feed}
 use Rattle.shared.specs.Lines.{first_line}
-use Rattle.shared.specs.Report.{Report, success, refuse, accepted, zeroed, option, ragged_rows, bad_row, deep, full}
+use Rattle.shared.specs.Report.{Report, option, ragged_rows, bad_row, deep}
 use Rattle.shared.proofs.Logic.{split, or_cases}
 use Rattle.rows.specs.Options.{default_style, default_indent_width, default_width}
 use Rattle.definition.specs.Layout.{Layout}
 use Rattle.definition.proofs.Laid.{layout-size, layout-fits, layout_unchanged}
-use Rattle.std.specs.Prelude.{Err}
-use Rattle.format_tokens.specs.declared.error.LayoutError.{LayoutError}
-use Rattle.format_tokens.specs.declared.error.LayoutError.TheVariants.{BadOption, RaggedRows, BadRow, Deep, Full}
-use Rattle.format_tokens.specs.Answer.{reported}
 use Rattle.format_source.specs.Source.{is_shebang, shebang, before_walk, with_line, after_line, default_layout, layout_source}
 use Rattle.format_source.proofs.Lines.{line_first_lem}
 
@@ -26,30 +22,6 @@ use Rattle.format_source.proofs.Lines.{line_first_lem}
 pub record Meets (l : Layout) (r : Report) (m : List ℕ) : Type 0 where
   pub answer : r ≡ l.report
   pub output : m ≡ l.out
-
--- ---- the line put first
-
--- an error is a refusal
-pub no_text : (e : LayoutError) → accepted (reported (Err e)) ≡ false
-no_text (BadOption position) = refl
-no_text RaggedRows = refl
-no_text (BadRow row) = refl
-no_text (Deep index) = refl
-no_text (Full index) = refl
-
-module _ (line : List ℕ) (l : Layout) (out : List ℕ) where
-  with_feed : length (line ++ line_feed) ≡ length line + 1
-  with_feed = length-append line line_feed
-
-  pub no_room : {m : List ℕ} → length out ≤ length line → m ≡ zeroed out → Meets (with_line (line ++ line_feed) l out) (refuse full 0) m
-  no_room h z = rw (lt-ltb (length out) (length (line ++ line_feed)) (rw with_feed (omega arith))) (record { answer = refl; output = z })
-
-  pub refused : {m : List ℕ} → length line < length out → accepted l.report ≡ false → m ≡ zeroed out → Meets (with_line (line ++ line_feed) l out) l.report m
-  refused h e z = rw (le-ltb (length out) (length (line ++ line_feed)) (rw with_feed (omega arith)), e) (record { answer = refl; output = z })
-
-  pub text-after : {n k p : ℕ} {m : List ℕ} → length line < length out → l.report ≡ success n k p → m ≡ (line ++ line_feed) ++ l.out
-      → Meets (with_line (line ++ line_feed) l out) (success (length line + 1 + n) k 0) m
-  text-after h e z = rw (le-ltb (length out) (length (line ++ line_feed)) (rw with_feed (omega arith)), e, with_feed) (record { answer = refl; output = z })
 
 -- ---- after any line, or none
 

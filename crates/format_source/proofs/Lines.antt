@@ -2,16 +2,13 @@
 use mathlib.Core.Bool.{Bool, true, false, cond, not, ◌&&◌, false≢true}
 use mathlib.Core.List.{List, [], ◌∷◌, ◌++◌}
 use mathlib.Core.Path.{◌≡◌, refl, sym, ap, ◌∙◌}
-use Prim.Native.Nat.{ℕ, suc, ◌+◌, ◌≤◌, ◌<◌}
-use native.Mathlib.Nat.{zero-add}
-use native.Mathlib.Numerals.{add-one}
+use Prim.Native.Nat.{ℕ, ◌≤◌, ◌<◌}
 use native.Mathlib.Omega.{arith}
 use lib.Dec.{eqb, ltb}
-use lib.ListN.{length, take, drop, set, get_or, length-set}
-use lib.Seq.{drop-cons, take-length, append_snoc, set-append_seam, paste-suc}
+use lib.ListN.{length, take, drop, get_or}
 use borrow.Author.Tests.{eq-eqb, ne_eqb, eqb-true, ltb-false}
 use Rattle.shared.proofs.Logic.{split}
-use Rattle.shared.specs.Bytes.{byte, line_feed}
+use Rattle.shared.specs.Bytes.{byte}
 use Rattle.shared.specs.Lines.{first_line}
 use Rattle.shared.proofs.Lines.{line_within}
 use Rattle.std.specs.Prelude.{Some, None}
@@ -27,12 +24,12 @@ unfolding first_line
 feed_at [] = refl
 feed_at (b ∷ s) = split (eqb b (byte "\n")) (λ e. rw e) (λ e. rw (e, feed_at s) (omega arith))
 
-line_len_le : (s : List ℕ) → length (first_line [] s) ≤ length s
-line_len_le s = line_within [] s (omega arith)
+pub line_within_source : (s : List ℕ) → length (first_line [] s) ≤ length s
+line_within_source s = line_within [] s (omega arith)
 
 pub line_end : (s : List ℕ) → let p = position_or_len (λ b. eqb b (byte "\n")) s in unwrap_or (cond (ltb p (length s)) (Some p) None) (length s) ≡ length (first_line [] s)
 line_end s =
-    let h = line_len_le s in
+    let h = line_within_source s in
     rw (feed_at s) (split (ltb (length (first_line [] s)) (length s)) (λ e. rw e)
     (λ e. let g = ltb-false (length (first_line [] s)) (length s) e in rw e (omega arith)))
 
@@ -53,7 +50,7 @@ unfolding first_line
 second [] = refl
 second (b ∷ s) = split (eqb b (byte "\n")) (λ e. rw (e, eqb-true b (byte "\n") e)) (λ e. rw (e, third s))
 
-pub shebang-bytes : (s : List ℕ) → is_shebang (first_line [] s) ≡ is_shebang s
+shebang-bytes : (s : List ℕ) → is_shebang (first_line [] s) ≡ is_shebang s
 unfolding first_line
 shebang-bytes [] = refl
 shebang-bytes (b ∷ s) = split (eqb b (byte "\n")) (λ e. rw (e, eqb-true b (byte "\n") e)) (λ e. rw (e, second s))
@@ -77,11 +74,14 @@ starts'' true = refl
 starts'' false = refl
 
 -- it begins with the two bytes, and not with the three
-pub shebang_starts : (s : List ℕ) → (starts_with eqb s (35 ∷ 33 ∷ []) && not (starts_with eqb s (35 ∷ 33 ∷ 91 ∷ []))) ≡ is_shebang s
+shebang_starts : (s : List ℕ) → (starts_with eqb s (35 ∷ 33 ∷ []) && not (starts_with eqb s (35 ∷ 33 ∷ 91 ∷ []))) ≡ is_shebang s
 shebang_starts [] = refl
 shebang_starts (a ∷ []) = rw (flip 35 a) (starts'' (eqb a 35))
 shebang_starts (a ∷ b ∷ []) = rw (flip 35 a, flip 33 b) (starts' (eqb a 35) (eqb b 33))
 shebang_starts (a ∷ b ∷ c ∷ s) = rw (flip 35 a, flip 33 b, flip 91 c) (starts (eqb a 35) (eqb b 33) (eqb c 91))
+
+pub shebang_said : (s : List ℕ) → (starts_with eqb s (35 ∷ 33 ∷ []) && not (starts_with eqb s (35 ∷ 33 ∷ 91 ∷ []))) ≡ is_shebang (first_line [] s)
+shebang_said s = shebang_starts s ∙ sym (shebang-bytes s)
 
 -- ---- the copy
 
@@ -91,20 +91,3 @@ pub record Copied (d s m : List ℕ) (i : ℕ) : Type 0 where
   pub within : i ≤ length s
   pub sized : length m ≡ length d
   pub copied : m ≡ take i s ++ drop i d
-
-pub copied_none : {d s : List ℕ} → length s < length d → Copied d s d 0
-copied_none h = record { room = h; within = omega arith; sized = refl; copied = refl }
-
-pub copied_more : {d s m : List ℕ} {i : ℕ} → Copied d s m i → i < length s → Copied d s (set m i (get_or s i 0)) (i + 1)
-copied_more {d} {s} {m} {i} κ h = record {
-  room = κ.room;
-  within = omega arith;
-  sized = length-set m i (get_or s i 0) ∙ κ.sized;
-  copied = let r = κ.room in rw (κ.copied, add-one i) (simp zero-add at (paste-suc d 0 s i 0 (omega arith) h));
-}
-
--- and the line feed after them
-pub copied_line : {d s m : List ℕ} {i : ℕ} → Copied d s m i → i ≡ length s → set m (length s) (byte "\n") ≡ (s ++ line_feed) ++ drop (length s + 1) d
-copied_line {d} {s} {m} {i} κ h =
-    rw (κ.copied, h, take-length s, add-one (length s), drop-cons d (length s) 0 κ.room, set-append_seam s (get_or d (length s) 0) (drop (suc (length s)) d) (byte "\n"))
-    (sym (append_snoc s (byte "\n") (drop (suc (length s)) d)))

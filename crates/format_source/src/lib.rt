@@ -50,6 +50,7 @@ pub fn format_source_with_shebang(
 }
 
 // Returns the length of the shebang line with its line feed, or 0 where there is none.
+#[tactic(auto, using(crate::proofs::Lines::line_within_source))]
 fn shebang_len(source: &[u8]) -> usize
     ensures { result ≡ length (shebang source.now) }
 {
@@ -60,6 +61,7 @@ fn shebang_len(source: &[u8]) -> usize
 }
 
 // Tells whether the first line begins `#!` and not `#![`.
+#[tactic(auto, using(crate::proofs::Lines::shebang_said))]
 fn is_shebang(source: &[u8]) -> bool
     ensures { result ≡ is_shebang (first_line [] source.now) }
 {

@@ -48,7 +48,7 @@ module _ {text : List ℕ} {at n : ℕ} (σ : Counts text at n) where
     unfolding count_from
     more = record { answer = σ.answer ∙ rw (head.reads, add-one); few = omega (arith, σ.few, head.after, head.some); within = head.within }
 
-pub ruleset counting = (start, finished)
+pub ruleset counting = (start, finished, unread)
 
 -- n is at least what was counted already
 least : (r : Reading) (k n : ℕ) → count_from k r ≡ success n 0 0 → k ≤ n

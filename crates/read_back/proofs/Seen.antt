@@ -1,5 +1,5 @@
 -- What a caller sees is the layout, and what it reads back. Assumes nothing.
-use mathlib.Core.Bool.{Bool, false}
+use mathlib.Core.Bool.{false}
 use mathlib.Core.List.{List}
 use mathlib.Core.Path.{◌≡◌, refl, sym, ap, subst, ◌∙◌}
 use Prim.Native.Nat.{ℕ, ◌≤◌}
@@ -35,11 +35,9 @@ fits-text out e φ = (rw e at φ) refl
 
 module _ (l : Layout) (e : l.report.refusal ≡ 0) where
   text-answer : (size : ℕ) → read_back_answer l size ≡ read_answer (text_of l) size
-  unfolding read_back_answer
   text-answer size = rw e
 
   text_slots : (space : List ℕ) → read_back_slots l space ≡ read_slots (text_of l) space
-  unfolding read_back_slots
   text_slots space = rw e
 
   came_back : {xs : List (List ℕ)} {read : Report} (space : List ℕ) {slots : List ℕ}
@@ -64,15 +62,11 @@ module _ (style indent signature list : ℕ) (rows text out : List ℕ) (laid : 
     slots_is : slots ≡ read_back_slots (layout style indent signature list rows text out) space
     slots_is = s ∙ ap (λ l. read_back_slots l space) seen_is
 
-    pub returned :
-        (read ≡ read_back_answer (layout style indent signature list rows text out) (length space))
-        × ((slots ≡ read_back_slots (layout style indent signature list rows text out) space)
-        × FirstHalfOf (lexemes rows text) (seen laid after) read space slots)
-    returned = (
-      read_is,
-      (
-        slots_is,
+    pub returned : FirstHalfOf (lexemes rows text) (seen laid after) read space slots
+    returned =
         subst (λ l. FirstHalfOf (lexemes rows text) l read space slots) (sym seen_is)
-            (λ p small room. came_back _ p.0 space read_is slots_is (first_half style indent signature list rows text out space p small room)),
-      ),
-    )
+        (λ p small room. came_back _ p.0 space read_is slots_is (first_half style indent signature list rows text out space p small room))
+
+pub ruleset laid_texts = (refused, fits-text)
+
+pub ruleset seen_layout = (seen-fits)

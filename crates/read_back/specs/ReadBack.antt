@@ -12,11 +12,11 @@ use Rattle.format_tokens.specs.Answer.{reported}
 -- ---- what is read
 
 -- The reading's answer, given space for so many numbers: that of the layout's text; after a refusal no pieces.
-unfoldable pub read_back_answer : Layout → ℕ → Report
+abbrev pub read_back_answer : Layout → ℕ → Report
 read_back_answer l size = cond (accepted l.report) (read_answer (text_of l) size) (success 0 0 0)
 
 -- The slice after it; after a refusal it is unchanged.
-unfoldable pub read_back_slots : Layout → List ℕ → List ℕ
+abbrev pub read_back_slots : Layout → List ℕ → List ℕ
 read_back_slots l space = cond (accepted l.report) (read_slots (text_of l) space) space
 
 -- ---- what a caller sees

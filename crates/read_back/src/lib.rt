@@ -22,6 +22,7 @@ pub struct ReadBack {
 
 // Lays out the tokens that `rows` name in `text`, then reads the text that was laid out: the start and the
 // end of each piece go into `pieces`.
+#[tactic(auto, using(crate::proofs::Seen::seen_layout))]
 pub fn format_and_read_back(
     style: u32,
     indent_width: u32,
@@ -62,6 +63,7 @@ pub fn format_and_read_back(
 }
 
 // Reads the text that a layout left in `out` into `pieces`. After a refusal it reads nothing.
+#[tactic(auto, using(crate::proofs::Seen::laid_texts))]
 fn read_laid(
     laid: Result<Text, LayoutError>,
     out: &[u8],

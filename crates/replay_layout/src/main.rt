@@ -2,9 +2,7 @@
 // tests/make_replay_layout.py makes them and, from format.rs and from the specification, what is expected.
 #![tactic(auto)]
 
-ghost use Rattle.std.specs.Prelude.{◌≡◌, length};
-
-use console::{Left, read_full, replay};
+use console::{Left, buffer, read_full, replay};
 use format_source::format_source_with_shebang;
 use format_tokens::{LayoutError, Text, format_tokens_with};
 use rows::ROW_BYTES;
@@ -12,21 +10,15 @@ use shared::refusal::Refused;
 use std::io;
 
 fn main(rt: HostRuntime) -> io::Result<()> {
-    let mut input = buffer();
-    let mut rows = buffer();
+    let mut input = buffer::<1048576>();
+    // Room for 65,536 rows, one more than a layout takes.
+    let mut rows = buffer::<1048576>();
     let mut out = [0u8; 65536];
     let size = read_full(&mut rt.reader(), &mut input)?;
     replay(
         &input[..size],
         |left| replay_case(&rt, left, &mut rows, &mut out),
     )
-}
-
-// Room for 65,536 rows, one more than a layout takes.
-fn buffer() -> [u8; 1048576]
-    ensures { 1048576 ≡ length result }
-{
-    [0; 1048576]
 }
 
 // Which call a case makes.

@@ -3,9 +3,7 @@
 // is expected.
 #![tactic(auto)]
 
-ghost use Rattle.std.specs.Prelude.{◌≡◌, length};
-
-use console::{Left, read_full, replay};
+use console::{Left, buffer, read_full, replay};
 use lookahead::{
     block_is_single_line, group_measure, next_has_comment, should_break_list, should_break_sig,
     sig_measure,
@@ -17,15 +15,9 @@ use std::io;
 
 fn main(rt: HostRuntime) -> io::Result<()> {
     print_spaces(&rt)?;
-    let mut input = buffer();
+    let mut input = buffer::<262144>();
     let size = read_full(&mut rt.reader(), &mut input)?;
     replay(&input[..size], |left| replay_case(&rt, left))
-}
-
-fn buffer() -> [u8; 262144]
-    ensures { 262144 ≡ length result }
-{
-    [0; 262144]
 }
 
 // Writes for every pair of the kinds 0 to 36 whether a space is needed, or the place of an unknown kind.

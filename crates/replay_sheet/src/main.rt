@@ -2,15 +2,13 @@
 // tests/make_replay_sheet.py makes the sheets and, by its own reading of the specification, what is expected.
 #![tactic(auto)]
 
-ghost use Rattle.std.specs.Prelude.{◌≡◌, length};
-
-use console::{Left, read_full, replay};
+use console::{Left, buffer, read_full, replay};
 use shared::refusal::Refused;
 use sheet::{SheetSize, read_sheet};
 use std::io;
 
 fn main(rt: HostRuntime) -> io::Result<()> {
-    let mut input = buffer();
+    let mut input = buffer::<1048576>();
     let mut rows = [0u8; 65536];
     let mut text = [0u8; 65536];
     let size = read_full(&mut rt.reader(), &mut input)?;
@@ -18,12 +16,6 @@ fn main(rt: HostRuntime) -> io::Result<()> {
         &input[..size],
         |left| replay_case(&rt, left, &mut rows, &mut text),
     )
-}
-
-fn buffer() -> [u8; 1048576]
-    ensures { 1048576 ≡ length result }
-{
-    [0; 1048576]
 }
 
 // A case: how many bytes the rows and the text have, and the sheet.

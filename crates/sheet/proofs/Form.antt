@@ -155,3 +155,5 @@ module _ (sheet : List ℕ) (at : ℕ) (h : at + 5 ≤ length sheet) where
         let two : at + 1 + 1 ≡ at + 2 = omega arith in
         onward sheet at (at + 2) r (after-what ∙ rw (line_here sheet (at + 1) (omega arith), e, two))
         (rest_more sheet at (omega arith) (what-solid (get_or sheet at 0) g) ∙ rest-space sheet (at + 1) (omega arith) 0 0 e ∙ rw two) (omega arith) σ
+
+pub ruleset head_forms = (head_short, head_other, head_unspaced, head-kind, what-small)

@@ -8,7 +8,7 @@ use native.Mathlib.Omega.{arith}
 use lib.ListN.{length, get_or}
 use borrow.Author.Tests.{ne_eqb}
 use Rattle.sink.specs.Sink.{Writes}
-use Rattle.sink.proofs.Sink.{nothing, and_then}
+use Rattle.sink.proofs.Sink.{and_then}
 use Rattle.sheet.specs.Line.{with_byte, text_of}
 use Rattle.sheet.specs.Steps.{line_at, after_at, Escapes, Texted}
 use Rattle.sheet.proofs.Cut.{line_none, line_here, line_more, rest_more, rest_feed}
@@ -65,9 +65,6 @@ pub record Scanned (sheet : List ℕ) (from : ℕ) (text₀ : List ℕ) (len : �
   pub after : from ≤ i
   pub within : i ≤ length sheet
   pub wrote : Writes text₀ len bs text m
-
-pub scan_start : {sheet : List ℕ} {from : ℕ} {text : List ℕ} {len : ℕ} → from ≤ length sheet → Scanned sheet from text len text from len
-scan_start h = record { bs = []; says = refl; rest = refl; after = omega arith; within = h; wrote = nothing }
 
 module _ {sheet : List ℕ} {from : ℕ} {text₀ : List ℕ} {len : ℕ} {text : List ℕ} {i m : ℕ} (σ : Scanned sheet from text₀ len text i m) where
   pub scan_out : length sheet ≤ i → text_of false (line_at sheet from) ≡ none

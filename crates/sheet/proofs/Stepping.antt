@@ -1,25 +1,22 @@
 -- A line from its head, its text and its row. Assumes nothing.
-use mathlib.Core.Bool.{Bool, true, false, cond, and-false}
+use mathlib.Core.Bool.{Bool, true, cond}
 use mathlib.Core.List.{List}
-use mathlib.Core.Option.{none}
 use mathlib.Core.Path.{◌≡◌, sym, ◌∙◌}
-use Prim.Native.Nat.{ℕ, ◌+◌, ◌*◌, ◌≤◌, ◌<◌}
+use Prim.Native.Nat.{ℕ, ◌+◌, ◌≤◌}
 use native.Mathlib.Omega.{arith}
-use lib.Dec.{leb}
 use lib.ListN.{length}
-use borrow.Author.Tests.{le-leb, lt-leb}
-use Rattle.rows.specs.Row.{row_size}
-use Rattle.sheet.specs.Line.{Line, bad, row, text_of, line_of}
+use borrow.Author.Tests.{le-leb}
+use Rattle.sheet.specs.Line.{Line, row, line_of}
 use Rattle.sheet.specs.Row.{row_fits, with_row}
 use Rattle.sheet.specs.Answer.{fits}
-use Rattle.sheet.specs.Steps.{line_at, Headed, HeadAt, Texted, TextAt, Stored, Unfit}
+use Rattle.sheet.specs.Steps.{line_at, Headed, HeadAt, Texted, TextAt, Stored}
 use Rattle.std.specs.Prelude.{Option, None, Some, Result, Ok}
 use Rattle.std.specs.Option.{ok_or}
 use Rattle.rows.specs.KindNumber.{what_number, kind_number}
 use Rattle.sheet.specs.declared.SheetError.{SheetError}
 use Rattle.sheet.specs.declared.line.Head.{Head}
 use Rattle.sheet.specs.declared.line.TextEnd.{TextEnd}
-use Rattle.sink.proofs.Sink.{wrote_sets, within-fits, past_over}
+use Rattle.sink.proofs.Sink.{wrote_sets, within-fits}
 
 -- a head, and a text, that `ok_or` hands on
 pub headed : {said : Line} {sheet : List ℕ} {at : ℕ} (e : SheetError) {h : Head} {r : Result Head SheetError} (o : Option Head) → r ≡ ok_or o e → r ≡ Ok h → HeadAt said sheet at o → Headed said sheet at (what_number h.what) (kind_number h.kind) h.from
@@ -30,21 +27,9 @@ pub texted : {sheet : List ℕ} {from : ℕ} {text : List ℕ} {len : ℕ} (e : 
 texted e {t = t} (Some k) p q τ = let same : k ≡ t = cc in rw same at τ
 texted e None p q τ = absurd cc
 
--- what no text tells
-pub text-bad : {said : Line} {at what kind : ℕ} (sheet : List ℕ) (from : ℕ) → text_of false (line_at sheet from) ≡ none → Headed said sheet at what kind from → said ≡ bad
-text-bad sheet from w η = η.says ∙ rw w
-
 module _ {sheet : List ℕ} {at : ℕ} (rows : List ℕ) (n : ℕ) {text : List ℕ} {len what kind from next end : ℕ} {text' : List ℕ} (η : Headed (line_of (line_at sheet at)) sheet at what kind from) (τ : Texted sheet from text len next end text') where
   said_row : line_of (line_at sheet at) ≡ row what kind τ.bs
   said_row = η.says ∙ rw τ.says
-
-  pub not_before : end ≤ length text → len ≤ end
-  not_before h = omega (arith, (τ.wrote.fits (within-fits τ.wrote h)).far)
-
-  pub unfit-text : length text < end → Unfit sheet at (length rows) n (length text) len
-  unfit-text h =
-      let o : length text < len + length τ.bs = past_over τ.wrote h in
-      record { what = what; kind = kind; bs = τ.bs; says = said_row; unfit = rw (lt-leb (len + length τ.bs) (length text) o) (and-false (leb (row_size * n + row_size) (length rows))) }
 
   module _ (h : end ≤ length text) {b : Bool} (f : b ≡ row_fits (length rows) n end) where
     room : len + length τ.bs ≤ length text
@@ -55,9 +40,6 @@ module _ {sheet : List ℕ} {at : ℕ} (rows : List ℕ) (n : ℕ) {text : List 
 
     fits_so : fits (length rows) (length text) n (len + length τ.bs) ≡ b
     fits_so = rw (le-leb (len + length τ.bs) (length text) room, ← ends_at) (sym f)
-
-    pub unfit-row : b ≡ false → Unfit sheet at (length rows) n (length text) len
-    unfit-row e = record { what = what; kind = kind; bs = τ.bs; says = said_row; unfit = fits_so ∙ e }
 
     pub stored : {rows' : List ℕ} → b ≡ true → rows' ≡ cond b (with_row rows n what kind len end) rows → Stored sheet at rows n text len next end rows' text'
     stored e p = record {
@@ -73,3 +55,5 @@ module _ {sheet : List ℕ} {at : ℕ} (rows : List ℕ) (n : ℕ) {text : List 
       after = omega (arith, η.after, τ.after);
       within = τ.within;
     }
+
+pub ruleset line_steps = (headed, texted, stored)

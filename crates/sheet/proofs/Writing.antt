@@ -1,22 +1,16 @@
 -- A row that is stored number by number. Assumes nothing.
-use mathlib.Core.Bool.{true}
 use mathlib.Core.List.{List, ◌++◌}
 use mathlib.Core.Path.{◌≡◌, ap, ◌∙◌}
-use Prim.Native.Nat.{ℕ, ◌+◌, ◌*◌, ◌≤◌}
+use Prim.Native.Nat.{ℕ, ◌+◌}
 use native.Mathlib.Omega.{arith}
 use lib.ListN.{length, length-append}
 use lib.Seq.{sets}
-use borrow.Author.Tests.{le-leb}
-use Rattle.shared.specs.Numbers.{most32}
 use mir.Syntax.{w32}
 use Rattle.std.specs.Int.{to_le_bytes}
 use Rattle.shared.proofs.LittleEndian.{length-little_endian, le_bytes}
 use Rattle.shared.proofs.Stores.{sets_after}
 use Rattle.rows.specs.Row.{row_size}
-use Rattle.sheet.specs.Row.{number, row_bytes, row_fits}
-
-pub row_fits_lem : (space n end : ℕ) → row_size * n + row_size ≤ space → end ≤ most32 → true ≡ row_fits space n end
-row_fits_lem space n end g h = rw (le-leb (row_size * n + row_size) space g, le-leb end most32 h)
+use Rattle.sheet.specs.Row.{number, row_bytes}
 
 pub row-size : (what kind start end : ℕ) → length (row_bytes what kind start end) ≡ row_size
 row-size what kind start end = simp (length-append, length-little_endian)

@@ -98,6 +98,7 @@ fn read_lines(sheet: &[u8], rows: &mut [u8], text: &mut [u8]) -> Result<SheetSiz
 
 // Reads the line at index `at` of `sheet`. Its row goes into `rows` after `n` rows, and its text into `text`
 // after `len` bytes.
+#[tactic(auto, using(crate::proofs::Stepping::line_steps))]
 fn read_line(
     sheet: &[u8],
     at: usize,

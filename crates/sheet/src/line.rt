@@ -28,6 +28,7 @@ pub struct TextEnd {
 const SHORTEST: usize = 5;
 
 // Reads the head of the line at index `at`, if it keeps its form.
+#[tactic(auto, using(crate::proofs::Form::head_forms))]
 pub fn head_at(sheet: &[u8], at: usize) -> Option<Head>
     requires { at ≤ length sheet.now }
     ensures { HeadAt (line_of (line_at sheet.now at)) sheet.now at result }

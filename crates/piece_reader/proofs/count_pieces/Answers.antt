@@ -1,11 +1,7 @@
 -- `piece_reader::count_pieces` meets its contract. Assumes nothing.
 use native.Mathlib.Omega.{arith}
-use borrow.Author.Rules.{rules}
-use Rattle.piece_reader.proofs.Counting.{unread, head, more}
+use Rattle.piece_reader.proofs.Counting.{head, more}
 use Rattle.piece_reader.proofs.count_pieces.Goals as goal
-
-pub returns-in_err-piece : goal.returns-in_err-piece
-returns-in_err-piece c = search (rules, unread)
 
 pub loop-piece-smaller : goal.loop-piece-smaller
 loop-piece-smaller c =

@@ -1,13 +1,7 @@
 -- `sheet::line::read_text` meets its contract. Assumes nothing.
 use borrow.Author.Rules.{rules}
-use Rattle.sheet.proofs.Scanning.{scan_start, scan_out, scan_feed, scan_wrong, scan_escaped, scan_plain}
+use Rattle.sheet.proofs.Scanning.{scan_out, scan_feed, scan_wrong, scan_escaped, scan_plain}
 use Rattle.sheet.proofs.line.read_text.Goals as goal
-
-pub loop-i-init : goal.loop-i-init
-loop-i-init c = scan_start (search rules)
-
-pub shape_of-text-then-b-eq10 : goal.shape_of-text-then-b-eq10
-shape_of-text-then-b-eq10 c = c.loop-i.invariant.wrote.size
 
 pub returns-then-b-eq10 : goal.returns-then-b-eq10
 returns-then-b-eq10 c = scan_feed c.loop-i.invariant c.loop-i-test.true c.if-b-eq10.true
@@ -21,9 +15,6 @@ loop-i-preserved-then-b-eq92 c =
 
 pub loop-i-preserved : goal.loop-i-preserved
 loop-i-preserved c = scan_plain c.loop-i.invariant c.loop-i-test.true c.if-b-eq10.false c.if-b-eq92.false c.write_byte-end-else-b-eq92.ensures
-
-pub shape_of-text : goal.shape_of-text
-shape_of-text c = c.loop-i.invariant.wrote.size
 
 pub returns : goal.returns
 returns c = scan_out c.loop-i.invariant (search rules)
