@@ -60,13 +60,13 @@ impl<'a> Formatter<'a> {
             }
             match row.token_kind() {
                 Kind::LeftBrace => {
-                    sink.put_token(1, b"{");
+                    sink.put_token(1, b"{", 0, 1);
                     prev = Kind::LeftBrace;
                     depth += 1;
                     closed = false;
                 }
                 Kind::RightBrace => {
-                    sink.put_token(usize::from(prev != Kind::LeftBrace), b"}");
+                    sink.put_token(usize::from(prev != Kind::LeftBrace), b"}", 0, 1);
                     prev = Kind::RightBrace;
                     depth -= 1;
                     closed = true;

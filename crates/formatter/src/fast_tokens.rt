@@ -86,7 +86,7 @@ impl<'a> Formatter<'a> {
         while is_fast_token(fast, rows, at, bare, sink.room(), spaced) {
             let row = row_at(rows, at);
             let space = space_before(spaced, row.kind);
-            sink.put_token(space, &text[row.start as usize..row.end as usize]);
+            sink.put_token(space, text, row.start as usize, row.end as usize);
             if bit(changing, row.kind) == 1 {
                 self.track_fast_token(Kind::of(prev), row.token_kind());
                 changing = changing_kinds(self.fn_state, self.record_pending);

@@ -3,8 +3,9 @@ use mathlib.Core.List.{List, [], ◌∷◌, ◌++◌, append_assoc}
 use mathlib.Core.Path.{◌≡◌, refl, sym, ◌∙◌}
 use Prim.Native.Nat.{ℕ, zero, suc, ◌+◌, ◌-◌, ◌≤◌, ◌<◌}
 use native.Mathlib.Omega.{arith}
-use lib.ListN.{length, take, set, get_or, replicate, length-append, length-set}
-use lib.Seq.{length-take-le, take-take, take-append-add}
+use native.Mathlib.Numerals.{add-one}
+use lib.ListN.{length, take, drop, set, get_or, replicate, length-append, length-set, length-take}
+use lib.Seq.{slice, slice_empty, length-slice, length-take-le, take-take, take-append-add, take-suc, drop-append-le}
 use Rattle.sink.specs.Sink.{Writes}
 use borrow.Rule.Slice.PartMut.{put_mid}
 use Rattle.sink.proofs.Sink.{later, one, fills}
@@ -56,29 +57,35 @@ over-byte l n b g h w = overwrite 0 (omega arith) (omega arith) (omega arith) (o
 
 -- ---- a lexeme over a space
 
-one_byte : (xs : List ℕ) → length xs ≡ 1 → xs ≡ get_or xs 0 0 ∷ []
-one_byte [] e = absurd (omega arith)
-one_byte (x ∷ []) e = refl
-one_byte (x ∷ y ∷ xs) e = absurd (omega arith)
+slice_more : (s e : ℕ) (l : List ℕ) → s ≤ e → e < length l → slice s (e + 1) l ≡ slice s e l ++ (get_or l e 0 ∷ [])
+slice_more s e l g h =
+    let f : s ≤ length (take e l) = omega (arith, length-take e l) in
+    rw (add-one e, take-suc l e 0 h) (drop-append-le s (take e l) (get_or l e 0 ∷ []) f)
 
-module _ (l xs : List ℕ) (n j : ℕ) (some : 0 < length xs) (space : j ≤ 1) (room : n + (j + length xs) ≤ length l) where
+slice_one : (s e : ℕ) (l : List ℕ) → e - s ≡ 1 → e ≤ length l → slice s e l ≡ get_or l s 0 ∷ []
+slice_one s e l g h =
+    let f : e ≡ s + 1 = omega arith in
+    rw (f, slice_more s s l (omega arith) (omega arith), slice_empty s l)
+
+module _ (l t : List ℕ) (n j s e : ℕ) (lexeme : (s < e) × (e ≤ length t)) (space : j ≤ 1) (room : n + (j + (e - s)) ≤ length l) where
   abbrev begun : List ℕ
-  begun = set (set l n 32) (n + j) (get_or xs 0 0)
+  begun = set (set l n 32) (n + j) (get_or t s 0)
 
   begun-size : length begun ≡ length l
-  begun-size = length-set (set l n 32) (n + j) (get_or xs 0 0) ∙ length-set l n 32
+  begun-size = length-set (set l n 32) (n + j) (get_or t s 0) ∙ length-set l n 32
 
   -- the lexeme's first byte is written by itself, and is the whole of it
-  pub put_one : length xs ≤ 1 → Writes l n (replicate j 32 ++ xs) begun (n + j + length xs)
+  pub put_one : e - s ≤ 1 → Writes l n (replicate j 32 ++ slice s e t) begun (n + j + (e - s))
   put_one h =
-      let d : length xs ≡ 1 = omega arith in
+      let d : e - s ≡ 1 = omega arith in
       let f = length-set l n 32 in
-      over-space j space (omega arith) some (rw (d, one_byte xs d) (one (omega arith)))
+      over-space j space (omega arith) (omega (arith, length-slice s e t lexeme.1)) (rw (d, slice_one s e t d lexeme.1) (one (omega arith)))
 
   -- the whole lexeme is copied over its first byte
-  pub put_more : {ys : List ℕ} → ys ≡ xs → Writes l n (replicate j 32 ++ xs) (put_mid (n + j) (n + j + length xs - (n + j)) begun ys) (n + j + length xs)
-  put_more e =
+  pub put_more : {ys : List ℕ} → ys ≡ slice s e t → Writes l n (replicate j 32 ++ slice s e t) (put_mid (n + j) (n + j + (e - s) - (n + j)) begun ys) (n + j + (e - s))
+  put_more y =
       let f = length-set l n 32 in
       let g = begun-size in
+      let z = length-slice s e t lexeme.1 in
       over-space j space (omega arith) (omega arith)
-      (over-byte (set l n 32) (n + j) (get_or xs 0 0) (omega arith) (omega arith) (fills (omega arith) (omega arith) (omega arith) e))
+      (over-byte (set l n 32) (n + j) (get_or t s 0) (omega arith) (omega arith) (fills (omega arith) (omega arith) (omega arith) y))

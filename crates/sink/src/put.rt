@@ -1,5 +1,6 @@
 // Puts bytes into a place of the lent output that has their length.
-ghost use Rattle.std.specs.Prelude.{◌≡◌, ◌++◌, ◌+◌, ◌≤◌, ◌<◌, length, replicate};
+ghost use Rattle.std.specs.Prelude.{◌≡◌, ◌++◌, ◌+◌, ◌-◌, ◌≤◌, ◌<◌, length, replicate};
+ghost use Rattle.std.proofs.Math.Seq.{slice};
 ghost use Rattle.sink.specs.Sink.{Writes, spaces};
 ghost use Rattle.sink.specs.Tail.{tail_bytes};
 
@@ -45,23 +46,32 @@ pub fn put_tail(place: &mut [u8], tail: Tail)
     }
 }
 
-// Puts a space or none after the first `len` bytes of an output, and the lexeme, which has one byte at least.
-// Answers the length after them. It is a function of the output and the length: as a method of the sink, it
-// would load both again after each byte that it stores.
-pub fn put_token(out: &mut [u8], len: usize, space: usize, lexeme: &[u8]) -> usize
-    requires some { 0 < length lexeme.now }
+// Puts a space or none after the first `len` bytes of an output, and the bytes of `text` from `start` to `end`,
+// of which there is one at least. Answers the length after them. It takes no sink and no part of the text: a
+// method of the sink would load its fields again after each byte that it stores, and with a part, identifiers
+// take 8 in 100 more and the small list misses its bar (docs/BENCHMARKS.md).
+pub fn put_token(
+    out: &mut [u8],
+    len: usize,
+    space: usize,
+    text: &[u8],
+    start: usize,
+    end: usize,
+) -> usize
+    requires start_lt_end { (start < end) × (end ≤ length text.now) }
     requires space_bound { space ≤ 1 }
-    requires fits { len + (space + length lexeme.now) ≤ length out.old }
-    ensures { Writes out.old len (spaces space ++ lexeme.now) out.new result }
+    requires start_in_bounds { len + (space + (end - start)) ≤ length out.old }
+    ensures { Writes out.old len (spaces space ++ slice start end text.now) out.new result }
 {
     // Where no space is wanted, the lexeme goes over it.
     out[len] = b' ';
     let at = len + space;
-    let next = at + lexeme.len();
+    let size = end - start;
+    let next = at + size;
     // A token of one byte needs no loop.
-    out[at] = lexeme[0];
-    if 1 < lexeme.len() {
-        copy(&mut out[at..next], lexeme);
+    out[at] = text[start];
+    if 1 < size {
+        copy(&mut out[at..next], &text[start..end]);
     }
     next
 }

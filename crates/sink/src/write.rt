@@ -1,6 +1,7 @@
 // The sink: a lent output and the length of the text in it so far. Each writer has one room test for all that
 // it writes. Where that does not fit, nothing is written, and the length is one past the output's end.
 ghost use Rattle.std.specs.Prelude.{cond, [], ◌∷◌, ◌++◌, ◌≡◌, ◌+◌, ◌-◌, ◌≤◌, ◌<◌, ltb, length, MatchBool};
+ghost use Rattle.std.proofs.Math.Seq.{slice};
 ghost use Rattle.shared.specs.Bytes.{comma, else_word, left_brace, left_paren, line_feed};
 ghost use Rattle.sink.specs.Sink.{Writes, spaces, count_comma, past_gap};
 ghost use Rattle.sink.specs.Appends.{Appends, Room};
@@ -43,14 +44,15 @@ impl<'a> Sink<'a> {
         self.out.len() - self.len
     }
 
-    // Puts a space or none, and the lexeme, which has one byte at least, where they are known to fit.
-    pub fn put_token(&mut self, space: usize, lexeme: &[u8])
-        requires some { 0 < length lexeme.now }
+    // Puts a space or none, and the bytes of `text` from `start` to `end`, of which there is one at least,
+    // where they are known to fit.
+    pub fn put_token(&mut self, space: usize, text: &[u8], start: usize, end: usize)
+        requires start_lt_end { (start < end) × (end ≤ length text.now) }
         requires space_bound { space ≤ 1 }
-        requires fits { self.old.len + (space + length lexeme.now) ≤ length self.old.out.now }
-        ensures { Appends self.old (spaces space ++ lexeme.now) self.new }
+        requires start_in_bounds { self.old.len + (space + (end - start)) ≤ length self.old.out.now }
+        ensures { Appends self.old (spaces space ++ slice start end text.now) self.new }
     {
-        self.len = put_token(self.out, self.len, space, lexeme);
+        self.len = put_token(self.out, self.len, space, text, start, end);
     }
 
     // Writes a gap, a lexeme and a tail.

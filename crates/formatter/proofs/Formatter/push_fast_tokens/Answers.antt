@@ -1,7 +1,6 @@
 -- `formatter::Formatter::push_fast_tokens` meets its contract. Assumes nothing.
 use mathlib.Core.Path.{◌≡◌, refl, ap, ◌∙◌}
 use Prim.Native.Nat.{◌≤◌}
-use Rattle.std.proofs.lemmas.Slice.{between_is}
 use Rattle.rows.specs.Kinds.{Other}
 use Rattle.rows.specs.KindNumber.{kind_number}
 use Rattle.rows.proofs.KindNumbers.{tag_is}
@@ -23,12 +22,11 @@ is_fast_token-requires-clause-row_ahead c =
     let α = c.loop-rows.invariant.so_far in
     λ h. (whole_row c.requires.checked α.head h, (α.head.whole, row_known c.requires.checked α.head h _ refl))
 
-pub slice_bounds-put_token-end : goal.slice_bounds-put_token-end
-slice_bounds-put_token-end c =
+pub put_token-requires-clause-start_lt_end : goal.put_token-requires-clause-start_lt_end
+put_token-requires-clause-start_lt_end c =
     let t = c.is_fast_token.ensures c.loop-rows-test.true in
     let i = c.loop-rows.invariant in
-    let f = taken-fits c.requires.checked i.so_far t.ahead t c.room.ensures (few c.requires.checked i) _ c.row_at-row.ensures c.space_before-space.ensures in
-    f.0.1
+    (taken-fits c.requires.checked i.so_far t.ahead t c.room.ensures (few c.requires.checked i) _ c.row_at-row.ensures c.space_before-space.ensures).0
 
 pub bit-requires : goal.bit-requires
 bit-requires c =
@@ -55,7 +53,6 @@ loop-rows-preserved c =
     let i = c.loop-rows.invariant in
     let ω = c.requires.checked in
     let known : c.row_at-row.result.kind ≤ Other = row_known ω i.so_far.head t.ahead _ c.row_at-row.ensures in
-    let written = rw (between_is c.args.self.now.source.text.now c.row_at-row.result.start c.row_at-row.result.end) at c.put_token.ensures in
     elim c.if-bit-eq1.branch [
       | then-bit-eq1 w ↦
           let τ = w.track_fast_token.ensures in
@@ -66,7 +63,7 @@ loop-rows-preserved c =
             state = rw (p, k) at τ.state;
             form = τ.form;
             given = τ.given;
-            sink = written;
+            sink = c.put_token.ensures;
             commas = τ.commas;
           })
           (ap (λ s. s.0) w.changing-is ∙ w.changing_kinds-changing-then-bit-eq1.ensures)
@@ -78,7 +75,7 @@ loop-rows-preserved c =
             state = unchanged ω i c.row_at-row.result.kind known (λ e. w.if-bit-eq1.false (c.bit.ensures ∙ e));
             form = λ x. refl;
             given = refl;
-            sink = written;
+            sink = c.put_token.ensures;
             commas = refl;
           })
           (ap (λ s. s.0) w.changing-is ∙ i.changing)

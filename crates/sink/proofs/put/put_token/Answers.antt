@@ -1,9 +1,15 @@
 -- `sink::put::put_token` meets its contract. Assumes nothing.
+use mathlib.Core.Path.{◌∙◌}
+use Rattle.std.proofs.lemmas.Slice.{between_is}
 use Rattle.sink.proofs.Over.{put_one, put_more}
 use Rattle.sink.proofs.put.put_token.Goals as goal
 
-pub returns-then-lexeme-gt1 : goal.returns-then-lexeme-gt1
-returns-then-lexeme-gt1 c = put_more c.args.out.now c.args.lexeme.now c.args.len c.args.space c.requires.some c.requires.space_bound c.requires.fits c.copy.ensures
+pub returns-then-size-gt1 : goal.returns-then-size-gt1
+returns-then-size-gt1 c =
+    put_more c.args.out.now c.args.text.now c.args.len c.args.space c.args.start c.args.end c.requires.start_lt_end c.requires.space_bound c.requires.start_in_bounds
+    (c.copy.ensures ∙ between_is c.args.text.now c.args.start c.args.end)
 
-pub returns-else-lexeme-gt1 : goal.returns-else-lexeme-gt1
-returns-else-lexeme-gt1 c = put_one c.args.out.now c.args.lexeme.now c.args.len c.args.space c.requires.some c.requires.space_bound c.requires.fits c.if-lexeme-gt1.false
+pub returns-else-size-gt1 : goal.returns-else-size-gt1
+returns-else-size-gt1 c =
+    put_one c.args.out.now c.args.text.now c.args.len c.args.space c.args.start c.args.end c.requires.start_lt_end c.requires.space_bound c.requires.start_in_bounds
+    c.if-size-gt1.false
