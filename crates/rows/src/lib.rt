@@ -1,16 +1,16 @@
 // The rows that the lexer sends, and the checks that come before a layout (specification, 'Rows').
 #![tactic(auto)]
 
-ghost use Rattle.std.specs.Prelude.{true, ◌≡◌, ◌+◌, ◌≤◌, ◌<◌, eqb, ltb, length, min, MatchOption};
+ghost use Rattle.std.specs.Prelude.{true, ◌≡◌, ◌+◌, ◌≤◌, ◌<◌, eqb, ltb, length, min, MatchOption, Some};
 ghost use Rattle.rows.specs.Kinds.{TokenRow, Trailing, BlockComment, BlankLine, Other};
 ghost use Rattle.rows.specs.KindNumber.{what_number, trivia_number, kind_number};
-ghost use Rattle.std.specs.Iterator.{YieldsFirstBy, item_count};
+ghost use Rattle.std.specs.Iterator.{YieldsFirstBy, YieldsLastBy, item_count};
 ghost use Rattle.rows.specs.Row.{row_size, number, row_at, rows_of};
 ghost use Rattle.rows.specs.RowsLeft.{rows_left};
 ghost use Rattle.rows.specs.Checks.{may_trail, misnamed, bad_row, GoodRows};
 ghost use Rattle.rows.specs.KindNumber.{before_of};
 ghost use Rattle.rows.specs.Bounds.{row_of};
-ghost use Rattle.rows.specs.Answer.{reported, refusal_of, check_report, rows_report, each_row_report};
+ghost use Rattle.rows.specs.Answer.{reported, refusal_of, refusal_text, check_report, rows_report, each_row_report};
 ghost use Rattle.shared.specs.Report.{refuse, refusal_number};
 
 pub mod kind;
@@ -53,7 +53,10 @@ impl From<CheckError> for Refused {
     }
 }
 
+// The refusal's number and its place.
 impl fmt::Display for CheckError {
+    ghost output = { λ e. Some (refusal_text e) };
+
     fn fmt<W: fmt::Write>(&self, f: &mut fmt::Formatter<W>) -> fmt::Result {
         Refused::from(*self).fmt(f)
     }
@@ -215,6 +218,21 @@ impl<'a> Iterator for Rows<'a> {
         }
         let row = row_at(self.rest, 0);
         self.rest = &self.rest[ROW_BYTES..];
+        Some(row)
+    }
+}
+
+impl<'a> DoubleEndedIterator for Rows<'a> {
+    ghost next_back_gives = { YieldsLastBy row_of rows_left };
+
+    #[tactic(auto, using(crate::proofs::RowList::from_back))]
+    fn next_back(&mut self) -> Option<Row> {
+        let end = self.rest.len() - self.rest.len() % ROW_BYTES;
+        if end < ROW_BYTES {
+            return None;
+        }
+        let row = row_at(self.rest, end - ROW_BYTES);
+        self.rest = &self.rest[..end - ROW_BYTES];
         Some(row)
     }
 }
