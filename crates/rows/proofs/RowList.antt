@@ -82,6 +82,18 @@ last_left bytes end n h e =
     let m : 16 * j ≡ end - 16 = omega arith in
     rw (e, ← m) (last_row j bytes (omega arith) (omega arith))
 
+-- a part of a row at the end is passed over
+first_whole : (n : ℕ) (bytes : List ℕ) → n ≡ length bytes / 16 → rows_of (take (16 * n) bytes) ≡ rows_of bytes
+first_whole zero bytes e = rows_none [] (omega arith) ∙ sym (rows_none bytes (omega arith))
+first_whole (suc n) bytes e =
+    let m : 16 * suc n ≡ 16 + 16 * n = omega arith in
+    rw m (cons_take (16 * n) bytes (omega arith)
+    ∙ ap (λ rs. row_at bytes 0 ∷ rs) (first_whole n (drop 16 bytes) (omega (arith, length-drop 16 bytes)))
+    ∙ sym (rows_cons bytes (omega arith)))
+
+pub whole_rows : (bytes : List ℕ) (end : ℕ) → end ≡ length bytes - length bytes % 16 → rows_of (take end bytes) ≡ rows_of bytes
+whole_rows bytes end e = let m : end ≡ 16 * (length bytes / 16) = omega arith in rw m (first_whole (length bytes / 16) bytes refl)
+
 pub fewer_left : (bytes : List ℕ) (end : ℕ) → 16 ≤ end → end ≤ length bytes → length (rows_of (take (end - 16) bytes)) < length (rows_of bytes)
 fewer_left bytes end h l =
     let t = length-take-le (end - 16) bytes (omega arith) in
