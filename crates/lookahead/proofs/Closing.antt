@@ -11,8 +11,8 @@ use Rattle.shared.proofs.Logic.{split, and_left, and_right}
 use Rattle.rows.specs.Kinds.{Leading, TokenRow, LeftBrace, RightBrace, Comma}
 use Rattle.rows.specs.Row.{Row}
 use Rattle.lookahead.specs.Measure.{depth_after}
-use Rattle.lookahead.specs.Scan.{least_rows, is_top, ends_group, token_kind, comma_ahead, trails, ends_line}
-use Rattle.lookahead.proofs.Tokens.{closes_block, single_line_rows}
+use Rattle.lookahead.specs.Scan.{is_top, ends_group, token_kind, comma_ahead, trails}
+use Rattle.lookahead.proofs.Tokens.{ends_line, closes_block, single_line_rows}
 
 -- ---- a token closes one at most
 
@@ -34,6 +34,10 @@ depths_least o c o' c' k own other n =
     omega (arith, l, s))
 
 -- ---- the two scans
+
+-- the rows that a scan needs at least: one for each level that is open, and one where none is
+abbrev pub least_rows : ℕ → ℕ
+least_rows depth = depth - 1 + 1
 
 module _ (o c o' c' : ℕ) (apart : c ≡ c' → ⊥) where
   pub comma-deep : (rs : List Row) (own other : ℕ) → length rs < least_rows (own + other) → comma_ahead o c o' c' own other rs ≡ false

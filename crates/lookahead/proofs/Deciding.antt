@@ -1,5 +1,5 @@
 -- What `decide` comes to: commas and width only grow, and the commas do not depend on the width. Assumes nothing.
-use mathlib.Core.Bool.{Bool, true, ◌&&◌, or-true, and-true}
+use mathlib.Core.Bool.{true, ◌&&◌, or-true, and-true}
 use mathlib.Core.List.{List, [], ◌∷◌}
 use mathlib.Core.Path.{◌≡◌, refl, sym, ap, ◌∙◌}
 use Prim.Native.Nat.{ℕ, ◌+◌, ◌-◌, ◌≤◌, ◌<◌}
@@ -12,8 +12,8 @@ use Rattle.rows.specs.Row.{Row, rows_of}
 use Rattle.lookahead.specs.declared.measure.Span.{Span}
 use Rattle.lookahead.specs.declared.measure.Span.TheVariants.{Signature, Paren, Bracket}
 use Rattle.lookahead.specs.Measure.{Measure, start, depth_after}
-use Rattle.lookahead.specs.Scan.{more, is_top, ends_group, stops_at, top_in, counts, measure_rows, measure_of, comma_ahead, breaks, breaks_at}
-use Rattle.lookahead.proofs.Steps.{ends_above, depth_after-none, more_least}
+use Rattle.lookahead.specs.Scan.{is_top, ends_group, stops_at, top_in, counts, measure_rows, measure_of, comma_ahead, breaks, breaks_at}
+use Rattle.lookahead.proofs.Steps.{ends_above, depth_after-none, more, more_least}
 use Rattle.lookahead.specs.declared.measure.Measure
 
 -- the numbers behind a token's row
@@ -68,9 +68,6 @@ module _ (span : Span) (own other : Measure → ℕ) (o c o' c' : ℕ) (lo : o �
 
 -- the measure m is what `until_wide` reached, with the rows rs left
 module _ (rows : List ℕ) (limit : ℕ) (m : Measure.Measure) (rs : List Row) where
-  pub narrow : (span : Span) {x : Bool} → measure_rows span start (rows_of rows) ≡ measure_of m → x ≡ breaks span limit m.commas m.width → x ≡ breaks_at span limit (measure_rows span start (rows_of rows))
-  narrow span w e = e ∙ sym (ap (breaks_at span limit) w)
-
   module _ (h : limit < m.width) where
     pub wide_signature : measure_rows Signature start (rows_of rows) ≡ measure_rows Signature (measure_of m) rs → true ≡ breaks_at Signature limit (measure_rows Signature start (rows_of rows))
     wide_signature left =

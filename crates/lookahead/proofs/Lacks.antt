@@ -1,20 +1,20 @@
 -- Rows without a token of a kind: no list breaks without a comma, no block closes without a `}`; `after_last` finds where they begin. Assumes nothing.
 use mathlib.Core.Bool.{Bool, true, false, cond, not, ◌&&◌, ◌||◌, and-false}
-use mathlib.Core.List.{List, [], ◌∷◌}
-use mathlib.Core.Path.{◌≡◌, refl, sym, ap, ◌∙◌}
-use Prim.Native.Nat.{ℕ, zero, suc, ◌+◌, ◌-◌, ◌*◌, ◌/◌, ◌%◌, ◌≤◌, ◌<◌}
+use mathlib.Core.List.{List, [], ◌∷◌, ◌++◌}
+use mathlib.Core.Path.{◌≡◌, refl, ◌∙◌}
+use Prim.Native.Nat.{ℕ, zero, suc, ◌+◌, ◌*◌, ◌≤◌}
 use native.Mathlib.Omega.{arith}
 use lib.Dec.{eqb}
 use lib.ListN.{length, drop}
 use borrow.Author.Tests.{eqb-true, eq-eqb, ne_eqb, not-true}
 use Rattle.shared.proofs.Logic.{split, and_left, and_right}
 use Rattle.rows.specs.Kinds.{Leading, TokenRow, Eof, LeftBrace, RightBrace, Comma}
-use Rattle.rows.specs.Row.{Row, row_at, rows_of}
+use Rattle.rows.specs.Row.{Row, rows_of}
 use Rattle.rows.specs.Token.{Trivia, token_of, tokens_from, tokens_of}
-use Rattle.rows.proofs.RowList.{part_cons, part_none, rows_drop}
+use Rattle.rows.proofs.RowList.{part_none, rows_drop, rows_length}
 use Rattle.lookahead.specs.Measure.{Measure, start, sized, sizes, counted, measure_from, opens_paren, group_stops, top_level, should_break_list, block_is_single_line}
-use Rattle.lookahead.specs.Scan.{up_to_last, after_last, lacks, trails, ends_line}
-use Rattle.lookahead.proofs.Tokens.{single_line_rows, single_rows}
+use Rattle.lookahead.specs.Scan.{up_to_last, after_last, lacks, trails}
+use Rattle.lookahead.proofs.Tokens.{ends_line, single_line_rows, single_rows}
 
 -- ---- the first row and the rest
 
@@ -93,44 +93,19 @@ none_after k rows e j h = rw (rows_drop j rows) (none-lacks k (drop j (rows_of r
 
 -- ---- the loop of `after_last`
 
--- whole rows lie before `at`, and none of the kind k from there on
-pub record Clear (rows : List ℕ) (k at : ℕ) : Type 0 where
-  pub within : at ≤ length rows
-  pub whole : at % 16 ≡ 0
-  pub clear : up_to_last k (rows_of (drop at rows)) ≡ 0
-
-pub clear_start : (rows : List ℕ) (k : ℕ) → Clear rows k (length rows - length rows % 16)
+-- the last row is of another kind, or of the kind
+pub up_to_other : (k : ℕ) (rs : List Row) (r : Row) → (r.kind ≡ k → ⊥) → up_to_last k (rs ++ r ∷ []) ≡ up_to_last k rs
 unfolding up_to_last
-clear_start rows k = record { within = omega arith; whole = omega arith; clear = rw (part_none rows (length rows - length rows % 16) (omega arith)) }
+up_to_other k [] r n = rw (ne_eqb _ k n) refl
+up_to_other k (x ∷ rs) r n = rw (up_to_other k rs r n) refl
 
--- rows before a part that has one of the kind
-up_to_part : (k n : ℕ) (rs : List Row) → 0 < up_to_last k (drop n rs) → up_to_last k rs ≡ n + up_to_last k (drop n rs)
+pub up_to_found : (k : ℕ) (rs : List Row) (r : Row) → r.kind ≡ k → up_to_last k (rs ++ r ∷ []) ≡ length rs + 1
 unfolding up_to_last
-up_to_part k zero rs h = omega arith
-up_to_part k (suc n) [] h = absurd (omega (arith, h))
-up_to_part k (suc n) (r ∷ rs) h = let e = up_to_part k n rs h in rw (ne_eqb (up_to_last k rs) 0 (λ z. omega (arith, h))) (omega arith)
+up_to_found k [] r e = rw (eq-eqb _ k e) refl
+up_to_found k (x ∷ rs) r e = rw (up_to_found k rs r e) (let n = ne_eqb (length rs + 1) 0 (λ z. omega arith) in rw n (omega arith))
 
-module _ {rows : List ℕ} {k at : ℕ} (σ : Clear rows k at) {r : Row} (h : 16 ≤ at) (e : r ≡ row_at rows (at - 16)) where
-  here_at : rows_of (drop (at - 16) rows) ≡ r ∷ rows_of (drop at rows)
-  here_at = let n : at - 16 + 16 ≡ at = omega arith in part_cons rows (at - 16) (omega (arith, σ.within)) ∙ rw (n, e)
+pub up_to_none : (k : ℕ) → up_to_last k [] ≡ 0
+unfolding up_to_last
+up_to_none k = refl
 
-  -- one more row is passed, of another kind
-  pub clear_more : (r.kind ≡ k → ⊥) → Clear rows k (at - 16)
-  unfolding up_to_last
-  clear_more n = record { within = omega (arith, σ.within); whole = omega (arith, σ.whole); clear = rw (here_at, σ.clear, ne_eqb r.kind k n) }
-
-  -- the last row of the kind
-  pub clear_found : r.kind ≡ k → at ≡ after_last k rows
-  unfolding up_to_last
-  clear_found q =
-      let j = (at - 16) / 16 in
-      let i : 16 * j ≡ at - 16 = omega (arith, σ.whole) in
-      let one : up_to_last k (drop j (rows_of rows)) ≡ 1 = sym (ap (up_to_last k) (rows_drop j rows)) ∙ ap (λ n. up_to_last k (rows_of (drop n rows))) i ∙ rw (here_at, σ.clear, eq-eqb r.kind k q) in
-      let all = up_to_part k j (rows_of rows) (omega arith) in
-      omega arith
-
-pub clear_all : {rows : List ℕ} {k at : ℕ} → Clear rows k at → at < 16 → 0 ≡ after_last k rows
-clear_all {rows} {k} {at} σ h =
-    let z : at ≡ 0 = omega (arith, σ.whole) in
-    let none : up_to_last k (rows_of rows) ≡ 0 = ap (λ n. up_to_last k (rows_of (drop n rows))) (sym z) ∙ σ.clear in
-    omega arith
+pub ruleset by_last = (up_to_other, up_to_found, up_to_none, rows_length)

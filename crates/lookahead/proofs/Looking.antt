@@ -18,10 +18,10 @@ use Rattle.rows.specs.declared.kind.Kind.TheVariants as code
 use Rattle.rows.specs.KindNumber.{kind_number}
 use Rattle.rows.proofs.KindNumbers.{min_kind}
 use Rattle.lookahead.specs.Measure.{next_has_comment, block_is_single_line, any_comment, depth_after}
-use Rattle.lookahead.specs.Scan.{least_rows, token_kind, GroupKinds, is_last, is_top, ends_group, comma_ahead, is_trivia, trails, ends_line}
+use Rattle.lookahead.specs.Scan.{token_kind, GroupKinds, is_last, is_top, ends_group, comma_ahead, is_trivia, trails}
 use Rattle.lookahead.proofs.Steps.{ends_eof, ends_other, ends-closer, ends_above, depth_after-none}
-use Rattle.lookahead.proofs.Tokens.{comment_ahead, comment_rows, closes_block, single_line_rows, single_rows}
-use Rattle.lookahead.proofs.Closing.{comma-deep, block_deep}
+use Rattle.lookahead.proofs.Tokens.{ends_line, comment_ahead, comment_rows, closes_block, single_line_rows, single_rows}
+use Rattle.lookahead.proofs.Closing.{least_rows, comma-deep, block_deep}
 
 -- ---- `next_has_comment`
 

@@ -36,12 +36,6 @@ pub record Measuring (rows : List ℕ) (span : Span) (m : CodeMeasure) (left : L
   pub few : FewIn m left (rows_of rows)
   pub said : measure_rows span start (rows_of rows) ≡ measure_rows span (measure_of m) left
 
-pub measuring_start : (rows : List ℕ) (span : Span) (m : CodeMeasure) → m.parens ≡ 0 → m.brackets ≡ 0 → m.commas ≡ 0 → m.width ≡ 0 → {left : List Row} → left ≡ rows_of rows → Measuring rows span m left
-measuring_start rows span m p b c w e = rw e (record {
-  few = record { parens = omega arith; brackets = omega arith; commas = omega arith; width = omega arith };
-  said = rw (p, b, c, w);
-})
-
 module _ {rows : List ℕ} {span : Span} {m : CodeMeasure} {left : List Row} (σ : Measuring rows span m left) where
   pub room : (n : ℕ) → length rows < 9223372036854775808 → m.width + n < 9223372036854775808 → Room m n
   room n h l =

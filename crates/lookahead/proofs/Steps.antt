@@ -1,30 +1,14 @@
 -- The tests and the step that the measures share. Assumes nothing.
-use mathlib.Core.Bool.{Bool, true, false, or-true, or-false, and-true, and-false}
-use mathlib.Core.Path.{◌≡◌, sym, ◌∙◌}
-use Prim.Native.Nat.{ℕ, ◌+◌, ◌-◌, ◌≤◌, ◌<◌}
+use mathlib.Core.Bool.{Bool, true, false, cond, or-true, or-false}
+use mathlib.Core.Path.{◌≡◌}
+use Prim.Native.Nat.{ℕ, ◌+◌, ◌≤◌, ◌<◌}
 use native.Mathlib.Omega.{arith}
-use lib.Dec.{eqb, leb, ltb}
-use borrow.Author.Tests.{eq-eqb, ne_eqb, leb-true, leb-false, ltb-false}
+use lib.Dec.{eqb, ltb}
+use borrow.Author.Tests.{eq-eqb, ne_eqb, ltb-false}
 use Rattle.shared.proofs.Logic.{split}
-use Rattle.rows.specs.Kinds.{Eof, RightParen, RightBracket, Comma}
-use Rattle.lookahead.specs.declared.measure.Span.{Span}
-use Rattle.lookahead.specs.declared.measure.Span.TheVariants.{Signature, Paren, Bracket}
+use Rattle.rows.specs.Kinds.{Eof, Comma}
 use Rattle.lookahead.specs.Measure.{depth_after}
-use Rattle.lookahead.specs.Scan.{more, is_last, ends_group, stops_at}
-
--- ---- the last closer: none is open, or one
-
-pub last : (d : ℕ) → leb d 1 ≡ eqb (d - 1) 0
-last d =
-    split (leb d 1)
-    (λ e. let h = leb-true d 1 e in e ∙ sym (eq-eqb (d - 1) 0 (omega arith)))
-    (λ e. let h = leb-false d 1 e in e ∙ sym (ne_eqb (d - 1) 0 (λ q. omega arith)))
-
-pub last_other : (own other : ℕ) → 0 < other → false ≡ is_last own other
-last_other own other h = rw (ne_eqb other 0 (λ q. omega arith), and-false)
-
-pub last-own : (own other : ℕ) → other ≤ 0 → leb own 1 ≡ is_last own other
-last-own own other h = rw (eq-eqb other 0 (omega arith), and-true, last own)
+use Rattle.lookahead.specs.Scan.{is_last, ends_group}
 
 -- ---- where a group ends, by the tests that the code makes
 
@@ -43,12 +27,11 @@ module _ (c k own other : ℕ) where
   pub ends_above : c < Comma → Comma ≤ k → ends_group c k own other ≡ false
   ends_above l h = rw (ne_eqb k c (λ q. omega arith), ne_eqb k Eof (λ q. omega arith))
 
-pub stops_above : (s : Span) (p b k : ℕ) → Comma ≤ k → false ≡ stops_at s p b k
-stops_above Signature p b k h = sym (ends_above RightParen k p 0 (omega arith) h)
-stops_above Paren p b k h = sym (ends_above RightParen k p b (omega arith) h)
-stops_above Bracket p b k h = sym (ends_above RightBracket k b p (omega arith) h)
-
 -- ---- what a step adds
+
+-- one more comma where the test holds
+abbrev pub more : Bool → ℕ → ℕ
+more b n = cond b (n + 1) n
 
 pub depth_after-none : (o c k d : ℕ) → (k ≡ o → ⊥) → (k ≡ c → ⊥) → depth_after o c k d ≡ d
 depth_after-none o c k d n m = rw (ne_eqb k o n, ne_eqb k c m)

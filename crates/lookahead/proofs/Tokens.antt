@@ -11,7 +11,7 @@ use Rattle.rows.specs.Kinds.{Leading, TokenRow, Trailing, LineComment, DocCommen
 use Rattle.rows.specs.Row.{Row}
 use Rattle.rows.specs.Token.{Trivia, line_comment, doc_comment, block_comment, blank_line, trivia_of, trailing_of, tokens_from}
 use Rattle.lookahead.specs.Measure.{any_comment, next_has_comment, is_empty, single_line_from, depth_after}
-use Rattle.lookahead.specs.Scan.{is_comment, trails, ends_line}
+use Rattle.lookahead.specs.Scan.{is_comment, trails}
 
 -- ---- `next_has_comment`
 
@@ -47,6 +47,9 @@ comment_rows text l (r ∷ rs) =
     (λ f. rw (e, f, or-false) (comment_rows text l rs)))
 
 -- ---- `block_is_single_line`
+
+abbrev pub ends_line : ℕ → Bool
+ends_line k = eqb k Newline || eqb k Eof
 
 abbrev pub closes_block : ℕ → ℕ → Bool
 closes_block k depth = eqb k RightBrace && eqb (depth - 1) 0

@@ -1,7 +1,7 @@
 -- What the code computes over rows. The measures here say the same as those of Measure.antt (proofs/Sizes.antt).
 -- Assumes nothing.
 use Rattle.std.specs.Prelude.{Bool, true, false, cond, not, ◌&&◌, ◌||◌, List, [], ◌∷◌, ◌≡◌, ℕ, ◌+◌, ◌-◌, ◌*◌, ◌^◌, ◌≤◌, ◌<◌, eqb, ltb, length}
-use Rattle.rows.specs.Kinds.{Leading, TokenRow, Trailing, BlankLine, Eof, Newline, RightParen, RightBracket, Comma, Other}
+use Rattle.rows.specs.Kinds.{Leading, TokenRow, Trailing, BlankLine, Eof, RightParen, RightBracket, Comma, Other}
 use Rattle.rows.specs.Row.{Row, row_size, rows_of}
 use Rattle.lookahead.specs.declared.measure.Span.{Span}
 use Rattle.lookahead.specs.declared.measure.Span.TheVariants.{Signature, Paren, Bracket}
@@ -36,12 +36,6 @@ width_rows (r ∷ rs) = cond (eqb r.what TokenRow) (r.end - r.start + 1 + width_
 abbrev pub is_comment : Row → Bool
 is_comment r = eqb r.what Leading && ltb r.kind BlankLine
 
--- ---- `least_rows`
-
--- the rows that a scan needs at least: one for each level that is open, and one where none is
-abbrev pub least_rows : ℕ → ℕ
-least_rows depth = depth - 1 + 1
-
 -- ---- `block_is_single_line`
 
 -- a row that is no token's is trivia of a token: it leads, or trails and follows a token's row
@@ -52,9 +46,6 @@ is_trivia what follows = eqb what Leading || (eqb what Trailing && follows)
 abbrev pub trails : List Row → Bool
 trails [] = false
 trails (r ∷ rs) = eqb r.what Trailing
-
-abbrev pub ends_line : ℕ → Bool
-ends_line k = eqb k Newline || eqb k Eof
 
 -- ---- `sig_measure` and `group_measure`
 
@@ -85,10 +76,6 @@ abbrev pub top_in : Span → ℕ → ℕ → Bool
 top_in Signature parens brackets = is_top parens brackets
 top_in Paren parens brackets = is_top parens brackets
 top_in Bracket parens brackets = is_top brackets parens
-
--- one more comma where the test holds
-abbrev pub more : Bool → ℕ → ℕ
-more b n = cond b (n + 1) n
 
 -- a token of the kind k and of n bytes is counted
 abbrev pub counts : Span → Measure → ℕ → ℕ → Measure

@@ -9,7 +9,7 @@ ghost use Rattle.rows.specs.Bounds.{row_of};
 ghost use Rattle.lookahead.specs.Answer.{sig_answer, group_answer};
 ghost use Rattle.lookahead.specs.Measure.{start, row_sizes, opens_paren, sig_measure, group_measure};
 ghost use Rattle.lookahead.specs.Measure.{sig_breaks, list_breaks, block_is_single_line, next_has_comment, next_is};
-ghost use Rattle.lookahead.specs.Scan.{after_last, width_rows, is_comment, is_trivia, trails, ends_line, group_of};
+ghost use Rattle.lookahead.specs.Scan.{after_last, width_rows, is_comment, is_trivia, trails, group_of};
 ghost use Rattle.lookahead.specs.Scan.{measure_rows, measure_of, token_kind, GroupKinds, comma_ahead};
 ghost use Rattle.lookahead.specs.Scan.{breaks_at, FewIn};
 ghost use Rattle.rows.specs.Kinds.{TokenRow, Other};
@@ -17,7 +17,7 @@ ghost use Rattle.rows.specs.KindNumber.{kind_number};
 ghost use Rattle.rows.specs.RowsLeft.{rows_left};
 
 use crate::measure::{BRACKETS, Measure, PARENS, Pair, Span, is_last, is_top_comma, size_of};
-use rows::{Kind, MOST_ROWS, ROW_BYTES, Row, Rows, Trivia, What, row_at};
+use rows::{Kind, MOST_ROWS, ROW_BYTES, Row, Rows, Trivia, What};
 
 mod measure;
 
@@ -168,16 +168,15 @@ fn first_token(rows: &[u8]) -> Option<Row>
 
 // Answers the index after the last row of the kind, or 0. No token of the kind stands from there on
 // (proofs/Lacks.antt: none-after).
+#[tactic(auto, using(crate::proofs::Lacks::by_last))]
 pub fn after_last(rows: &[u8], kind: u32) -> usize
     ensures { result ≡ after_last kind rows.now }
 {
-    let mut at = rows.len() - rows.len() % ROW_BYTES;
-    while ROW_BYTES <= at {
-        let row = row_at(rows, at - ROW_BYTES);
+    let mut before = Rows::of(rows);
+    while let Some(row) = before.next_back() {
         if row.kind == kind {
-            return at;
+            return ROW_BYTES * (before.len() + 1);
         }
-        at -= ROW_BYTES;
     }
     0
 }

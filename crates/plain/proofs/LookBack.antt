@@ -14,6 +14,7 @@ use Rattle.shared.proofs.Logic.{split}
 use Rattle.rows.specs.Kinds.{Eof, Newline, LeftBrace, Comma, Record}
 use Rattle.rows.specs.Row.{Row, number, row_at}
 use Rattle.rows.specs.Token.{bytes_of}
+use Rattle.rows.proofs.RowList.{row_take}
 use Rattle.definition.specs.Plain.{tight_before}
 use Rattle.plain.specs.Scan.{Facts, unseen, mute, facts_after, meets, meets_after}
 use Rattle.plain.specs.LookBack.{facts_from, facts_at, seen}
@@ -34,14 +35,6 @@ module _ (rows text : List ℕ) where
       rw (n, z)
 
 -- ---- of the rows before an index alone
-
-number_take : (at j : ℕ) (rows : List ℕ) → j + 4 ≤ at → number (take at rows) j ≡ number rows j
-number_take at j rows h =
-    rw (get_or-take at rows j 0 (omega arith), get_or-take at rows (j + 1) 0 (omega arith), get_or-take at rows (j + 2) 0 (omega arith), get_or-take at rows (j + 3) 0 (omega arith))
-
-row_take : (at j : ℕ) (rows : List ℕ) → j + 16 ≤ at → row_at (take at rows) j ≡ row_at rows j
-row_take at j rows h =
-    rw (number_take at j rows (omega arith), number_take at (j + 4) rows (omega arith), number_take at (j + 8) rows (omega arith), number_take at (j + 12) rows (omega arith))
 
 facts_take : (rows text : List ℕ) (at n i : ℕ) → n ≤ i / 16 → i ≤ at → facts_from (take at rows) text n i ≡ facts_from rows text n i
 unfolding facts_from

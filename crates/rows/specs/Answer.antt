@@ -1,7 +1,9 @@
 -- What is answered before a layout: refusals 1, 2 and 3 in that order (specification, 'Refusals').
 -- Assumes nothing.
-use Rattle.std.specs.Prelude.{cond, List, ℕ, Result, Ok, Err}
+use Rattle.std.specs.Prelude.{cond, List, ◌++◌, ℕ, Result, Ok, Err}
 use Rattle.std.proofs.Math.Option.{Option, none, some}
+use Rattle.std.specs.Fmt.{decimal}
+use Rattle.shared.specs.Bytes.{space}
 use Rattle.shared.specs.Report.{Report, success, refuse, option, ragged_rows, bad_row}
 use Rattle.rows.specs.declared.CheckError.{CheckError}
 use Rattle.rows.specs.declared.CheckError.TheVariants.{BadOption, RaggedRows, BadRow}
@@ -14,6 +16,10 @@ abbrev pub refusal_of : CheckError → Report
 refusal_of (BadOption position) = refuse option position
 refusal_of RaggedRows = refuse ragged_rows 0
 refusal_of (BadRow row) = refuse bad_row row
+
+-- What is written of a refusal: its number, a space and its place.
+abbrev pub refusal_text : CheckError → List ℕ
+refusal_text e = decimal (refusal_of e).refusal ++ space ++ decimal (refusal_of e).first
 
 -- The number and values of the report for each answer of `check`.
 abbrev pub reported : Result (Unit {0}) CheckError → Report

@@ -1,6 +1,7 @@
 // The kinds of tokens and of trivia, and what a row is, as types (specification, 'Kinds').
 
-ghost use Rattle.std.specs.Prelude.{◌≡◌, ◌≤◌, ◌<◌, min, MatchResult};
+ghost use Rattle.std.specs.Prelude.{◌≡◌, ◌≤◌, ◌<◌, ◌++◌, min, codes, MatchResult, Some};
+ghost use Rattle.std.specs.Fmt.{decimal};
 ghost use Rattle.rows.specs.Kinds.{Other};
 ghost use Rattle.rows.specs.KindNumber.{kind_number};
 ghost use Rattle.rows.specs.KindSet.{member};
@@ -131,6 +132,8 @@ impl TryFrom<u32> for Kind {
 }
 
 impl fmt::Display for NoSuchKind {
+    ghost output = { λ e. Some (codes "no kind of token has number " ++ decimal e.0) };
+
     fn fmt<W: fmt::Write>(&self, f: &mut fmt::Formatter<W>) -> fmt::Result {
         write!(f, "no kind of token has number {}", self.0)
     }

@@ -1,16 +1,15 @@
 // The rows that the lexer sends, and the checks that come before a layout (specification, 'Rows').
 #![tactic(auto)]
 
-ghost use Rattle.std.specs.Prelude.{true, ◌≡◌, ◌+◌, ◌≤◌, ◌<◌, eqb, ltb, length, min, MatchOption};
+ghost use Rattle.std.specs.Prelude.{true, ◌≡◌, ◌+◌, ◌≤◌, ◌<◌, ◌%◌, eqb, ltb, length, min, MatchOption, Some, ⊤};
 ghost use Rattle.rows.specs.Kinds.{TokenRow, Trailing, BlockComment, BlankLine, Other};
 ghost use Rattle.rows.specs.KindNumber.{what_number, trivia_number, kind_number};
-ghost use Rattle.std.specs.Iterator.{YieldsFirstBy, item_count};
+ghost use Rattle.std.specs.Iterator.{YieldsFirstBy, YieldsLastBy, item_count};
 ghost use Rattle.rows.specs.Row.{row_size, number, row_at, rows_of};
-ghost use Rattle.rows.specs.RowsLeft.{rows_left};
 ghost use Rattle.rows.specs.Checks.{may_trail, misnamed, bad_row, GoodRows};
 ghost use Rattle.rows.specs.KindNumber.{before_of};
 ghost use Rattle.rows.specs.Bounds.{row_of};
-ghost use Rattle.rows.specs.Answer.{reported, refusal_of, check_report, rows_report, each_row_report};
+ghost use Rattle.rows.specs.Answer.{reported, refusal_of, refusal_text, check_report, rows_report, each_row_report};
 ghost use Rattle.shared.specs.Report.{refuse, refusal_number};
 
 pub mod kind;
@@ -18,6 +17,7 @@ pub mod options;
 
 pub use kind::{Kind, KindSet, Trivia, What};
 use shared::refusal::{Refusal, Refused};
+use std::alloc::AllocError;
 use std::error::Error;
 use std::fmt;
 
@@ -53,7 +53,10 @@ impl From<CheckError> for Refused {
     }
 }
 
+// The refusal's number and its place.
 impl fmt::Display for CheckError {
+    ghost output = { λ e. Some (refusal_text e) };
+
     fn fmt<W: fmt::Write>(&self, f: &mut fmt::Formatter<W>) -> fmt::Result {
         Refused::from(*self).fmt(f)
     }
@@ -180,16 +183,34 @@ impl Row {
 }
 
 // The rows of a slice, one after the other. Bytes at its end that are no whole row are passed over.
-#[derive(Clone, Drop)]
+#[derive(Drop)]
 pub struct Rows<'a> {
     rest: &'a [u8],
+    // No part of a row is left, so that neither end is rounded again.
+    ghost whole: { length rest.now % row_size ≡ 0 },
+}
+
+impl<'a> Clone for Rows<'a> {
+    ghost is_clone = { λ rows copy. copy ≡ rows };
+
+    ghost is_infallible = { λ _. ⊤ };
+
+    fn clone(&self) -> Result<Self, AllocError> {
+        Ok(Rows { rest: self.rest })
+    }
 }
 
 impl<'a> Rows<'a> {
+    ghost use Rattle.rows.specs.RowsLeft.{rows_left};
+
+    #[tactic(auto, using(crate::proofs::RowList::whole_rows))]
     pub fn of(rows: &'a [u8]) -> Self
         ensures { rows_left result ≡ rows_of rows.now }
     {
-        Rows { rest: rows }
+        let whole = rows.len() - rows.len() % ROW_BYTES;
+        Rows {
+            rest: &rows[..whole],
+        }
     }
 
     // Answers how many rows are left.
@@ -202,6 +223,8 @@ impl<'a> Rows<'a> {
 }
 
 impl<'a> Iterator for Rows<'a> {
+    ghost use Rattle.rows.specs.RowsLeft.{rows_left};
+
     type Item = Row;
 
     ghost next_gives = { YieldsFirstBy row_of rows_left };
@@ -210,11 +233,28 @@ impl<'a> Iterator for Rows<'a> {
 
     #[tactic(auto, using(crate::proofs::RowList::first_left, crate::proofs::RowList::rows_none))]
     fn next(&mut self) -> Option<Row> {
-        if self.rest.len() < ROW_BYTES {
+        if self.rest.is_empty() {
             return None;
         }
         let row = row_at(self.rest, 0);
         self.rest = &self.rest[ROW_BYTES..];
+        Some(row)
+    }
+}
+
+impl<'a> DoubleEndedIterator for Rows<'a> {
+    ghost use Rattle.rows.specs.RowsLeft.{rows_left};
+
+    ghost next_back_gives = { YieldsLastBy row_of rows_left };
+
+    #[tactic(auto, using(crate::proofs::RowList::from_back))]
+    fn next_back(&mut self) -> Option<Row> {
+        if self.rest.is_empty() {
+            return None;
+        }
+        let end = self.rest.len();
+        let row = row_at(self.rest, end - ROW_BYTES);
+        self.rest = &self.rest[..end - ROW_BYTES];
         Some(row)
     }
 }

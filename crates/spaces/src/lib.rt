@@ -2,11 +2,11 @@
 // and the form of the same rule that the layout goes by (`loose`).
 #![tactic(auto)]
 
-ghost use Rattle.std.specs.Prelude.{◌≡◌};
+ghost use Rattle.std.specs.Prelude.{◌≡◌, Some};
 ghost use Rattle.shared.specs.declared.refusal.Refusal.TheVariants.{BadRow};
 ghost use Rattle.rows.specs.KindNumber.{kind_number};
 ghost use Rattle.spaces.specs.Space.{needs_space, no_space_after, no_space_before, is_value_kind};
-ghost use Rattle.spaces.specs.Answer.{reported, space_report};
+ghost use Rattle.spaces.specs.Answer.{reported, refusal_text, space_report};
 
 use rows::Kind;
 use shared::refusal::{Refusal, Refused};
@@ -32,7 +32,10 @@ impl From<UnknownKind> for Refused {
     }
 }
 
+// The refusal's number and its place.
 impl fmt::Display for UnknownKind {
+    ghost output = { λ e. Some (refusal_text e) };
+
     fn fmt<W: fmt::Write>(&self, f: &mut fmt::Formatter<W>) -> fmt::Result {
         Refused::from(*self).fmt(f)
     }
