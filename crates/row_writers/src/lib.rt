@@ -34,5 +34,9 @@ pub fn write_lexeme(sink: &mut Sink, gap: usize, source: Source, own: usize, tai
         sink.new }
 {
     let row = row_at(source.rows, own);
-    sink.write_token(gap, &source.text[row.start as usize..row.end as usize], tail);
+    sink.write_token(
+        gap,
+        &source.text[row.start as usize..row.end as usize],
+        tail,
+    );
 }
