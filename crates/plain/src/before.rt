@@ -15,18 +15,86 @@ use crate::lexeme::{
 use crate::words::is_words;
 use rows::{Kind, ROW_BYTES, Row, number_at, row_at};
 
-// Whether a token of the kind and lexeme given fits after the rows `before`, by tests that are quicker than
-// reading the lexeme. Yes is certain; no is certain for a kind with a fixed lexeme, Newline and Eof.
-pub fn fits_quickly(before: &[u8], text: &[u8], kind: Kind, lexeme: &[u8]) -> bool
-    ensures sure { result ≡ true
-        → fits (seen before.now text.now) (kind_number kind) lexeme.now ≡ true }
-    ensures fixed { kind_number kind ≤ Else
-        → result ≡ fits (seen before.now text.now) (kind_number kind) lexeme.now }
-{
-    if is_free(kind) {
-        return fits_free(before, text, kind, lexeme);
+// A token of a row: the rows before it, the text, its kind and its lexeme.
+#[derive(Clone, Copy)]
+pub struct Token<'a> {
+    pub before: &'a [u8],
+    pub text: &'a [u8],
+    pub kind: Kind,
+    pub lexeme: &'a [u8],
+}
+
+impl Token<'_> {
+    // Whether the token fits after the rows before it, by tests that are quicker than reading the lexeme. Yes is
+    // certain; no is certain for a kind with a fixed lexeme, Newline and Eof.
+    pub fn fits_quickly(self) -> bool
+        ensures sure { result ≡ true → fits (seen self.entry.before.now self.entry.text.now)
+            (kind_number self.entry.kind) self.entry.lexeme.now ≡ true }
+        ensures fixed { kind_number self.entry.kind ≤ Else
+            → result ≡ fits (seen self.entry.before.now self.entry.text.now)
+            (kind_number self.entry.kind) self.entry.lexeme.now }
+    {
+        if is_free(self.kind) {
+            return self.fits_free();
+        }
+        self.fits_fixed()
     }
-    fits_fixed(before, text, kind, lexeme)
+
+    // The same for a kind with a fixed lexeme, Newline or Eof: the answer is certain.
+    fn fits_fixed(self) -> bool
+        requires { kind_number self.kind ≤ Else }
+        ensures { result ≡ fits (seen self.entry.before.now self.entry.text.now)
+            (kind_number self.entry.kind) self.entry.lexeme.now }
+    {
+        if is_mute(self.kind) {
+            return true;
+        }
+        if is_bracket(self.kind) {
+            return is_single(self.lexeme, bracket_of(self.kind))
+                && !forbids(self.before, self.kind);
+        }
+        is_itself(self.kind, self.lexeme) && !(begins_operator(self.lexeme) && self.meets())
+    }
+
+    // The same for any other kind. Yes is certain, no is not; most tokens that fit pass.
+    fn fits_free(self) -> bool
+        requires { Else < kind_number self.kind }
+        ensures { result ≡ true → fits (seen self.entry.before.now self.entry.text.now)
+            (kind_number self.entry.kind) self.entry.lexeme.now ≡ true }
+    {
+        if is_words(self.lexeme) {
+            return true;
+        }
+        if is_operators(self.lexeme) {
+            return !self.meets();
+        }
+        is_value(self.lexeme)
+    }
+
+    // Whether such a token fits, by reading the lexeme: the answer is certain.
+    pub fn fits_read(self) -> bool
+        requires { Else < kind_number self.kind }
+        ensures { result ≡ fits (seen self.entry.before.now self.entry.text.now)
+            (kind_number self.entry.kind) self.entry.lexeme.now }
+    {
+        reads_whole(self.lexeme) && !(begins_operator(self.lexeme) && self.meets())
+    }
+
+    // Whether two operator bytes would meet, or a Dot stands after a digit: clauses 4 and 5, at a lexeme that
+    // begins with an operator byte.
+    fn meets(self) -> bool
+        ensures { result ≡ meets (seen self.entry.before.now self.entry.text.now)
+            (kind_number self.entry.kind) }
+    {
+        let Some(row) = last_written(self.before) else {
+            return false;
+        };
+        let end = self.text.len().min(row.end as usize);
+        match self.text.get(row.start as usize..end) {
+            Some(lexeme) => meets_after(row.token_kind(), lexeme, self.kind),
+            None => false,
+        }
+    }
 }
 
 // Whether the kind is one after Else, in the order of the kinds: it has no fixed lexeme.
@@ -34,43 +102,6 @@ pub fn is_free(kind: Kind) -> bool
     ensures { result ≡ ltb Else (kind_number kind) }
 {
     (Kind::Else as u32) < kind as u32
-}
-
-// The same for a kind with a fixed lexeme, Newline or Eof: the answer is certain.
-fn fits_fixed(before: &[u8], text: &[u8], kind: Kind, lexeme: &[u8]) -> bool
-    requires { kind_number kind ≤ Else }
-    ensures { result ≡ fits (seen before.now text.now) (kind_number kind) lexeme.now }
-{
-    if is_mute(kind) {
-        return true;
-    }
-    if is_bracket(kind) {
-        return is_single(lexeme, bracket_of(kind)) && !forbids(before, kind);
-    }
-    is_itself(kind, lexeme) && !(begins_operator(lexeme) && meets(before, text, kind))
-}
-
-// The same for any other kind. Yes is certain, no is not; most tokens that fit pass.
-fn fits_free(before: &[u8], text: &[u8], kind: Kind, lexeme: &[u8]) -> bool
-    requires { Else < kind_number kind }
-    ensures { result ≡ true
-        → fits (seen before.now text.now) (kind_number kind) lexeme.now ≡ true }
-{
-    if is_words(lexeme) {
-        return true;
-    }
-    if is_operators(lexeme) {
-        return !meets(before, text, kind);
-    }
-    is_value(lexeme)
-}
-
-// Whether such a token fits, by reading the lexeme: the answer is certain.
-pub fn fits_read(before: &[u8], text: &[u8], kind: Kind, lexeme: &[u8]) -> bool
-    requires { Else < kind_number kind }
-    ensures { result ≡ fits (seen before.now text.now) (kind_number kind) lexeme.now }
-{
-    reads_whole(lexeme) && !(begins_operator(lexeme) && meets(before, text, kind))
 }
 
 // ---- clauses 6 and 7, at a bracket
@@ -136,20 +167,6 @@ fn kind_of(row: &[u8; ROW_BYTES]) -> Kind
 }
 
 // ---- clauses 4 and 5, at a lexeme that begins with an operator byte
-
-// Whether two operator bytes would meet, or a Dot stands after a digit.
-fn meets(before: &[u8], text: &[u8], kind: Kind) -> bool
-    ensures { result ≡ meets (seen before.now text.now) (kind_number kind) }
-{
-    let Some(row) = last_written(before) else {
-        return false;
-    };
-    let end = text.len().min(row.end as usize);
-    match text.get(row.start as usize..end) {
-        Some(lexeme) => meets_after(row.token_kind(), lexeme, kind),
-        None => false,
-    }
-}
 
 // The row of the last token but Newline and Eof, if there is one.
 fn last_written(before: &[u8]) -> Option<Row>

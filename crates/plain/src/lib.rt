@@ -10,7 +10,7 @@ ghost use Rattle.rows.specs.Token.{tokens_of};
 ghost use Rattle.definition.specs.Plain.{plain};
 ghost use Rattle.plain.specs.LookBack.{good_and_fits, Ahead, Unfit, FitsTo};
 
-use crate::before::{fits_quickly, fits_read, is_free};
+use crate::before::{Token, is_free};
 use rows::{Kind, ROW_BYTES, misnames, row_at};
 
 mod before;
@@ -53,10 +53,13 @@ fn fit_end(rows: &[u8], text: &[u8], from: usize) -> usize
         if misnames(row, Kind::Other as u32, text.len()) {
             return at;
         }
-        let before = &rows[..at];
-        let lexeme = &text[row.start as usize..row.end as usize];
-        let kind = row.token_kind();
-        if !fits_quickly(before, text, kind, lexeme) {
+        let token = Token {
+            before: &rows[..at],
+            text,
+            kind: row.token_kind(),
+            lexeme: &text[row.start as usize..row.end as usize],
+        };
+        if !token.fits_quickly() {
             return at;
         }
         at += ROW_BYTES;
@@ -80,6 +83,11 @@ fn row_fits(rows: &[u8], text: &[u8], at: usize) -> bool
     if !is_free(kind) {
         return false;
     }
-    let lexeme = &text[row.start as usize..row.end as usize];
-    fits_read(&rows[..at], text, kind, lexeme)
+    let token = Token {
+        before: &rows[..at],
+        text,
+        kind,
+        lexeme: &text[row.start as usize..row.end as usize],
+    };
+    token.fits_read()
 }

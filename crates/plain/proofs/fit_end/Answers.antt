@@ -28,18 +28,18 @@ returns-then-not-is_token c = stop_trivia c.loop-at.invariant (search rules) c.r
 pub returns-then-misnames : goal.returns-then-misnames
 returns-then-misnames c = stop-misnamed c.loop-at.invariant (search rules) c.row_at-row.ensures (token (goal.at.returns-then-misnames c).Else-not-is_token) c.misnames.ensures c.if-misnames.true
 
-pub slice_bounds-lexeme-count : goal.slice_bounds-lexeme-count
-slice_bounds-lexeme-count c = (inside (goal.at.slice_bounds-lexeme-count c).Else-misnames).ordered
+pub slice_bounds-token-count : goal.slice_bounds-token-count
+slice_bounds-token-count c = (inside (goal.at.slice_bounds-token-count c).Else-misnames).ordered
 
 pub returns-then-not-fits_quickly : goal.returns-then-not-fits_quickly
 returns-then-not-fits_quickly c =
     stop-unfit c.loop-at.invariant (search rules) c.row_at-row.ensures (token (goal.at.returns-then-not-fits_quickly c).Else-not-is_token) c.misnames.ensures c.if-misnames.false
-    c.token_kind-kind.ensures c.fits_quickly.ensures.fixed c.if-not-fits_quickly.true
+    c.token_kind.ensures c.fits_quickly.ensures.fixed c.if-not-fits_quickly.true
 
 pub loop-at-preserved : goal.loop-at-preserved
 loop-at-preserved c =
     passed_more c.loop-at.invariant (search rules) c.row_at-row.ensures (token (goal.at.loop-at-preserved c).Else-not-is_token) c.misnames.ensures c.if-misnames.false
-    c.token_kind-kind.ensures (c.fits_quickly.ensures.sure c.if-not-fits_quickly.false)
+    c.token_kind.ensures (c.fits_quickly.ensures.sure c.if-not-fits_quickly.false)
 
 pub returns : goal.returns
 returns c = stop-over c.loop-at.invariant (search rules)

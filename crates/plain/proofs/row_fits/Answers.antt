@@ -25,8 +25,8 @@ returns-then-not-is_free c =
     let l : kind_number c.token_kind-kind.result ≤ Else = search rules in
     row-fixed c.args.rows.now c.args.text.now c.args.at c.row_at-row.ensures c.misnames.ensures c.if-misnames.false c.requires.1 c.token_kind-kind.ensures l
 
-pub slice_bounds-lexeme-count : goal.slice_bounds-lexeme-count
-slice_bounds-lexeme-count c = (inside (goal.at.slice_bounds-lexeme-count c).Else-misnames).ordered
+pub slice_bounds-token-count : goal.slice_bounds-token-count
+slice_bounds-token-count c = (inside (goal.at.slice_bounds-token-count c).Else-misnames).ordered
 
 pub returns : goal.returns
 returns c =
