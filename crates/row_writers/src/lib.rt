@@ -34,5 +34,6 @@ pub fn write_lexeme(sink: &mut Sink, gap: usize, source: Source, own: usize, tai
         sink.new }
 {
     let row = row_at(source.rows, own);
-    sink.write_token(gap, &source.text[row.start as usize..row.end as usize], tail);
+    let lexeme = &source.text[row.start as usize..row.end as usize];
+    sink.write_token(gap, lexeme, tail);
 }

@@ -4,7 +4,7 @@ use mathlib.Core.Path.{◌≡◌, refl, sym, ◌∙◌}
 use Prim.Native.Nat.{ℕ, zero, suc, ◌+◌, ◌-◌, ◌≤◌, ◌<◌}
 use native.Mathlib.Omega.{arith}
 use native.Mathlib.Numerals.{add-one}
-use lib.ListN.{length, take, drop, set, get_or, replicate, length-append, length-set, length-take}
+use lib.ListN.{length, take, set, get_or, replicate, length-append, length-set, length-take}
 use lib.Seq.{slice, slice_empty, length-slice, length-take-le, take-take, take-append-add, take-suc, drop-append-le}
 use Rattle.sink.specs.Sink.{Writes}
 use borrow.Rule.Slice.PartMut.{put_mid}
