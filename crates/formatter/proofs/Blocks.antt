@@ -11,7 +11,7 @@ use Rattle.rows.specs.Kinds.{LeftBrace, RightBrace}
 use Rattle.rows.specs.Options.{Options, SameLine, Allman}
 use Rattle.rows.specs.Token.{Token}
 use Rattle.lookahead.specs.Measure.{block_is_single_line}
-use Rattle.definition.specs.Formatter.{set_inline_depth, set_record_pending, set_in_record, set_record_depth}
+use Rattle.definition.specs.Formatter.{Formatter, set_inline_depth, set_record_pending, set_in_record, set_record_depth}
 use Rattle.definition.specs.Act.{State, Act, update, ◌⨾◌, if, run}
 use Rattle.definition.specs.Emit.{ended_by, open_block_multiline, open_allman, open_same_line}
 use Rattle.definition.specs.Arms.{in_one_line_block, empty_record, open_block, left_brace_arm, open_inner_inline, open_inline}
@@ -19,7 +19,7 @@ use Rattle.lookahead.specs.Measure.{next_is}
 use Rattle.definition.proofs.Said.{said}
 use Rattle.sink.specs.Appends.{Appends}
 use Rattle.formatter.specs.CodeState.{Locals, CodeState, options_of, state_of, formatter_of, given}
-use Rattle.formatter.specs.Parts.{opens_block, record_entered, open_one_line, one_line_bytes, braced}
+use Rattle.formatter.specs.Parts.{opens_block, record_entered, open_one_line, braced}
 use Rattle.formatter.specs.Does.{Same, Does}
 use Rattle.formatter.proofs.Does.{same-run, same_options, does, yes, no}
 
@@ -43,6 +43,10 @@ module _ (o : Options) (i : ℕ) {x : Locals} {p q : CodeState} where
   block_allman e d = same-run {a = braced (open_allman o i)} (rw e) d
 
 -- ---- a one_line block: the indent or a space and the brace, in one write
+
+-- The bytes that the `{` of a one-line block writes; an inner one at a line's start writes no brace.
+abbrev one_line_bytes : Options → Formatter → List ℕ
+one_line_bytes o f = indent_or_space o f ++ cond (in_one_line_block f && f.at_line_start) [] left_brace
 
 pub one_line :
     (o : Options) {x : Locals} {p q : CodeState}

@@ -10,15 +10,36 @@ use Rattle.rows.specs.Options.{Options}
 use Rattle.rows.specs.Token.{Token}
 use Rattle.definition.specs.Formatter.{Formatter, set_inline_depth, set_just_closed_inline}
 use Rattle.definition.specs.Act.{state, run}
-use Rattle.shared.specs.Bytes.{space}
+use Rattle.rows.specs.Row.{row_size}
+use Rattle.shared.specs.Bytes.{space, left_brace, right_brace}
 use Rattle.definition.specs.Emit.{ended_by, track_fn_state}
 use Rattle.definition.specs.Arms.{in_one_line_block, right_brace_arm, left_brace_arm}
 use Rattle.definition.specs.PushToken.{arm, take_inline_close, turn}
 use Rattle.rows.specs.declared.kind.Kind.{Kind}
 use Rattle.rows.specs.declared.kind.Kind.TheVariants as kinds
 use Rattle.rows.specs.KindNumber.{kind_number}
-use Rattle.formatter.specs.FastBraces.{FastBraces, BeforeFastBraces, after_fast_braces, opener_bytes, closer_bytes, after_opener, after_closer}
+use Rattle.formatter.specs.FastBraces.{FastBraces, BeforeFastBraces, after_fast_braces}
 use Rattle.formatter.proofs.Turn.{by_arm_lem, with_same, fn_kept}
+
+-- ---- one brace
+
+-- The bytes of a `{`, with a space before it.
+abbrev pub opener_bytes : List ℕ
+opener_bytes = space ++ left_brace
+
+-- The bytes of a `}`, with a space before it; but `{}` is tight.
+abbrev pub closer_bytes : Kind → List ℕ
+closer_bytes prev = cond (eqb (kind_number prev) LeftBrace) [] space ++ right_brace
+
+-- The place after a `{` at b, where the text then has the length `len`.
+abbrev pub after_opener : FastBraces → ℕ → FastBraces
+after_opener b len =
+    record { at = b.at + row_size; len = len; prev = kinds.LeftBrace; depth = b.depth + 1; closed = false }
+
+-- The place after a `}` at b, where the text then has the length `len`.
+abbrev pub after_closer : FastBraces → ℕ → FastBraces
+after_closer b len =
+    record { at = b.at + row_size; len = len; prev = kinds.RightBrace; depth = b.depth - 1; closed = true }
 
 -- At the place b, a token of the kind k writes xs and goes to the place r.
 abbrev pub Turns : ℕ → FastBraces → List ℕ → FastBraces → Type 0

@@ -27,10 +27,10 @@ use Rattle.std.specs.Prelude.{unwrap_or, min}
 use Rattle.sink.specs.declared.write.Sink.{Sink}
 use Rattle.formatter.specs.CodeState.{Locals, CodeState, prev_of, formatter_of}
 use Rattle.formatter.specs.Format.{only_tokens}
-use Rattle.formatter.specs.FastBraces.{FastBraces, MayStartFastBraces, BeforeFastBraces, after_fast_braces, fast_braces_at, FastBracesLaidOut, opener_bytes, closer_bytes, after_opener, after_closer}
+use Rattle.formatter.specs.FastBraces.{FastBraces, MayStartFastBraces, BeforeFastBraces, after_fast_braces, fast_braces_at, FastBracesLaidOut}
 use Rattle.formatter.proofs.RunEnd.{RowAt, first_at}
 use Rattle.formatter.proofs.BareRow.{row_token, only_after, lay-turn}
-use Rattle.formatter.proofs.FastBraceTurn.{Turns, open_turns, close_turns}
+use Rattle.formatter.proofs.FastBraceTurn.{Turns, opener_bytes, closer_bytes, after_opener, after_closer, open_turns, close_turns}
 
 -- ---- what holds at the loop's head
 

@@ -1,5 +1,4 @@
 -- The loop over the tokens: what holds at each turn, and what a turn does with it. Assumes nothing.
--- The loop over the tokens: what holds at each turn, and what a turn does with it. Assumes nothing.
 use mathlib.Core.Bool.{cond}
 use mathlib.Core.List.{List, [], ◌∷◌}
 use mathlib.Core.Option.{none, some}

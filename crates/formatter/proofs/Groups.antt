@@ -33,8 +33,6 @@ pub its :
     → Does (a (bare_token t.kind t.lexeme)) x p q
 its f σ e a d = rw (σ.kind, e, σ.lexeme) d
 
--- ---- one-line blocks
-
 -- ---- a signature's `)`
 
 -- The depth that the definition takes first is not looked at again.

@@ -94,23 +94,3 @@ pub record FastBracesLaidOut (rows : List ℕ) (b : FastBraces) (l m : List ℕ)
 pub record LaysFastBraces (p : CodeState) (from at : ℕ) (q : CodeState) : Type 0 where
   pub laid : FastBracesLaidOut p.form.source.rows.now (fast_braces_at p from) p.sink.out.now q.sink.out.now (fast_braces_at q at)
   pub changed : ChangedBy (with_fast_braces (fast_braces_at q at)) p q
-
--- ---- one brace
-
--- The bytes of a `{`, with a space before it.
-abbrev pub opener_bytes : List ℕ
-opener_bytes = space ++ left_brace
-
--- The bytes of a `}`, with a space before it; but `{}` is tight.
-abbrev pub closer_bytes : Kind → List ℕ
-closer_bytes prev = cond (eqb (kind_number prev) LeftBrace) [] space ++ right_brace
-
--- The place after a `{` at b, where the text then has the length `len`.
-abbrev pub after_opener : FastBraces → ℕ → FastBraces
-after_opener b len =
-    record { at = b.at + row_size; len = len; prev = kinds.LeftBrace; depth = b.depth + 1; closed = false }
-
--- The place after a `}` at b, where the text then has the length `len`.
-abbrev pub after_closer : FastBraces → ℕ → FastBraces
-after_closer b len =
-    record { at = b.at + row_size; len = len; prev = kinds.RightBrace; depth = b.depth - 1; closed = true }

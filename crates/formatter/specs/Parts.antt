@@ -54,10 +54,6 @@ open_one_line o = if in_one_line_block (open_inner_inline o) (open_inline o)
 abbrev pub braced : Act → Act
 braced a = a ⨾ update (set_prev (some LeftBrace))
 
--- The bytes that the `{` of a one-line block writes; an inner one at a line's start writes no brace.
-abbrev pub one_line_bytes : Options → Formatter → List ℕ
-one_line_bytes o f = indent_or_space o f ++ cond (in_one_line_block f && f.at_line_start) [] left_brace
-
 -- ---- brackets
 
 -- Whether a `)` ends a broken signature: its depth, one less, is 0.

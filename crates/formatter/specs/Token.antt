@@ -22,6 +22,9 @@ abbrev pub depth_of : Option SignatureDepth → ℕ
 depth_of None = 0
 depth_of (Some d) = d.0
 
+-- The bounds below are asked at a call, and are no invariant of the type: a method may bring a count to its top, and the length
+-- of a full sink is past the end.
+
 -- The indent width is at most 16, and the indent is a 32-bit number.
 abbrev pub IndentBounds : Formatter → Type 0
 IndentBounds f = (f.options.indent_width ≤ most_indent_width) × (f.indent ≤ most32)

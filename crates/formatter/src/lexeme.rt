@@ -65,7 +65,8 @@ impl<'a> Formatter<'a> {
     }
 
     // Writes the spaces and the token's lexeme, and tracks `prev` and whether a `-` is unary. `kind` is the
-    // token's, a constant in most arms.
+    // token's, a constant in most arms: read from the token here, functions take 5 in 100 more, and the small
+    // list misses its bar.
     pub fn push_lexeme(&mut self, sink: &mut Sink, token: TokenAt, kind: Kind)
         requires can_write { CanWrite self.old sink.old }
         requires in_rows { HasRows token self.old × (kind ≡ token.kind) }

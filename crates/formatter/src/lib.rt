@@ -206,7 +206,8 @@ impl<'a> Formatter<'a> {
         self.sig_break_depth.is_some()
     }
 
-    // How many spaces an indent has: the length of `indent_str` in format.rs.
+    // How many spaces an indent has: the length of `indent_str` in format.rs. Such a gap has no type of its
+    // own: each is added to a length at once, and the type would be taken off there.
     pub fn indent_size(&self) -> usize
         requires { IndentBounds self.now }
         ensures { (result ≡ self.now.options.indent_width * self.now.indent) × (result < past_gap) }

@@ -97,7 +97,8 @@ fn read_lines(sheet: &[u8], rows: &mut [u8], text: &mut [u8]) -> Result<SheetSiz
 }
 
 // Reads the line at index `at` of `sheet`. Its row goes into `rows` after `n` rows, and its text into `text`
-// after `len` bytes.
+// after `len` bytes. No `Sink` holds these two: by one, a sheet is read at 600 million bytes a second in place
+// of 960.
 #[tactic(auto, using(crate::proofs::Stepping::line_steps))]
 fn read_line(
     sheet: &[u8],

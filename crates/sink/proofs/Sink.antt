@@ -110,8 +110,3 @@ module _ {l : List ℕ} {n : ℕ} {xs m : List ℕ} {r : ℕ} (w : Writes l n xs
   -- they fit exactly if the length is not past the end
   pub within-fits : r ≤ length l → n + length xs ≤ length l
   within-fits h = split (leb (n + length xs) (length l)) (λ e. leb-true _ _ e) (λ e. let o = w.over (leb-false _ _ e) in absurd (omega arith))
-
-  pub past_over : length l < r → length l < n + length xs
-  past_over h =
-      split (leb (n + length xs) (length l)) (λ e. let o = (w.fits (leb-true _ _ e)).far in let i : n + length xs ≤ length l = leb-true _ _ e in absurd (omega arith))
-      (λ e. leb-false _ _ e)

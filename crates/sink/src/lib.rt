@@ -3,5 +3,5 @@
 #![tactic(auto)]
 
 mod copy;
-pub mod put;
+mod put;
 pub mod write;

@@ -1,6 +1,6 @@
 -- `shared::numbers::put` meets its contract. Assumes nothing.
 use mathlib.Core.Path.{◌≡◌, sym, ap, ◌∙◌}
-use Prim.Native.Nat.{ℕ, ◌+◌}
+use Prim.Native.Nat.{◌+◌}
 use lib.ListN.{length}
 use borrow.Rule.Slice.PartMut.{mid_len}
 use native.Mathlib.Omega.{arith}

@@ -1,5 +1,5 @@
 -- `shared::report::put_report` meets its contract. Assumes nothing.
-use mathlib.Core.Path.{◌≡◌, ap, ◌∙◌}
+use mathlib.Core.Path.{ap, ◌∙◌}
 use lib.Seq.{sets}
 use Rattle.shared.specs.Report.{report_of}
 use Rattle.shared.proofs.LittleEndian.{le_bytes, report_stored}
