@@ -13,6 +13,7 @@ ghost use Rattle.doors.specs.Door.{door_refusal, door_report, door_slice};
 use format_source::format_source_with_shebang;
 use format_tokens::format_tokens_with;
 use pieces::read_pieces;
+use rows::OptionNumbers;
 use shared::refusal::Refusal;
 use shared::report::{REPORT_BYTES, put_report, report_answer};
 use sheet::read_sheet;
@@ -46,15 +47,13 @@ pub extern "C" fn rl_layout(
     if report.len() != REPORT_BYTES {
         return Refusal::BadReport.number();
     }
-    let laid = format_tokens_with(
+    let options = OptionNumbers {
         style,
         indent_width,
         signature_width,
         list_width,
-        rows,
-        text,
-        out,
-    );
+    };
+    let laid = format_tokens_with(rows, text, out, options);
     put_report(report, report_answer(answers::of_layout(laid)))
 }
 

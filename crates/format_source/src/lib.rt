@@ -9,7 +9,7 @@ ghost use Rattle.format_source.specs.Source.{is_shebang, shebang, before_walk, l
 ghost use Rattle.format_source.specs.Steps.{FitsAfter, line_first};
 
 use format_tokens::{LayoutError, Text, format_tokens_with};
-use rows::options;
+use rows::{OptionNumbers, options};
 
 // Lays out the tokens that `rows` name in `text` with the default options: Allman, 4, 40, 40. Where the
 // first line of `source` begins `#!` and not `#![`, that line and a line feed come first: they count in the
@@ -30,15 +30,13 @@ pub fn format_source_with_shebang(
 {
     let line = shebang_len(source);
     let room = line.min(out.len());
-    let answer = format_tokens_with(
-        options::DEFAULT_STYLE,
-        options::DEFAULT_INDENT_WIDTH,
-        options::DEFAULT_WIDTH,
-        options::DEFAULT_WIDTH,
-        rows,
-        text,
-        &mut out[room..],
-    );
+    let options = OptionNumbers {
+        style: options::DEFAULT_STYLE,
+        indent_width: options::DEFAULT_INDENT_WIDTH,
+        signature_width: options::DEFAULT_WIDTH,
+        list_width: options::DEFAULT_WIDTH,
+    };
+    let answer = format_tokens_with(rows, text, &mut out[room..], options);
     if line == 0 {
         return answer;
     }

@@ -15,7 +15,7 @@ pub use error::LayoutError;
 use formatter::{BraceStyle, Finished, Formatter, Options, WalkError};
 use plain::plain_mark;
 use row_writers::Source;
-use rows::{MOST_ROWS, ROW_BYTES, check_unless_known};
+use rows::{MOST_ROWS, OptionNumbers, ROW_BYTES, check_unless_known};
 use sink::write::Sink;
 
 mod error;
@@ -32,34 +32,22 @@ pub struct Text {
 // rest of `out` is unchanged. After refusals 1, 2 and 3 all of it is unchanged; after 4 and 5 every place
 // is 0. Style 0 is SameLine, 1 Allman.
 pub fn format_tokens_with(
-    style: u32,
-    indent_width: u32,
-    signature_width: u32,
-    list_width: u32,
     rows: &[u8],
     text: &[u8],
     out: &mut [u8],
+    options: OptionNumbers,
 ) -> Result<Text, LayoutError>
     ensures answer { reported result
-        ≡ (layout style indent_width signature_width list_width rows.now text.now
-        out.old).report }
+        ≡ (layout options.style options.indent_width options.signature_width options.list_width
+        rows.now text.now out.old).report }
     ensures output { out.new
-        ≡ (layout style indent_width signature_width list_width rows.now text.now
-        out.old).out }
+        ≡ (layout options.style options.indent_width options.signature_width options.list_width
+        rows.now text.now out.old).out }
 {
     // The mark is told first: its pass finds bad rows too, so that plain rows are passed over once.
     let plain = is_plain(rows, text);
-    check_unless_known(
-        style,
-        indent_width,
-        signature_width,
-        list_width,
-        rows,
-        text,
-        plain,
-    )?;
-    let options = options_of(style, indent_width, signature_width, list_width);
-    match lay_out(options, rows, text, out, plain) {
+    check_unless_known(options, rows, text, plain)?;
+    match lay_out(options_of(options), rows, text, out, plain) {
         Ok(Finished { length, commas }) => Ok(Text {
             length,
             commas,
@@ -86,20 +74,21 @@ fn is_plain(rows: &[u8], text: &[u8]) -> bool
 }
 
 // Returns the four options as the formatter has them.
-fn options_of(style: u32, indent_width: u32, signature_width: u32, list_width: u32) -> Options
+fn options_of(numbers: OptionNumbers) -> Options
     ensures options { options_of result
-        ≡ Rattle.rows.specs.Options.options_of style indent_width signature_width list_width }
-    ensures indent { result.indent_width ≡ indent_width }
+        ≡ Rattle.rows.specs.Options.options_of numbers.style numbers.indent_width numbers.signature_width
+        numbers.list_width }
+    ensures indent { result.indent_width ≡ numbers.indent_width }
 {
-    let brace_style = if style == 0 {
+    let brace_style = if numbers.style == 0 {
         BraceStyle::SameLine
     } else {
         BraceStyle::Allman
     };
     Options {
-        indent_width,
-        fn_sig_width: signature_width,
-        list_width,
+        indent_width: numbers.indent_width,
+        fn_sig_width: numbers.signature_width,
+        list_width: numbers.list_width,
         brace_style,
     }
 }

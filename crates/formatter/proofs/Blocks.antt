@@ -1,6 +1,6 @@
 -- The arm of `{` by the tests that the code makes: an empty record, a block over several lines by its style, a one_line block.
 -- Assumes nothing.
-use mathlib.Core.Bool.{true, false, ◌&&◌}
+use mathlib.Core.Bool.{true, false, cond, ◌&&◌}
 use mathlib.Core.List.{List, [], ◌∷◌, ◌++◌, append-nil, append_assoc}
 use mathlib.Core.Path.{◌≡◌, sym, ap}
 use Prim.Native.Nat.{ℕ, ◌+◌}
@@ -13,7 +13,8 @@ use Rattle.rows.specs.Token.{Token}
 use Rattle.lookahead.specs.Measure.{block_is_single_line}
 use Rattle.definition.specs.Formatter.{Formatter, set_inline_depth, set_record_pending, set_in_record, set_record_depth}
 use Rattle.definition.specs.Act.{State, Act, update, ◌⨾◌, if, run}
-use Rattle.definition.specs.Emit.{ended_by, open_block_multiline, open_allman, open_same_line}
+use Rattle.shared.specs.Bytes.{left_brace}
+use Rattle.definition.specs.Emit.{ended_by, indent_or_space, open_block_multiline, open_allman, open_same_line}
 use Rattle.definition.specs.Arms.{in_one_line_block, empty_record, open_block, left_brace_arm, open_inner_inline, open_inline}
 use Rattle.lookahead.specs.Measure.{next_is}
 use Rattle.definition.proofs.Said.{said}

@@ -1,16 +1,14 @@
 -- Fast braces: the braces of a one-line block, which a tight loop lays out. It is a second form of their arms, and is proved
 -- equal: the definition's walk goes on after them as it would have from their start.
 -- Assumes nothing.
-use Rattle.std.specs.Prelude.{Bool, true, false, cond, not, ◌&&◌, List, [], ◌++◌, ◌≡◌, ℕ, ◌+◌, ◌-◌, ◌*◌, ◌/◌, ◌≤◌, eqb, ltb, length, take, drop, unwrap_or}
+use Rattle.std.specs.Prelude.{Bool, true, false, cond, not, ◌&&◌, List, ◌≡◌, ℕ, ◌+◌, ◌-◌, ◌*◌, ◌/◌, ◌≤◌, ltb, length, take, drop, unwrap_or}
 use Rattle.std.proofs.Math.Option.{none, some}
-use Rattle.rows.specs.Kinds.{LeftBrace}
 use Rattle.rows.specs.declared.kind.Kind.{Kind}
 use Rattle.rows.specs.declared.kind.Kind.TheVariants as kinds
 use Rattle.rows.specs.KindNumber.{kind_number}
 use Rattle.rows.specs.Options.{Options}
 use Rattle.rows.specs.Row.{row_size}
 use Rattle.rows.specs.Token.{tokens_of}
-use Rattle.shared.specs.Bytes.{space, left_brace, right_brace}
 use Rattle.definition.specs.Formatter.{Formatter, set_prev, set_inline_depth, set_just_closed_inline, set_inline_close, set_returned}
 use Rattle.definition.specs.Act.{state}
 use Rattle.definition.specs.Layout.{finished, lay_from}

@@ -3,7 +3,6 @@
 use Rattle.std.specs.Prelude.{Bool, true, false, cond, not, ◌&&◌, ◌||◌, List, [], ◌++◌, ℕ, ◌+◌, ◌-◌, ◌*◌, eqb}
 use Rattle.std.specs.Prelude
 use Rattle.std.proofs.Math.Option.{some, map}
-use Rattle.shared.specs.Bytes.{left_brace}
 use Rattle.rows.specs.Kinds.{LeftBrace, RightBrace, RightParen, RightBracket}
 use Rattle.rows.specs.declared.kind.Kind.{Kind}
 use Rattle.rows.specs.KindNumber.{kind_number}
@@ -12,7 +11,7 @@ use Rattle.rows.specs.Token.{Token}
 use Rattle.lookahead.specs.Measure.{is_empty, next_has_comment, block_is_single_line}
 use Rattle.definition.specs.Formatter.{Formatter, set_in_record, set_record_depth, set_record_pending, set_returned, set_prev}
 use Rattle.definition.specs.Act.{State, Act, if, update, gap, lexeme, insert, ◌⨾◌}
-use Rattle.definition.specs.Emit.{is_at, prev_is, indent_or_space, on_new_line, ended_by, dedented, emit_token_text}
+use Rattle.definition.specs.Emit.{is_at, prev_is, on_new_line, ended_by, dedented, emit_token_text}
 use Rattle.spaces.specs.Space.{space_after}
 use Rattle.formatter.specs.CodeState.{prev_of}
 use Rattle.definition.specs.Arms.{in_one_line_block, in_broken_list, ends_with_two_feeds, group_closed, popped}

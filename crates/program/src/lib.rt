@@ -3,7 +3,7 @@
 
 use console::read_full;
 use format_tokens::{LayoutError, Text, format_tokens_with};
-use rows::{ROW_BYTES, options};
+use rows::{OptionNumbers, ROW_BYTES, options};
 use shared::refusal::Refused;
 use sheet::{SheetSize, read_sheet};
 use std::io;
@@ -36,15 +36,13 @@ fn lay_out(
     let Some(text) = text.get(..read.text_bytes) else {
         return Ok(());
     };
-    let answer = format_tokens_with(
-        options::DEFAULT_STYLE,
-        options::DEFAULT_INDENT_WIDTH,
-        options::DEFAULT_WIDTH,
-        options::DEFAULT_WIDTH,
-        rows,
-        text,
-        out,
-    );
+    let options = OptionNumbers {
+        style: options::DEFAULT_STYLE,
+        indent_width: options::DEFAULT_INDENT_WIDTH,
+        signature_width: options::DEFAULT_WIDTH,
+        list_width: options::DEFAULT_WIDTH,
+    };
+    let answer = format_tokens_with(rows, text, out, options);
     print_answer(rt, answer, out)
 }
 

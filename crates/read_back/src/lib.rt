@@ -11,6 +11,7 @@ ghost use Rattle.read_back.specs.Steps.{Fits};
 
 use format_tokens::{LayoutError, Text, format_tokens_with};
 use pieces::{ReadError, read_pieces};
+use rows::OptionNumbers;
 
 // What the layout answers, and what reading its text answers. After a refusal nothing is read, and `read`
 // tells of 0 pieces.
@@ -24,40 +25,29 @@ pub struct ReadBack {
 // end of each piece go into `pieces`.
 #[tactic(auto, using(crate::proofs::Seen::seen_layout))]
 pub fn format_and_read_back(
-    style: u32,
-    indent_width: u32,
-    signature_width: u32,
-    list_width: u32,
     rows: &[u8],
     text: &[u8],
     out: &mut [u8],
     pieces: &mut [u32],
+    options: OptionNumbers,
 ) -> ReadBack
     ensures laid { Laid.reported result.laid
-        ≡ (layout style indent_width signature_width list_width rows.now text.now
-        out.old).report }
+        ≡ (layout options.style options.indent_width options.signature_width options.list_width
+        rows.now text.now out.old).report }
     ensures output { out.new
-        ≡ (layout style indent_width signature_width list_width rows.now text.now
-        out.old).out }
+        ≡ (layout options.style options.indent_width options.signature_width options.list_width
+        rows.now text.now out.old).out }
     ensures read { Read.reported result.read
-        ≡ read_back_answer (layout style indent_width signature_width list_width rows.now
-        text.now out.old) (length pieces.old) }
+        ≡ read_back_answer (layout options.style options.indent_width options.signature_width
+        options.list_width rows.now text.now out.old) (length pieces.old) }
     ensures slice { pieces.new
-        ≡ read_back_slots (layout style indent_width signature_width list_width rows.now
-        text.now out.old) pieces.old }
+        ≡ read_back_slots (layout options.style options.indent_width options.signature_width
+        options.list_width rows.now text.now out.old) pieces.old }
     ensures first_half { FirstHalfOf (lexemes rows.now text.now)
         (seen result.laid out.new) (Read.reported result.read) pieces.old
         pieces.new }
 {
-    let laid = format_tokens_with(
-        style,
-        indent_width,
-        signature_width,
-        list_width,
-        rows,
-        text,
-        out,
-    );
+    let laid = format_tokens_with(rows, text, out, options);
     let read = read_laid(laid, out, pieces);
     ReadBack { laid, read }
 }

@@ -5,7 +5,7 @@
 use console::{Left, buffer, read_full, replay};
 use format_source::format_source_with_shebang;
 use format_tokens::{LayoutError, Text, format_tokens_with};
-use rows::ROW_BYTES;
+use rows::{OptionNumbers, ROW_BYTES};
 use shared::refusal::Refused;
 use std::io;
 
@@ -25,7 +25,7 @@ fn main(rt: HostRuntime) -> io::Result<()> {
 #[derive(Clone, Copy)]
 enum Call {
     // `format_tokens_with`, with these options.
-    Layout { options: [u32; 4] },
+    Layout { options: OptionNumbers },
     // `format_source_with_shebang`.
     Source,
 }
@@ -60,12 +60,12 @@ fn replay_case(
 // source, the rows, the text, the source and a line feed. Numbers are decimal, each with one byte after it.
 fn take_case<'a>(left: &mut Left<'a>, rows: &mut [u8]) -> Option<Case<'a>> {
     let letter = *left.take(2)?.first()?;
-    let options = [
-        take_number(left)?,
-        take_number(left)?,
-        take_number(left)?,
-        take_number(left)?,
-    ];
+    let options = OptionNumbers {
+        style: take_number(left)?,
+        indent_width: take_number(left)?,
+        signature_width: take_number(left)?,
+        list_width: take_number(left)?,
+    };
     let out_size = left.number()?;
     let row_bytes = left.number()?;
     let row_count = left.number()?;
@@ -129,9 +129,7 @@ fn replay_call(rt: &impl Print, case: Case<'_>, rows: &[u8], out: &mut [u8]) -> 
     out.fill(b'~');
     let answer = match case.call {
         Call::Source => format_source_with_shebang(case.source, rows, case.text, out),
-        Call::Layout { options } => format_tokens_with(
-            options[0], options[1], options[2], options[3], rows, case.text, out,
-        ),
+        Call::Layout { options } => format_tokens_with(rows, case.text, out, options),
     };
     print_answer(rt, answer)?;
     rt.write_all(out)?;

@@ -8,7 +8,7 @@ use lookahead::{
     block_is_single_line, group_measure, next_has_comment, should_break_list, should_break_sig,
     sig_measure,
 };
-use rows::{ROW_BYTES, check};
+use rows::{OptionNumbers, ROW_BYTES, check};
 use shared::refusal::Refused;
 use spaces::needs_space;
 use std::io;
@@ -42,7 +42,7 @@ fn print_refused(rt: &impl Print, answer: Result<bool, Refused>) -> io::Result<(
 // A case: the four options, the text's size, the rows, and which lookaheads are run.
 #[derive(Clone, Copy)]
 struct Case<'a> {
-    options: [u32; 4],
+    options: OptionNumbers,
     text_size: usize,
     rows: &'a [u8],
     calls: &'a [u8],
@@ -67,12 +67,12 @@ fn replay_case(rt: &impl Print, left: &mut Left<'_>) -> io::Result<bool> {
 
 // Takes the next case: its numbers, the rows, and two numbers for each lookahead.
 fn take_case<'a>(left: &mut Left<'a>) -> Option<Case<'a>> {
-    let options = [
-        left.number_32()?,
-        left.number_32()?,
-        left.number_32()?,
-        left.number_32()?,
-    ];
+    let options = OptionNumbers {
+        style: left.number_32()?,
+        indent_width: left.number_32()?,
+        signature_width: left.number_32()?,
+        list_width: left.number_32()?,
+    };
     let text_size = left.number_32()? as usize;
     let size = left.number_32()? as usize;
     let count = left.number_32()? as usize;
@@ -91,15 +91,7 @@ fn print_check(rt: &impl Print, case: Case<'_>) -> io::Result<()> {
     let Some(text) = text.get(..case.text_size) else {
         return Ok(());
     };
-    let [style, indent_width, signature_width, list_width] = case.options;
-    let checked = check(
-        style,
-        indent_width,
-        signature_width,
-        list_width,
-        case.rows,
-        text,
-    );
+    let checked = check(case.options, case.rows, text);
     print_refused(rt, checked.map(|()| false).map_err(Refused::from))
 }
 
@@ -128,16 +120,15 @@ fn print_lookahead(rt: &impl Print, case: Case<'_>, call: Lookahead, row: usize)
     let Some(rows) = case.rows.get(row.saturating_mul(ROW_BYTES)..) else {
         return Ok(());
     };
-    let [_, _, signature_width, list_width] = case.options;
     match call {
         Lookahead::Signature => {
             let m = sig_measure(rows);
-            let breaks = u8::from(should_break_sig(rows, signature_width));
+            let breaks = u8::from(should_break_sig(rows, case.options.signature_width));
             print!(rt; " {} {} {breaks};", m.params, m.width)
         }
         Lookahead::List => {
             let m = group_measure(rows);
-            let breaks = u8::from(should_break_list(rows, list_width));
+            let breaks = u8::from(should_break_list(rows, case.options.list_width));
             print!(rt; " {} {} {breaks};", m.commas, m.width)
         }
         Lookahead::Block => print!(rt; " {};", u8::from(block_is_single_line(rows))),

@@ -16,6 +16,7 @@ pub mod kind;
 pub mod options;
 
 pub use kind::{Kind, KindSet, Trivia, What};
+pub use options::OptionNumbers;
 use shared::refusal::{Refusal, Refused};
 use std::alloc::AllocError;
 use std::error::Error;
@@ -65,55 +66,37 @@ impl fmt::Display for CheckError {
 impl Error for CheckError {}
 
 // Looks for refusals 1, 2 and 3 in that order, and answers the first that it finds.
-pub fn check(
-    style: u32,
-    indent_width: u32,
-    signature_width: u32,
-    list_width: u32,
-    rows: &[u8],
-    text: &[u8],
-) -> Result<(), CheckError>
+pub fn check(options: OptionNumbers, rows: &[u8], text: &[u8]) -> Result<(), CheckError>
     ensures { reported result
-        ≡ check_report style indent_width signature_width list_width rows.now
-        (length text.now) }
+        ≡ check_report options.style options.indent_width options.signature_width options.list_width
+        rows.now (length text.now) }
 {
-    check_unless_known(
-        style,
-        indent_width,
-        signature_width,
-        list_width,
-        rows,
-        text,
-        false,
-    )
+    check_unless_known(options, rows, text, false)
 }
 
 // Answers what `check` answers. Where `good` is true, no row is bad, and none is looked at.
 #[tactic(auto, unfolding(crate::specs::Answer::check_report, crate::specs::Options::bad_option))]
 pub fn check_unless_known(
-    style: u32,
-    indent_width: u32,
-    signature_width: u32,
-    list_width: u32,
+    options: OptionNumbers,
     rows: &[u8],
     text: &[u8],
     good: bool,
 ) -> Result<(), CheckError>
     requires { good ≡ true → GoodRows rows.now (length text.now) }
     ensures { reported result
-        ≡ check_report style indent_width signature_width list_width rows.now
-        (length text.now) }
+        ≡ check_report options.style options.indent_width options.signature_width options.list_width
+        rows.now (length text.now) }
 {
-    if options::MOST_STYLE < style {
+    if options::MOST_STYLE < options.style {
         return Err(CheckError::BadOption { position: 0 });
     }
-    if options::MOST_INDENT_WIDTH < indent_width {
+    if options::MOST_INDENT_WIDTH < options.indent_width {
         return Err(CheckError::BadOption { position: 1 });
     }
-    if options::MOST_WIDTH < signature_width {
+    if options::MOST_WIDTH < options.signature_width {
         return Err(CheckError::BadOption { position: 2 });
     }
-    if options::MOST_WIDTH < list_width {
+    if options::MOST_WIDTH < options.list_width {
         return Err(CheckError::BadOption { position: 3 });
     }
     check_rows(rows, text.len(), good)

@@ -1,5 +1,14 @@
 // The options' bounds and defaults (specification, 'Options').
 
+// The four options of a layout as a caller gives them, not yet checked.
+#[derive(Clone, Copy, Debug, PartialEq, Eq)]
+pub struct OptionNumbers {
+    pub style: u32,
+    pub indent_width: u32,
+    pub signature_width: u32,
+    pub list_width: u32,
+}
+
 // Style 0 is SameLine, 1 Allman.
 pub const MOST_STYLE: u32 = 1;
 

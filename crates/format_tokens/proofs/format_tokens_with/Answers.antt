@@ -21,17 +21,17 @@ lay_out-requires c =
     let π = passed _ _ _ _ _ _ (sym c.in_ok-check_unless_known.ensures) in
     record {
       checked_rows = passed_walks text π;
-      indent_width_bound = rw c.options_of-options.ensures.indent (small_width text π);
+      indent_width_bound = rw c.options_of.ensures.indent (small_width text π);
       plain_value = c.is_plain-plain.ensures.mark (few_rows π) π.each;
     }
 
 -- the walk's end s, under the checks that passed
 walked : (c : After-lay_out) {s : Result Finished WalkError} → c.lay_out.result ≡ s
     → let a = c.args in
-    Answers a.style a.indent_width a.signature_width a.list_width a.rows.now a.text.now a.out.now (reported (answer_to s c.is_plain-plain.result)) (output_to s c.lay_out.new.out)
+    Answers a.options.style a.options.indent_width a.options.signature_width a.options.list_width a.rows.now a.text.now a.out.now (reported (answer_to s c.is_plain-plain.result)) (output_to s c.lay_out.new.out)
 walked c e =
     let π = passed _ _ _ _ _ _ (sym c.in_ok-check_unless_known.ensures) in
-    let laid = rw c.options_of-options.ensures.options at c.lay_out.ensures in
+    let laid = rw c.options_of.ensures.options at c.lay_out.ensures in
     walked_by c.args.text.now π laid e (c.is_plain-plain.ensures.mark (few_rows π) π.each)
 
 pub returns-in-Ok : goal.returns-in-Ok

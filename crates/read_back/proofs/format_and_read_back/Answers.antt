@@ -7,5 +7,5 @@ returns-clause-first_half c =
     let a = c.args in
     let e = c.format_tokens_with-laid.ensures in
     let f = c.read_laid-read.ensures in
-    returned a.style a.indent_width a.signature_width a.list_width a.rows.now a.text.now a.out.now
+    returned a.options.style a.options.indent_width a.options.signature_width a.options.list_width a.rows.now a.text.now a.out.now
     c.format_tokens_with-laid.result e.answer e.output a.pieces.now f.answer f.slice
