@@ -124,7 +124,8 @@ fn piece_at(text: &[u8], start: usize) -> Result<Option<Piece>, Unreadable>
     Ok(Some(Piece { start, end }))
 }
 
-// Puts the piece after the `n` that stand in `pieces` already, where it fits.
+// Puts the piece after the `n` that stand in `pieces` already, where it fits. A slice of what is free, cut
+// again at each piece, would be no plainer.
 fn store(pieces: &mut [u32], n: usize, piece: Piece) -> Result<(), ReadError>
     requires { (piece.start ≤ piece.end) × (2 * n ≤ length pieces.old) }
     ensures fits { is_ok result ≡ fits (length pieces.old) n piece.end }

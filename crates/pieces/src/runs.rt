@@ -93,6 +93,7 @@ fn eight_ordinary(text: &[u8], at: usize, quote: u8) -> bool
 fn number_end(text: &[u8], from: usize) -> usize
     ensures { EndsAt text.now number from result }
 {
+    // A loop by index, since a `.` is taken by the byte after it.
     for i in from..text.len() {
         if !number_takes(text, i) {
             return i;

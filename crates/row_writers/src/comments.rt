@@ -1,4 +1,5 @@
-// Writers of comments with their marks, as leading and trailing trivia have them.
+// Writers of comments with their marks, as leading and trailing trivia have them. They take the row, which tells
+// the kind too, and not its bytes alone.
 ghost use Rattle.std.specs.Prelude.{cond, [], ◌++◌, ◌<◌};
 ghost use Rattle.shared.specs.Bytes.{line_feed, space, star_slash};
 ghost use Rattle.rows.specs.Bounds.{Inside, row_of};

@@ -1,4 +1,5 @@
-// Copies a part of a text into a place of the lent output that has its length.
+// Copies a part of a text into a place of the lent output that has its length. That the two have one length is
+// a clause: a type for the pair would be made at each call and taken apart there.
 ghost use Rattle.std.specs.Prelude.{◌≡◌, ◌+◌, ◌≤◌, length};
 ghost use Rattle.std.proofs.Math.Seq.{slice};
 ghost use Rattle.sink.specs.Sink.{Writes};

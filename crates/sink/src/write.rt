@@ -247,7 +247,8 @@ pub fn count_comma(wanted: bool) -> usize
     usize::from(wanted)
 }
 
-// Writes one byte after the first `len` of an output, and answers the length after it.
+// Writes one byte after the first `len` of an output, and answers the length after it: for the sheet, which is
+// read into no `Sink` (crates/sheet/src/lib.rt).
 pub fn write_byte(out: &mut [u8], len: usize, b: u8) -> usize
     ensures { Writes out.old len (b ∷ []) out.new result }
 {
