@@ -1,6 +1,6 @@
 #!/usr/bin/env bash
-# No method of the formatter may fall out of the layout's loop: a method that the compiler does not compile into it takes
-# the state by a copy, and costs two to three times. So the archive has no symbol of one, and `write_lexeme`, which is
+# No method of the formatter may fall out of the layout's loop: in a method that the compiler does not compile into it the
+# state is read from memory and stored again. So the archive has no symbol of one, and `write_lexeme`, which is
 # compiled by itself so that the methods stay small, is there. Builds the archive first, unless LIBDOORS names one. Needs rt
 # and nm; it is not part of the gate.
 set -e
