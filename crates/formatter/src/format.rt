@@ -1,5 +1,5 @@
 // `format`, the loop over the tokens, and `push_token` with the arm of a token's kind.
-ghost use Rattle.std.specs.Prelude.{true, false, not, ◌&&◌, ◌≡◌, ◌+◌, ◌≤◌, ◌<◌, eqb, ltb, length};
+ghost use Rattle.std.specs.Prelude.{true, false, not, ◌&&◌, ◌≡◌, ◌+◌, ◌≤◌, ◌<◌, eqb, ltb, length, IfOk};
 ghost use Rattle.shared.specs.Numbers.{most32};
 ghost use Rattle.rows.specs.Options.{most_indent_width};
 ghost use Rattle.rows.specs.Row.{row_size};
@@ -25,6 +25,7 @@ impl<'a> Formatter<'a> {
         requires no_trivia_if { NoTriviaIf self.old.bare self.old.source.rows.now }
         ensures laid_out { LaidOut self.old.source.rows.now self.old.source.text.now
             (options_of self.old.options) sink.old.out.now result sink.new.out.now }
+        ensures length { IfOk result (λ f. sink.new.len ≡ f.length) }
         ensures lent { sink.new.out.ghost_name ≡ sink.old.out.ghost_name }
     {
         self.ends = ends_of(self.source.rows, self.options.list_width);

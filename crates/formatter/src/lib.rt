@@ -11,7 +11,7 @@ ghost use Rattle.sink.specs.Sink.{past_gap};
 ghost use Rattle.sink.specs.declared.write.Sink.{Sink};
 ghost use Rattle.formatter.specs.CodeState.{prev_of, signature_of, fields_of};
 ghost use Rattle.formatter.specs.Token.{IndentBounds};
-ghost use Rattle.formatter.specs.Format.{Fresh};
+ghost use Rattle.formatter.specs.Format.{Fresh, Ending};
 
 pub mod braces;
 pub mod brackets;
@@ -144,6 +144,7 @@ impl<'a> Formatter<'a> {
     // The state before the first token of `source`. Where `bare` is true, no row is trivia.
     pub fn new(options: Options, source: Source<'a>, bare: bool) -> Self
         ensures fresh { (s : Sink) → s.len ≡ 0 → Fresh result s }
+        ensures ends { Ending source.entry.rows.now result.ends }
         ensures given { (result.options ≡ options) × (result.source ≡ source.entry) × (result.bare ≡ bare) }
     {
         Formatter {
