@@ -1,6 +1,6 @@
 -- The parts of the definition's arms that have a method of their own in the code, in the order of format.rs.
 -- Assumes nothing.
-use Rattle.std.specs.Prelude.{Bool, true, false, cond, not, ◌&&◌, ◌||◌, List, [], ◌++◌, ℕ, ◌+◌, ◌-◌, ◌*◌, eqb}
+use Rattle.std.specs.Prelude.{Bool, true, false, cond, not, ◌&&◌, ◌||◌, List, ℕ, ◌+◌, ◌-◌, ◌*◌, eqb}
 use Rattle.std.specs.Prelude
 use Rattle.std.proofs.Math.Option.{some, map}
 use Rattle.rows.specs.Kinds.{LeftBrace, RightBrace, RightParen, RightBracket}

@@ -1,5 +1,5 @@
 // Eight bytes in one number, tested at once.
-ghost use Rattle.std.specs.Prelude.{◌≡◌, ◌+◌, ◌≤◌, ◌<◌, length};
+ghost use Rattle.std.specs.Prelude.{◌≡◌, ◌+◌, ◌≤◌, length};
 ghost use Rattle.pieces.specs.Eight.{eight_at, eight_ones, bytes_other};
 
 // In each byte the high bit; in each the bits below it; in each the number 1.

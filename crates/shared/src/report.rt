@@ -1,6 +1,6 @@
 // A report (specification, 'The doors'), and its bytes.
 ghost use Rattle.std.specs.Prelude.{◌≡◌, length};
-ghost use Rattle.shared.specs.Report.{answer_report, number_or_0, report_of, report_bytes, report_size};
+ghost use Rattle.shared.specs.Report.{answer_report, report_of, report_bytes, report_size};
 
 use crate::numbers::put;
 use crate::refusal::{Refusal, Refused};
