@@ -39,24 +39,23 @@ fn print_refused(rt: &impl Print, answer: Result<bool, Refused>) -> io::Result<(
     }
 }
 
-// A case: the four options, the text's size, the rows, and which lookaheads are run.
+// A case: the four options, the text's size, the rows, and how many lookaheads are run.
 #[derive(Clone, Copy)]
 struct Case<'a> {
     options: OptionNumbers,
     text_size: usize,
     rows: &'a [u8],
-    calls: &'a [u8],
+    call_count: usize,
 }
 
-// Replays the next case, and returns whether it was whole.
+// Replays the next case, and returns whether its rows were whole. The input may end before its last lookaheads.
 fn replay_case(rt: &impl Print, left: &mut Left<'_>) -> io::Result<bool> {
     let Some(case) = take_case(left) else {
         return Ok(false);
     };
     print_check(rt, case)?;
-    let mut calls = Left { bytes: case.calls };
-    for _ in 0..case.calls.len() {
-        let Some((call, row)) = take_call(&mut calls) else {
+    for _ in 0..case.call_count {
+        let Some((call, row)) = take_call(left) else {
             break;
         };
         print_lookahead(rt, case, call, row)?;
@@ -65,7 +64,7 @@ fn replay_case(rt: &impl Print, left: &mut Left<'_>) -> io::Result<bool> {
     Ok(true)
 }
 
-// Takes the next case: its numbers, the rows, and two numbers for each lookahead.
+// Takes the next case but its lookaheads: its numbers and the rows.
 fn take_case<'a>(left: &mut Left<'a>) -> Option<Case<'a>> {
     let options = OptionNumbers {
         style: left.number_32()?,
@@ -75,14 +74,13 @@ fn take_case<'a>(left: &mut Left<'a>) -> Option<Case<'a>> {
     };
     let text_size = left.number_32()? as usize;
     let size = left.number_32()? as usize;
-    let count = left.number_32()? as usize;
+    let call_count = left.number_32()? as usize;
     let rows = left.take(size)?;
-    let calls = left.take(8 * count)?;
     Some(Case {
         options,
         text_size,
         rows,
-        calls,
+        call_count,
     })
 }
 
@@ -102,18 +100,20 @@ enum Lookahead {
     List,
     Block,
     Comment,
+    // None of the four.
+    Unknown,
 }
 
-// Takes a lookahead, and the row from which on the rows are given to it.
-fn take_call(calls: &mut Left<'_>) -> Option<(Lookahead, usize)> {
-    let call = match calls.number_32()? {
+// Takes a lookahead, two numbers: which it is, and the row from which on the rows are given to it.
+fn take_call(left: &mut Left<'_>) -> Option<(Lookahead, usize)> {
+    let call = match left.number_32()? {
         0 => Lookahead::Signature,
         1 => Lookahead::List,
         2 => Lookahead::Block,
         3 => Lookahead::Comment,
-        _ => return None,
+        _ => Lookahead::Unknown,
     };
-    Some((call, calls.number_32()? as usize))
+    Some((call, left.number_32()? as usize))
 }
 
 fn print_lookahead(rt: &impl Print, case: Case<'_>, call: Lookahead, row: usize) -> io::Result<()> {
@@ -133,5 +133,6 @@ fn print_lookahead(rt: &impl Print, case: Case<'_>, call: Lookahead, row: usize)
         }
         Lookahead::Block => print!(rt; " {};", u8::from(block_is_single_line(rows))),
         Lookahead::Comment => print!(rt; " {};", u8::from(next_has_comment(rows))),
+        Lookahead::Unknown => print!(rt; ";"),
     }
 }
