@@ -2,14 +2,11 @@
 #![tactic(auto)]
 
 ghost use Rattle.std.specs.Prelude.{if◌then◌else◌, ◌≡◌, ◌+◌, ◌≤◌, ◌<◌, leb, length, take, drop, is_some};
-ghost use Rattle.std.specs.Prelude.{IfOk, IfSome, OnSome, SomeIff, MatchOption};
-ghost use Rattle.std.specs.Char.{is_ascii_digit};
+ghost use Rattle.std.specs.Prelude.{IfOk, IfSome, MatchOption};
 ghost use Rattle.std.specs.Fn.{CalledAtMut};
 ghost use Rattle.std.specs.Int.{w32, from_le_bytes};
-ghost use Rattle.std.specs.List.{prefix_len};
-ghost use Rattle.std.specs.Str.Parse.{digits_value};
 ghost use Rattle.console.specs.declared.Left.{Left};
-ghost use Rattle.console.specs.Number.{digits, HasNumber};
+ghost use Rattle.console.specs.Number.{digit, number, numeral};
 ghost use Rattle.console.specs.Replay.{Replays};
 
 use std::io;
@@ -57,19 +54,27 @@ impl<'a> Left<'a> {
         Some(taken)
     }
 
-    // Takes the next decimal number, and the byte after it. The digits are taken also where there is none.
-    pub fn number(&mut self) -> Option<usize>
-        ensures value { SomeIff result (HasNumber self.old.bytes.now)
-            (digits_value 10 (digits self.old.bytes.now)) }
+    // Takes the numeral that comes first, and the byte after it, if there is one. An empty numeral is 0.
+    pub fn number(&mut self) -> u32
+        ensures value { result ≡ number (numeral self.old.bytes.now) }
         ensures left { self.new.bytes.now
-            ≡ drop (length (digits self.old.bytes.now) + 1) self.old.bytes.now }
-        ensures shorter { OnSome result (length self.new.bytes.now < length self.old.bytes.now) }
+            ≡ drop (length (numeral self.old.bytes.now) + 1) self.old.bytes.now }
     {
-        let size = digits_len(self.bytes);
-        let digits = str::from_utf8(self.take(size)?).ok()?;
-        self.take(1)?;
-        let number = digits.parse().ok()?;
-        Some(number)
+        let (numeral, left) = self.bytes.split_at(numeral_len(self.bytes));
+        self.bytes = left;
+        let _ = self.take(1);
+        decimal(numeral)
+    }
+
+    // Takes the next `size` bytes as a decimal number, if so many are left.
+    pub fn fixed_number(&mut self, size: usize) -> Option<u32>
+        ensures value { MatchOption result (length self.old.bytes.now < size)
+            (λ n. (size ≤ length self.old.bytes.now) × (n ≡ number (take size self.old.bytes.now))) }
+        ensures left { self.new.bytes.now
+            ≡ (if is_some result then drop size self.old.bytes.now else self.old.bytes.now) }
+    {
+        let numeral = self.take(size)?;
+        Some(decimal(numeral))
     }
 
     // Takes the next 32-bit number, its lowest byte first.
@@ -85,11 +90,28 @@ impl<'a> Left<'a> {
     }
 }
 
-// Returns how many decimal digits come first.
-fn digits_len(bytes: &[u8]) -> usize
-    ensures { result ≡ prefix_len is_ascii_digit bytes.now }
+// Returns how many bytes the numeral that comes first has.
+fn numeral_len(bytes: &[u8]) -> usize
+    ensures { result ≡ length (numeral bytes.now) }
 {
-    bytes.iter().take_while(|b| b.is_ascii_digit()).count()
+    bytes.iter().take_while(|b| **b >= b'0').count()
+}
+
+// Returns the number that the bytes write.
+fn decimal(bytes: &[u8]) -> u32
+    ensures { result ≡ number bytes.now }
+{
+    bytes.iter().fold(
+        0,
+        |n, b| ((10 * u64::from(n) + u64::from(digit(*b))) % (1 << 32)) as u32,
+    )
+}
+
+// Returns what the byte counts as a digit.
+fn digit(b: u8) -> u8
+    ensures { result ≡ digit b }
+{
+    b.saturating_sub(b'0') % 10
 }
 
 // Runs case after case, until one is not whole. No case is empty, so that there are fewer of them than bytes.

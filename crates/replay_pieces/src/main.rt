@@ -15,7 +15,7 @@ fn main(rt: HostRuntime) -> io::Result<()> {
 }
 
 // Replays the next case, and returns whether it was whole. A case is two lines: how many numbers the slice has
-// and how many bytes the text; then the text and a line feed.
+// and how many bytes the text, three digits each; then the text and a line feed.
 fn replay_case(rt: &impl Print, left: &mut Left<'_>) -> io::Result<bool> {
     let Some((slots, text)) = take_case(left) else {
         return Ok(false);
@@ -29,11 +29,19 @@ fn replay_case(rt: &impl Print, left: &mut Left<'_>) -> io::Result<bool> {
 }
 
 fn take_case<'a>(left: &mut Left<'a>) -> Option<(usize, &'a [u8])> {
-    let slots = left.number()?;
-    let length = left.number()?;
+    let slots = take_number(left)?;
+    let length = take_number(left)?;
     let text = left.take(length)?;
+    // The last line feed may be missing.
     let _ = left.take(1);
     Some((slots, text))
+}
+
+// Takes a line with a number.
+fn take_number(left: &mut Left<'_>) -> Option<usize> {
+    let number = left.fixed_number(3)?;
+    left.take(1)?;
+    Some(number as usize)
 }
 
 // Writes a line: the answer of `read_pieces`, that of `count_pieces`, and the slice after the call.
