@@ -1,11 +1,11 @@
 -- The loop of `count_pieces`; and the number it counts is what `read_pieces` reads, where there is room. Assumes nothing.
 use mathlib.Core.List.{List}
-use mathlib.Core.Path.{◌≡◌, refl, sym, ap, ◌∙◌}
-use Prim.Native.Nat.{ℕ, suc, ◌+◌, ◌*◌, ◌≤◌}
+use mathlib.Core.Path.{◌≡◌, refl, sym, ap, subst, ◌∙◌}
+use Prim.Native.Nat.{ℕ, suc, ◌+◌, ◌*◌, ◌≤◌, ◌<◌}
 use native.Mathlib.Numerals.{add-one}
 use native.Mathlib.Omega.{arith}
 use lib.ListN.{length}
-use Rattle.std.specs.Prelude.{None, Some, Result, Ok, Err}
+use Rattle.std.specs.Prelude.{Option, None, Some, Result, Ok, Err}
 use Rattle.std.specs.Result.{IsErrAnd}
 use borrow.Author.Tests.{le-leb}
 use Rattle.shared.specs.Numbers.{most32}
@@ -17,14 +17,19 @@ use Rattle.pieces.specs.declared.Piece.{Piece}
 use Rattle.pieces.specs.declared.ReadError.{ReadError}
 use Rattle.pieces.specs.declared.ReadError.TheVariants as error
 use Rattle.pieces.specs.declared.Unreadable.{Unreadable}
-use Rattle.pieces.proofs.Resume.{First, first, next-first, next-done, next-refused}
-use Rattle.piece_reader.specs.Reader.{count_from, count_answer}
+use Rattle.pieces.proofs.Resume.{first, next-first, next-done, next-refused}
+use Rattle.piece_reader.specs.Reader.{end_of, count_from, count_answer}
 
 -- n pieces were counted, and the text is read from `at` on
 pub record Counts (text : List ℕ) (at n : ℕ) : Type 0 where
   pub answer : count_answer text ≡ count_from n (read_from text at)
   pub few : n ≤ at
   pub within : at ≤ length text
+
+-- after one more piece it is read from i on
+pub record Went (text : List ℕ) (at i n : ℕ) : Type 0 where
+  pub further : at < i
+  pub counts : Counts text i (n + 1)
 
 pub start : (text : List ℕ) → Counts text 0 0
 unfolding count_answer
@@ -35,20 +40,25 @@ module _ {text : List ℕ} {at n : ℕ} (σ : Counts text at n) where
   unfolding count_from
   finished h = sym (σ.answer ∙ rw (next-done (read_from text at) h))
 
-  pub unread : {u : Unreadable} (a : Result ℕ ReadError) → IsErrAnd a (λ e. e ≡ error.Unreadable u.index) → Err u ≡ next (read_from text at) → reported a ≡ count_answer text
+  pub unread : (s : Result (Option Piece) Unreadable) (e : ReadError) (a : Result ℕ ReadError) → IsErrAnd s (λ u. e ≡ error.Unreadable u.index) → IsErrAnd a (λ x. x ≡ e) → s ≡ next (read_from text at) → reported a ≡ count_answer text
   unfolding count_from
-  unread (Ok m) k h = absurd k
-  unread (Err e) k h = rw k (sym (σ.answer ∙ rw (next-refused (read_from text at) h)))
+  unread (Ok p) e a k g h = absurd k
+  unread (Err u) e (Ok m) k g h = absurd g
+  unread (Err u) e (Err x) k g h = rw (g, k) (sym (σ.answer ∙ rw (next-refused (read_from text at) h)))
 
-  module _ {p : Piece} (h : Ok (Some p) ≡ next (read_from text at)) where
-    pub head : First text at p.start p.end
-    head = next-first text at h
+  -- a piece stood next, and the reader went on
+  pub went : {p : Piece} {i : ℕ} → Ok (Some p) ≡ next (read_from text at) → i ≡ end_of at (next (read_from text at)) → Went text at i n
+  unfolding count_from
+  went {p} {i} h e =
+      let φ = next-first text at h in
+      let there : p.end ≡ i = sym (e ∙ ap (end_of at) (sym h)) in
+      record {
+        further = omega (arith, there, φ.after, φ.some);
+        counts = subst (λ j. Counts text j (n + 1)) there
+            (record { answer = σ.answer ∙ rw (φ.reads, add-one); few = omega (arith, σ.few, φ.after, φ.some); within = φ.within });
+      }
 
-    pub more : Counts text p.end (n + 1)
-    unfolding count_from
-    more = record { answer = σ.answer ∙ rw (head.reads, add-one); few = omega (arith, σ.few, head.after, head.some); within = head.within }
-
-pub ruleset counting = (start, finished, unread)
+pub ruleset counting = (start, finished)
 
 -- n is at least what was counted already
 least : (r : Reading) (k n : ℕ) → count_from k r ≡ success n 0 0 → k ≤ n

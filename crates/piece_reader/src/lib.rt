@@ -2,8 +2,9 @@
 // pieces.
 #![tactic(auto)]
 
-ghost use Rattle.std.specs.Prelude.{◌≡◌};
+ghost use Rattle.std.specs.Prelude.{◌≡◌, Ok, MatchResult, IsErrAnd};
 ghost use Rattle.pieces.specs.Answer.{reported};
+ghost use Rattle.pieces.specs.declared.ReadError.TheVariants as error;
 ghost use Rattle.piece_reader.specs.Reader.{found, advanced, count_answer};
 
 use pieces::{Piece, ReadError, Unreadable, next_piece};
@@ -15,8 +16,7 @@ pub fn count_pieces(text: &[u8]) -> Result<usize, ReadError>
 {
     let mut reader = PieceReader { text, at: 0 };
     let mut n = 0;
-    while let Some(piece) = reader.peek()? {
-        reader.at = piece.end;
+    while let Some(_) = or_refusal(reader.take_next())? {
         n += 1;
     }
     Ok(n)
@@ -41,12 +41,30 @@ impl<'a> PieceReader<'a> {
     pub fn advance(self) -> PieceReader<'a>
         ensures { result ≡ advanced self.entry }
     {
-        match self.peek() {
-            Ok(Some(piece)) => PieceReader {
-                at: piece.end,
-                ..self
-            },
-            Ok(None) | Err(_) => self,
+        let mut reader = self;
+        let _ = reader.take_next();
+        reader
+    }
+
+    // Takes the piece that is next, and goes on after it; where no piece is next, the reader stays.
+    fn take_next(&mut self) -> Result<Option<Piece>, Unreadable>
+        ensures next { result ≡ found self.old }
+        ensures reader { self.new ≡ advanced self.old }
+    {
+        let next = self.peek();
+        if let Ok(Some(piece)) = next {
+            self.at = piece.end;
         }
+        next
+    }
+}
+
+// What stands next, where a text that cannot be read there is refusal 9.
+fn or_refusal(next: Result<Option<Piece>, Unreadable>) -> Result<Option<Piece>, ReadError>
+    ensures { MatchResult result (λ p. next ≡ Ok p) (λ e. IsErrAnd next (λ u. e ≡ error.Unreadable u.index)) }
+{
+    match next {
+        Ok(piece) => Ok(piece),
+        Err(Unreadable { index }) => Err(ReadError::Unreadable { index }),
     }
 }
