@@ -1,11 +1,12 @@
 -- The loop of `until_wide`: the rows that are left complete the measure. Assumes nothing.
 use mathlib.Core.Bool.{Bool, true, false, ◌&&◌}
 use mathlib.Core.List.{List, [], ◌∷◌}
-use mathlib.Core.Path.{◌≡◌, sym, ap, ◌∙◌}
-use Prim.Native.Nat.{ℕ, ◌+◌, ◌-◌, ◌<◌}
+use mathlib.Core.Path.{◌≡◌, refl, sym, ap, ◌∙◌}
+use Prim.Native.Nat.{ℕ, ◌+◌, ◌-◌, ◌≤◌, ◌<◌}
 use native.Mathlib.Omega.{arith}
 use lib.Dec.{eqb}
 use lib.ListN.{length}
+use borrow.Author.Tests.{ne_eqb}
 use Rattle.std.specs.Prelude.{min}
 use Rattle.rows.specs.Kinds.{TokenRow, Eof, LeftParen, RightParen, LeftBracket, RightBracket, Comma, Other}
 use Rattle.rows.specs.Row.{Row, rows_of}
@@ -15,7 +16,7 @@ use Rattle.lookahead.specs.declared.measure.Span.{Span}
 use Rattle.lookahead.specs.declared.measure.Span.TheVariants.{Signature, Paren, Bracket}
 use Rattle.lookahead.specs.Measure.{Measure, start}
 use Rattle.lookahead.specs.Scan.{stops_at, top_in, counts, measure_rows, measure_of, Room, FewIn}
-use Rattle.lookahead.proofs.Steps.{depth_after-most, more-most}
+use Rattle.lookahead.proofs.Steps.{depth_after-most, more-most, ends_above, positive}
 use Rattle.lookahead.specs.declared.measure.Measure.{Measure as CodeMeasure}
 
 -- ---- a kind above 34 counts as one of 34
@@ -28,6 +29,18 @@ stops_min Bracket p b k = rw (min_kind k RightBracket (omega arith), min_kind k 
 counts_min : (span : Span) (m : Measure) (k n : ℕ) → counts span m (min k Other) n ≡ counts span m k n
 counts_min span m k n =
     rw (min_kind k LeftParen (omega arith), min_kind k RightParen (omega arith), min_kind k LeftBracket (omega arith), min_kind k RightBracket (omega arith), min_kind k Comma (omega arith))
+
+-- ---- a kind behind Comma adds its size alone
+
+stops_above : (span : Span) (p b k : ℕ) → Comma < k → stops_at span p b k ≡ false
+stops_above Signature p b k h = ends_above RightParen k p 0 (omega arith) (omega arith)
+stops_above Paren p b k h = ends_above RightParen k p b (omega arith) (omega arith)
+stops_above Bracket p b k h = ends_above RightBracket k b p (omega arith) (omega arith)
+
+counts_above : (span : Span) (m : CodeMeasure) (k n : ℕ) → Comma < k → measure_of (record { parens = m.parens; brackets = m.brackets; commas = m.commas; width = m.width + (n + 1) }) ≡ counts span (measure_of m) k n
+counts_above span m k n h =
+    let none : (j : ℕ) → j ≤ Comma → eqb k j ≡ false = λ j l. ne_eqb k j (λ q. omega arith) in
+    rw (positive (m.width + (n + 1)) (λ q. omega arith), none LeftParen (omega arith), none RightParen (omega arith), none LeftBracket (omega arith), none RightBracket (omega arith), none Comma (omega arith))
 
 -- ---- the loop
 
@@ -83,3 +96,10 @@ module _ {rows : List ℕ} {span : Span} {m : CodeMeasure} {left : List Row} (σ
             };
             said = σ.said ∙ rw (e, t, stops_is ∙ y, ← z, ← counts_min span (measure_of m) r.kind n, ← q, c);
           }
+
+    -- of a kind behind Comma
+    pub grown : eqb r.what TokenRow ≡ true → Comma < r.kind → {n : ℕ} {m' : CodeMeasure} → n ≡ r.end - r.start → n < 4294967296 → m' ≡ (record { parens = m.parens; brackets = m.brackets; commas = m.commas; width = m.width + (n + 1) }) → Measuring rows span m' rs
+    grown t h {n} z small x =
+        let k = min r.kind Other in
+        let l : Comma < k = omega arith in
+        counted t refl refl (stops_above span m.parens m.brackets k l) z small (ap measure_of x ∙ counts_above span m k n l)

@@ -1,7 +1,7 @@
 // The lookaheads of format.rs over rows.
 #![tactic(auto)]
 
-ghost use Rattle.std.specs.Prelude.{List, ◌≡◌, ℕ, ◌+◌, ◌^◌, ◌≤◌, ◌<◌, eqb, length, find, min, option_map};
+ghost use Rattle.std.specs.Prelude.{List, ◌≡◌, ℕ, ◌+◌, ◌^◌, ◌≤◌, ◌<◌, eqb, length, find, option_map};
 ghost use Rattle.rows.specs.Row.{rows_of};
 ghost use Rattle.rows.specs.Checks.{most_row_bytes};
 ghost use Rattle.rows.specs.Token.{tokens_of};
@@ -12,11 +12,11 @@ ghost use Rattle.lookahead.specs.Measure.{sig_breaks, list_breaks, block_is_sing
 ghost use Rattle.lookahead.specs.Scan.{after_last, width_rows, is_comment, is_trivia, trails, group_of};
 ghost use Rattle.lookahead.specs.Scan.{measure_rows, measure_of, token_kind, GroupKinds, comma_ahead};
 ghost use Rattle.lookahead.specs.Scan.{breaks_at, FewIn};
-ghost use Rattle.rows.specs.Kinds.{TokenRow, Other};
+ghost use Rattle.rows.specs.Kinds.{TokenRow};
 ghost use Rattle.rows.specs.KindNumber.{kind_number};
 ghost use Rattle.rows.specs.RowsLeft.{rows_left};
 
-use crate::measure::{BRACKETS, Measure, PARENS, Pair, Span, is_last, is_top_comma, size_of};
+use crate::measure::{BRACKETS, Measure, PARENS, Pair, Span, is_top_comma, size_of};
 use rows::{Kind, MOST_ROWS, ROW_BYTES, Row, Rows, Trivia, What};
 
 mod measure;
@@ -25,7 +25,7 @@ mod measure;
 const MOST_ROW_BYTES: usize = MOST_ROWS * ROW_BYTES;
 
 // No measure of as many rows is wider.
-const NO_LIMIT: usize = 0xf_ffff_ffff_ffff;
+const NO_LIMIT: usize = MOST_ROWS << 32;
 
 // The lookaheads take the part of the rows that starts at the opener, its own leading rows included, and goes
 // to the end. The first four go by the rows' own numbers. Where the rows lie in a text, the tokens that they
@@ -111,23 +111,20 @@ pub fn block_is_single_line(rows: &[u8]) -> bool
             if is_trivia(row, follows) {
                 return false;
             }
-            follows = false;
-            continue;
-        }
-        match row.token_kind() {
-            Kind::LeftBrace => {
-                depth += 1;
-                // A token closes one level at most.
-                if left.len() < depth {
-                    return false;
-                }
+        } else if row.kind == Kind::LeftBrace as u32 {
+            depth += 1;
+        } else if row.kind <= Kind::RightBrace as u32 {
+            match row.token_kind() {
+                Kind::RightBrace if depth <= 1 => return !trails(left),
+                Kind::RightBrace => depth -= 1,
+                _ => return false,
             }
-            Kind::RightBrace if depth <= 1 => return !trails(left),
-            Kind::RightBrace => depth -= 1,
-            Kind::Newline | Kind::Eof => return false,
-            _ => {}
         }
-        follows = true;
+        follows = row.is_token();
+        // A token closes one level at most.
+        if left.len() < depth {
+            return false;
+        }
     }
     false
 }
@@ -216,7 +213,9 @@ fn decide(rows: &[u8], span: Span, limit: usize) -> bool
 }
 
 // Measures until the width is above the limit, and answers the rows that are left too. A measure that stays
-// below it is whole.
+// below it is whole. Most kinds stand behind Comma, and add their size alone. Inlined, since a short list
+// would notice the call.
+#[inline(always)]
 fn until_wide<'a>(rows: &'a [u8], span: Span, limit: usize) -> (Measure, Rows<'a>)
     requires { limit < 2 ^ 62 }
     ensures left { limit < result.0.width → measure_rows span start (rows_of rows.now)
@@ -231,11 +230,16 @@ fn until_wide<'a>(rows: &'a [u8], span: Span, limit: usize) -> (Measure, Rows<'a
         if !row.is_token() {
             continue;
         }
-        let kind = row.token_kind();
-        if m.stops(span, kind) {
-            return (m, left);
+        let size = size_of(row);
+        if row.kind > Kind::Comma as u32 {
+            m.width += size + 1;
+        } else {
+            let kind = row.token_kind();
+            if m.stops(span, kind) {
+                return (m, left);
+            }
+            m = m.counts(span, kind, size);
         }
-        m = m.counts(span, kind, size_of(row));
         if limit < m.width {
             return (m, left);
         }
@@ -245,8 +249,8 @@ fn until_wide<'a>(rows: &'a [u8], span: Span, limit: usize) -> (Measure, Rows<'a
 
 // Whether a comma stands at the top of a group, in the rows that are left, before the group closes. `own` and
 // `other` are the depths there: of the group's own kinds, and of the others. Its own kinds are tested first:
-// a hostile list nests them. A token closes one level at most, so with fewer rows left than levels are open
-// the answer is no; that is tested where a level opens, not in each turn, which takes twice the time.
+// a hostile list nests them. A token closes one level at most, so where fewer rows follow than levels are
+// open the answer is no.
 fn comma_ahead(left: Rows, own: usize, other: usize, pair: Pair, other_pair: Pair) -> bool
     requires depths { (own + length (rows_left left) < 2 ^ 62) × (other + length (rows_left left) < 2 ^ 62) }
     requires kinds { GroupKinds (kind_number pair.opener) (kind_number pair.closer)
@@ -255,22 +259,24 @@ fn comma_ahead(left: Rows, own: usize, other: usize, pair: Pair, other_pair: Pai
         (kind_number other_pair.opener) (kind_number other_pair.closer) own other
         (rows_left left.entry) }
 {
-    let mut left = left;
+    let mut behind = left.len(); // how many rows follow
     let mut own = own;
     let mut other = other;
-    while let Some(row) = left.next() {
+    for row in left {
+        behind -= 1;
         let kind = token_kind(row);
-        if kind == pair.opener {
+        if kind == pair.opener as u32 {
             own += 1;
-            if left.len() < own + other {
+        } else if kind == pair.closer as u32 {
+            if 1 < own {
+                own -= 1;
+            } else if other == 0 {
                 return false;
+            } else {
+                own = 0;
             }
-        } else if kind == pair.closer {
-            if is_last(own, other) {
-                return false;
-            }
-            own = own.saturating_sub(1);
-        } else if kind as u32 <= Kind::Comma as u32 {
+        } else if kind <= Kind::Comma as u32 {
+            let kind = Kind::of(kind);
             if kind == Kind::Eof {
                 return false;
             }
@@ -278,22 +284,22 @@ fn comma_ahead(left: Rows, own: usize, other: usize, pair: Pair, other_pair: Pai
                 return true;
             }
             other = other_pair.depth_after(kind, other);
-            if left.len() < own + other {
-                return false;
-            }
+        }
+        if behind < own + other {
+            return false;
         }
     }
     false
 }
 
 // Answers the kind of a token. A row that is no token's counts as a token that matters to no depth.
-fn token_kind(row: Row) -> Kind
-    ensures { kind_number result ≡ min (token_kind (row_of row)) Other }
+fn token_kind(row: Row) -> u32
+    ensures { result ≡ token_kind (row_of row) }
 {
     if row.is_token() {
-        row.token_kind()
+        row.kind
     } else {
-        Kind::Other
+        Kind::Other as u32
     }
 }
 

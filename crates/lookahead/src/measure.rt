@@ -65,17 +65,12 @@ impl Measure {
     {
         let mut m = self;
         m.width += size + 1;
-        if kind as u32 >= Kind::Comma as u32 {
-            if kind == Kind::Comma && self.top_in(span) {
-                m.commas += 1;
-            }
-            return m;
-        }
         match kind {
             Kind::LeftParen => m.parens += 1,
             Kind::RightParen => m.parens = m.parens.saturating_sub(1),
             Kind::LeftBracket => m.brackets += 1,
             Kind::RightBracket => m.brackets = m.brackets.saturating_sub(1),
+            Kind::Comma if self.top_in(span) => m.commas += 1,
             _ => {}
         }
         m

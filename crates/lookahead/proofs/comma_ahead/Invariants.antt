@@ -8,10 +8,8 @@ use Rattle.lookahead.proofs.comma_ahead.Given as goal
 
 abbrev pub invariant-loop-row : goal.invariant-loop-row
 invariant-loop-row l =
-    let said = comma_ahead (kind_number l.pair.opener) (kind_number l.pair.closer) (kind_number l.other_pair.opener) (kind_number l.other_pair.closer) in
-    (said l.initial.own l.initial.other (rows_left l.initial.left) ≡ said l.own l.other (rows_left l.left))
-    × (l.own + length (rows_left l.left) ≤ l.initial.own + length (rows_left l.initial.left))
-    × (l.other + length (rows_left l.left) ≤ l.initial.other + length (rows_left l.initial.left))
-
-abbrev pub decreases-loop-row : goal.decreases-loop-row
-decreases-loop-row l = length (rows_left l.left)
+    let said = comma_ahead (kind_number l.fn.pair.opener) (kind_number l.fn.pair.closer) (kind_number l.fn.other_pair.opener) (kind_number l.fn.other_pair.closer) in
+    (said l.fn.own l.fn.other (rows_left l.fn.left) ≡ said l.own l.other (rows_left l.row-iterator))
+    × (l.behind ≡ length (rows_left l.row-iterator))
+    × (l.own + l.behind ≤ l.fn.own + length (rows_left l.fn.left))
+    × (l.other + l.behind ≤ l.fn.other + length (rows_left l.fn.left))
