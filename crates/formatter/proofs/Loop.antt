@@ -13,9 +13,9 @@ use Rattle.shared.specs.Numbers.{most32}
 use Rattle.shared.proofs.Logic.{split}
 use Rattle.rows.specs.Kinds.{LeftBrace, RightBrace}
 use Rattle.rows.specs.Options
-use Rattle.rows.specs.Row.{rows_of}
+use Rattle.rows.specs.Checks.{most_rows, most_row_bytes}
+use Rattle.rows.specs.Row.{row_size, rows_of}
 use Rattle.rows.specs.Token.{Token}
-use Rattle.rows.specs.KindNumber.{kind_number}
 use Rattle.definition.specs.Formatter as definition
 use Rattle.definition.specs.Act.{State, run}
 use Rattle.definition.specs.Emit.{is_at}
@@ -154,7 +154,7 @@ module _ {f : CodeState} {i at : ℕ} {p : CodeState} (width : f.form.options.in
       took =
           turn_skip o i t ts (state_of x p) ι.going.shallow ι.no_skip calm
           ∙ ap (λ n. eqb n LeftBrace && is_at after.formatter.prev RightBrace) σ.kind
-          ∙ ap (λ (w : State). eqb (kind_number token.kind) LeftBrace && is_at w.formatter.prev RightBrace) (sym (fit ω ι.going h turned fits shallow).state)
+          ∙ ap (λ (w : State). eqb token.kind LeftBrace && is_at w.formatter.prev RightBrace) (sym (fit ω ι.going h turned fits shallow).state)
 
       next_is_lem : token.next ≡ next_row rows (own_row rows at)
       next_is_lem = τ.next ∙ ap (next_row rows) τ.own
@@ -206,6 +206,14 @@ module _ {f : CodeState} {i at : ℕ} {p : CodeState} (width : f.form.options.in
             (λ c. place_taken (rw c at ν₀.at) (rw c at ν₀.index) c)
             (λ c. place_next (rw c at ν₀.at) (rw c at ν₀.index) c)
 
+        -- It lies further on.
+        pub placed-after : at < place.at
+        placed-after =
+            let d = next_is_lem in
+            split (took_next token.kind q.form.prev)
+            (λ c. let e = rw c at ν₀.at in omega arith)
+            (λ c. let e = rw c at ν₀.at in omega arith)
+
 -- ---- fast tokens and fast braces
 
 module _ {f : CodeState} {i at : ℕ} {p : CodeState} (ω : CheckedRows f.form.source.rows.now f.form.source.text.now) (ι : Loop f i at p) where
@@ -226,6 +234,18 @@ module _ {f : CodeState} {i at : ℕ} {p : CodeState} (ω : CheckedRows f.form.s
         going = goes_past_fast_tokens ω ι.going ι.same.given (before_fast_tokens ρ ι.locals (last_known ω ι.going ρ.mid_line) ι.no_skip ι.going.shallow) σ;
         no_skip = ι.no_skip;
       }
+
+  -- They end within the rows, and their indexes are below the most rows.
+  pub fast_tokens_few :
+      MayStartFastTokens p.form → {to : ℕ} {g : CodeState} → LaysFastTokens p at to g
+      → (at ≤ to) × (to ≤ most_row_bytes) × (i + (to - at) / row_size ≤ most_rows)
+  fast_tokens_few ρ {to} {g} σ =
+      let ι₂ = past_fast_tokens ρ σ in
+      let w = σ.laid.whole in
+      let h = ι₂.going.head.within in
+      let n = few_tokens ω ι₂.going in
+      let c = ω.few in
+      (omega arith, omega arith, omega arith)
 
   -- ---- fast braces
 

@@ -178,7 +178,7 @@ module _ {rows text : List ℕ} {at : ℕ} (ω : CheckedRows rows text) (η : To
     pub stands : StandsFor token rows text (token_here rows text at) (tokens_next rows text at)
     stands =
         record {
-          kind = sym (read_as token.kind (rw τ.own at τ.kind) kind_here);
+          kind = sym (rw τ.own at τ.kind);
           lexeme = rw τ.own;
           ahead = rw τ.lead tokens_here;
           after = rw τ.own;
@@ -200,6 +200,7 @@ module _ {rows text : List ℕ} {at : ℕ} (ω : CheckedRows rows text) (η : To
           own = rw (τ.next, τ.own) (omega arith);
           next = rw (τ.next, τ.own) x;
           inside = rw τ.own row_in;
+          kind = rw (τ.kind, τ.own) kind_here;
           index = rw τ.index few;
         }
 

@@ -19,7 +19,6 @@ use Rattle.definition.specs.Emit.{track_fn_state, trailing_trivia, leading_trivi
 use Rattle.definition.specs.PushToken.{arm, overflows, turn, take_inline_close}
 use Rattle.definition.specs.Layout.{checked}
 use Rattle.definition.proofs.Growth.{depth}
-use Rattle.rows.specs.KindNumber.{kind_number}
 use Rattle.formatter.specs.declared.TokenAt.{TokenAt}
 use Rattle.formatter.specs.declared.WalkError.{WalkError}
 use Rattle.formatter.specs.declared.WalkError.TheVariants.{Deep, Full}
@@ -66,7 +65,7 @@ pub record Armed (z : Given) (token : TokenAt) (f g : CodeState) (r close b : Bo
 pub record Calls (z : Given) (token : TokenAt) (f g : CodeState) (r close b : Bool) (g₂ g₃ g₄ : CodeState) : Type 0 where
   pub armed : Armed z token f g r close b g₂
   pub trailed : Trailed (trivia_in g₂.form.source.rows.now g₂.form.source.text.now (token.own + 16) token.next) b g₂ g₃
-  pub tracked : Done (update (track_fn_state (kind_number token.kind))) g₃ g₄
+  pub tracked : Done (update (track_fn_state token.kind)) g₃ g₄
 
 -- No locals are set.
 abbrev pub quiet : Locals
@@ -233,7 +232,7 @@ module _ {token : TokenAt} {p : CodeState} (θ : HasToken token p.form p.sink) w
           abbrev left : Locals
           left = locals_of (run (arm o i t ts) (state_of y g)).formatter
 
-          module _ {g₃ g₄ : CodeState} (trailed : Trailed (trivia_in g₂.form.source.rows.now g₂.form.source.text.now (token.own + 16) token.next) b g₂ g₃) (tracked : Done (update (track_fn_state (kind_number token.kind))) g₃ g₄) where
+          module _ {g₃ g₄ : CodeState} (trailed : Trailed (trivia_in g₂.form.source.rows.now g₂.form.source.text.now (token.own + 16) token.next) b g₂ g₃) (tracked : Done (update (track_fn_state token.kind)) g₃ g₄) where
             its_trail : Does (trail_token t.trailing) left g₂ g₃
             its_trail = go (subst (λ z. Trailed (trivia_in z.source.rows.now z.source.text.now (token.own + 16) token.next) b g₂ g₃) second trailed)
               where

@@ -17,7 +17,7 @@ use crate::lexeme::{named_after, record_pending_after};
 use crate::{FnState, Formatter, GroupDepth};
 use rows::{Kind, KindSet, ROW_BYTES, What, row_at};
 use sink::write::Sink;
-use spaces::is_value;
+use spaces::is_value_kind;
 use spaces::loose::loose_after;
 
 // These kinds are fast in every state: Colon to Minus, Record, Identifier to Other.
@@ -78,7 +78,7 @@ impl<'a> Formatter<'a> {
         let text = self.source.text;
         let fast = self.fast_kinds();
         let mut changing = changing_kinds(self.fn_state, self.record_pending);
-        let mut loose = loose_after(Kind::Other, self.prev_minus_is_unary);
+        let mut loose = loose_after(Kind::Other as u32, self.prev_minus_is_unary);
         let mut at = from;
         let mut prev = self.prev.unwrap_or(Kind::Eof) as u32;
         let mut spaced = bit(loose, prev);
@@ -90,7 +90,7 @@ impl<'a> Formatter<'a> {
             if bit(changing, row.kind) == 1 {
                 self.track_fast_token(Kind::of(prev), row.token_kind());
                 changing = changing_kinds(self.fn_state, self.record_pending);
-                loose = loose_after(Kind::Other, self.prev_minus_is_unary);
+                loose = loose_after(Kind::Other as u32, self.prev_minus_is_unary);
             }
             prev = row.kind;
             spaced = bit(loose, prev);
@@ -116,7 +116,7 @@ impl<'a> Formatter<'a> {
         ensures { result.0 ≡ fast_kind_bits (fast_kinds_of self.now) }
     {
         let commas = kinds_if(!self.breaks_comma(), COMMA);
-        let elses = kinds_if(!self.prev_is(Kind::RightBrace), ELSE);
+        let elses = kinds_if(!self.prev_is(Kind::RightBrace as u32), ELSE);
         let fns = kinds_if(!self.in_broken_signature(), FN);
         let closers = kinds_if(self.nothing_is_broken(), CLOSERS);
         KindSet(FAST.0 + commas.0 + elses.0 + fns.0 + closers.0)
@@ -209,7 +209,7 @@ fn pending_after(pending: bool, kind: Kind) -> bool
     if kind as u32 <= Kind::Comma as u32 || kind == Kind::Else {
         return pending;
     }
-    record_pending_after(pending, kind)
+    record_pending_after(pending, kind as u32)
 }
 
 // `prev_minus_is_unary` after a fast token of this kind, where the one before has the kind `prev`.
@@ -217,7 +217,7 @@ fn unary_after(unary: bool, prev: Kind, kind: Kind) -> bool
     ensures { result ≡ unary_after (kind_number prev) (kind_number kind) unary }
 {
     if kind == Kind::Minus {
-        return !is_value(prev);
+        return !is_value_kind(prev as u32);
     }
     unary
 }

@@ -90,7 +90,7 @@ impl<'a> Formatter<'a> {
             → Does (arm (options_of self.old.options) token.index t ts) x
             (code_state self.old sink.old) (code_state self.new sink.new)) }
     {
-        match token.kind {
+        match token.kind() {
             Kind::Eof => {}
             Kind::Newline => self.newline_arm(sink, token),
             Kind::RightBrace => self.right_brace_arm(sink),
@@ -121,7 +121,7 @@ impl<'a> Formatter<'a> {
         if !self.break_stack.is_full() {
             return false;
         }
-        match token.kind {
+        match token.kind() {
             Kind::LeftParen => !self.at_signature() && self.breaks_list(token),
             Kind::LeftBracket => self.breaks_list(token),
             _ => false,
@@ -137,7 +137,7 @@ impl<'a> Formatter<'a> {
         if token.next == token.own + ROW_BYTES {
             return false;
         }
-        match token.kind {
+        match token.kind() {
             Kind::LeftBrace => !self.empties_record(token),
             Kind::RightParen => !self.closes_broken(),
             Kind::RightBracket => !self.in_broken_list(),
@@ -155,7 +155,7 @@ impl<'a> Formatter<'a> {
     {
         let at = token.next;
         let index = token.index + 1;
-        if token.kind == Kind::LeftBrace && self.prev_is(Kind::RightBrace) {
+        if token.kind == Kind::LeftBrace as u32 && self.prev_is(Kind::RightBrace as u32) {
             let taken = token_at(self.source.rows, at, index, self.bare);
             return Place {
                 at: taken.next,

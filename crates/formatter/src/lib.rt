@@ -3,7 +3,8 @@
 // structs deep the checker knows nothing once the formatter is gone.
 #![tactic(auto)]
 
-ghost use Rattle.std.specs.Prelude.{◌≡◌, ◌*◌, ◌<◌};
+ghost use Rattle.std.specs.Prelude.{◌≡◌, ◌*◌, ◌<◌, min};
+ghost use Rattle.rows.specs.Kinds.{Other};
 ghost use Rattle.rows.specs.KindNumber.{kind_number};
 ghost use Rattle.definition.specs.Emit.{is_at, is_some};
 ghost use Rattle.definition.specs.Arms.{at_record_fields, in_broken_list, in_one_line_block};
@@ -75,11 +76,11 @@ pub struct Options {
     pub list_width: u32,
 }
 
-// A token: its kind, its index among the tokens, where its leading rows start, where its own row starts, and
-// where its trailing rows end.
+// A token: the number of its kind as its row has it, its index among the tokens, where its leading rows start,
+// where its own row starts, and where its trailing rows end.
 #[derive(Clone, Copy)]
 pub struct TokenAt {
-    pub kind: Kind,
+    pub kind: u32,
     pub index: u32,
     pub lead: usize,
     pub own: usize,
@@ -140,6 +141,15 @@ pub enum WalkError {
     Full { index: usize },
 }
 
+impl TokenAt {
+    // The token's kind. Every number above 34 is `Other`.
+    pub fn kind(self) -> Kind
+        ensures { kind_number result ≡ min self.kind Other }
+    {
+        Kind::of(self.kind)
+    }
+}
+
 impl<'a> Formatter<'a> {
     // The state before the first token of `source`. Where `bare` is true, no row is trivia.
     pub fn new(options: Options, source: Source<'a>, bare: bool) -> Self
@@ -172,11 +182,15 @@ impl<'a> Formatter<'a> {
 
     // ---- tests that several arms make
 
-    // Whether the last token has this kind.
-    pub fn prev_is(&self, kind: Kind) -> bool
-        ensures { result ≡ is_at (prev_of self.now.prev) (kind_number kind) }
+    // Whether the last token has the kind of this number.
+    #[tactic(auto, using(rows::proofs::KindNumbers::tag_is))]
+    pub fn prev_is(&self, kind: u32) -> bool
+        ensures { result ≡ is_at (prev_of self.now.prev) kind }
     {
-        self.prev == Some(kind)
+        match self.prev {
+            None => false,
+            Some(prev) => prev as u32 == kind,
+        }
     }
 
     // Whether the walk is inside a block that stays on its line.
