@@ -27,7 +27,7 @@ use Rattle.formatter.proofs.Does.{seq, same-run}
 
 -- An act of the token's kind and lexeme, as the code finds them.
 pub its :
-    {token : TokenAt} (f : Formatter) {t : Token} {ts : List Token} → StandsFor token f.source.rows.now f.source.text.now t ts → {k : ℕ} → token.kind ≡ k
+    {token : TokenAt} (f : Formatter) {t : Token} {ts : List Token} → StandsFor token f.rows.now f.text.now t ts → {k : ℕ} → token.kind ≡ k
     → (a : Token → Act) {x : Locals} {p q : CodeState} → Does (a (bare_token k (lexeme_of token f))) x p q
     → Does (a (bare_token t.kind t.lexeme)) x p q
 its f σ e a d = rw (σ.kind, e, σ.lexeme) d

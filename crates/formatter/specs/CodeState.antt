@@ -126,4 +126,4 @@ pub record Given : Type 0 where
   pub bare : Bool
 
 abbrev pub given : Formatter → Given
-given f = record { options = f.options; source = f.source; ends = f.ends; bare = f.bare }
+given f = record { options = f.options; source = record { rows = f.rows; text = f.text }; ends = f.ends; bare = f.bare }

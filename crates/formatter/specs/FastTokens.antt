@@ -210,7 +210,7 @@ last_kind f = kind_number (unwrap_or f.prev Eof)
 -- From the row at `from`, the code's state p comes to q at the row at `at`.
 pub record LaysFastTokens (p : CodeState) (from at : ℕ) (q : CodeState) : Type 0 where
   pub laid :
-      FastTokensLaidOut p.form.source.rows.now p.form.source.text.now from p.sink.len (last_kind p.form) (fast_state_of p.form)
+      FastTokensLaidOut p.form.rows.now p.form.text.now from p.sink.len (last_kind p.form) (fast_state_of p.form)
       (fast_kinds_of p.form) p.sink.out.now q.sink.out.now
       (record { at = at; prev = last_kind q.form; len = q.sink.len; state = fast_state_of q.form })
   pub changed : ChangedBy (with_fast_state (last_kind q.form) (fast_state_of q.form)) p q

@@ -100,12 +100,12 @@ pub record Ending (rows : List ℕ) (ends : Ends) : Type 0 where
 -- What `push_token` asks: the rows are checked, the token is the one whose rows begin at its index `lead`, what all rows tell is
 -- true, and an arm may begin.
 pub record HasToken (token : TokenAt) (f : Formatter) (s : Sink) : Type 0 where
-  pub checked : CheckedRows f.source.rows.now f.source.text.now
-  pub boundary : TokenBoundary f.source.rows.now f.source.text.now token.lead
-  pub inside : token.lead < length f.source.rows.now
-  pub its_rows : TokenRows f.source.rows.now token.lead token.index token
+  pub checked : CheckedRows f.rows.now f.text.now
+  pub boundary : TokenBoundary f.rows.now f.text.now token.lead
+  pub inside : token.lead < length f.rows.now
+  pub its_rows : TokenRows f.rows.now token.lead token.index token
   pub index : token.index < most32
-  pub ends : Ending f.source.rows.now f.ends
+  pub ends : Ending f.rows.now f.ends
   pub ready : Ready f s
 
 -- A refusal of the walk, as the code tells it.

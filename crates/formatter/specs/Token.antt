@@ -62,7 +62,7 @@ pub record InRows (token : TokenAt) (rows text : List ℕ) : Type 0 where
 
 -- The same of the formatter's rows and text.
 abbrev pub HasRows : TokenAt → Formatter → Type 0
-HasRows token f = InRows token f.source.rows.now f.source.text.now
+HasRows token f = InRows token f.rows.now f.text.now
 
 -- What `ends` tells is true of the rows from the index `lead` on: which kinds they lack, and how wide their tokens are at most.
 pub record Ahead (ends : Ends) (lead : ℕ) (rows : List ℕ) : Type 0 where
@@ -72,11 +72,11 @@ pub record Ahead (ends : Ends) (lead : ℕ) (rows : List ℕ) : Type 0 where
 
 -- The same of what the formatter was told, from the token on.
 abbrev pub HasEnds : TokenAt → Formatter → Type 0
-HasEnds token f = (token.lead ≤ length f.source.rows.now) × Ahead f.ends token.lead f.source.rows.now
+HasEnds token f = (token.lead ≤ length f.rows.now) × Ahead f.ends token.lead f.rows.now
 
 -- The bytes of a token's lexeme.
 abbrev pub lexeme_of : TokenAt → Formatter → List ℕ
-lexeme_of token f = bytes_of f.source.text.now (row_at f.source.rows.now token.own)
+lexeme_of token f = bytes_of f.text.now (row_at f.rows.now token.own)
 
 -- The definition's token without trivia that has this kind and lexeme.
 abbrev pub bare_token : ℕ → List ℕ → Token
@@ -96,4 +96,4 @@ AtTokenOf token rows text P = (t : Token) (ts : List Token) → StandsFor token 
 
 -- The same of the formatter's rows and text.
 abbrev pub AtToken : TokenAt → Formatter → (Token → List Token → Type 0) → Type 0
-AtToken token f P = AtTokenOf token f.source.rows.now f.source.text.now P
+AtToken token f P = AtTokenOf token f.rows.now f.text.now P

@@ -21,7 +21,7 @@ ghost use Rattle.formatter.specs.Parts.{open_one_line, braced};
 
 use crate::{BraceStyle, Formatter, RecordDepth, TokenAt};
 use lookahead::{block_is_single_line, next_is};
-use row_writers::write_lexeme;
+use row_writers::{Source, write_lexeme};
 use rows::{Kind, ROW_BYTES};
 use sink::write::{Sink, Tail, count_comma};
 
@@ -137,15 +137,11 @@ impl<'a> Formatter<'a> {
 
     // Whether the token is the `{` of `record E {` with a `}` right after it.
     pub fn empties_record(&self, token: TokenAt) -> bool
-        requires { token.own + row_size ≤ length self.now.source.rows.now }
-        ensures { (text : List ℕ) → AtTokenOf token self.now.source.rows.now text
+        requires { token.own + row_size ≤ length self.now.rows.now }
+        ensures { (text : List ℕ) → AtTokenOf token self.now.rows.now text
             (λ t ts. result ≡ self.now.record_pending && next_is RightBrace ts) }
     {
-        self.record_pending
-            && next_is(
-                &self.source.rows[token.own + ROW_BYTES..],
-                Kind::RightBrace as u32,
-            )
+        self.record_pending && next_is(&self.rows[token.own + ROW_BYTES..], Kind::RightBrace as u32)
     }
 
     // Writes the braces of `record E {}`, which stay on one line: the `{` takes the `}` along.
@@ -156,7 +152,16 @@ impl<'a> Formatter<'a> {
             (bare_token LeftBrace (lexeme_of token self.old))) self.old sink.old self.new sink.new }
     {
         let gap = self.gap_before(Kind::LeftBrace);
-        write_lexeme(sink, gap, self.source, token.own, Tail::Braces);
+        write_lexeme(
+            sink,
+            gap,
+            Source {
+                rows: self.rows,
+                text: self.text,
+            },
+            token.own,
+            Tail::Braces,
+        );
         self.at_line_start = false;
         self.prev = Some(Kind::RightBrace);
         self.record_pending = false;
@@ -177,7 +182,7 @@ impl<'a> Formatter<'a> {
         if self.ends.braces <= lead {
             return true;
         }
-        !block_is_single_line(&self.source.rows[lead..])
+        !block_is_single_line(&self.rows[lead..])
     }
 
     // The record fields after such a `{`: after `record` and its name it opens a record, in a record it goes

@@ -53,7 +53,7 @@ impl<'a> Formatter<'a> {
     // Whether the list that the token opens breaks: it is wide, and outside one-line blocks and records.
     pub fn breaks_list(&self, token: TokenAt) -> bool
         requires { HasEnds token self.now }
-        ensures { (text : List ℕ) → AtTokenOf token self.now.source.rows.now text
+        ensures { (text : List ℕ) → AtTokenOf token self.now.rows.now text
             (λ t ts. result ≡ breaks_list (options_of self.now.options) t ts (fields_of self.now)) }
     {
         !self.in_one_line_block() && !self.in_record && self.list_is_wide(token)
@@ -63,7 +63,7 @@ impl<'a> Formatter<'a> {
     // all tokens together are not wider.
     pub fn list_is_wide(&self, token: TokenAt) -> bool
         requires { HasEnds token self.now }
-        ensures { (text : List ℕ) → AtTokenOf token self.now.source.rows.now text
+        ensures { (text : List ℕ) → AtTokenOf token self.now.rows.now text
             (λ t ts. result ≡ should_break_list self.now.options.list_width (t ∷ ts)) }
     {
         let ends = self.ends;
@@ -74,7 +74,7 @@ impl<'a> Formatter<'a> {
         if 0 < ends.width && ends.width <= list_width as usize {
             return false;
         }
-        should_break_list(&self.source.rows[token.lead..], list_width)
+        should_break_list(&self.rows[token.lead..], list_width)
     }
 
     // Opens a signature, broken or on its line.
@@ -87,7 +87,7 @@ impl<'a> Formatter<'a> {
             self.old sink.old self.new sink.new) }
     {
         self.fn_state = FnState::Outside;
-        if should_break_sig(&self.source.rows[token.lead..], self.options.fn_sig_width) {
+        if should_break_sig(&self.rows[token.lead..], self.options.fn_sig_width) {
             self.break_signature(sink, token.index);
         } else {
             self.open_group(sink, token, Kind::LeftParen);

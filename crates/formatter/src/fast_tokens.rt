@@ -42,13 +42,13 @@ impl<'a> Formatter<'a> {
     // Whether fast tokens may start at the row at `at`: in a line, and not right after the `}` of a one-line
     // block. Braces, openers, Newline, Eof and trivia never are fast.
     pub fn may_start_fast_tokens(&self, at: usize) -> bool
-        requires { RowsLeft self.now.source.rows.now at }
+        requires { RowsLeft self.now.rows.now at }
         ensures { result ≡ true → MayStartFastTokens self.now }
     {
-        if self.source.rows.len() <= at {
+        if self.rows.len() <= at {
             return false;
         }
-        let kind = row_at(self.source.rows, at).kind;
+        let kind = row_at(self.rows, at).kind;
         if kind <= Kind::LeftParen as u32 || kind == Kind::LeftBracket as u32 {
             return false;
         }
@@ -68,14 +68,14 @@ impl<'a> Formatter<'a> {
     // after them. What each turn reads is in locals: in fields it takes longer.
     pub fn push_fast_tokens(&mut self, sink: &mut Sink, from: usize) -> usize
         requires len_in_bounds { sink.old.len ≤ length sink.old.out.now }
-        requires checked { CheckedRows self.old.source.rows.now self.old.source.text.now }
-        requires token_boundary { TokenBoundary self.old.source.rows.now self.old.source.text.now from }
-        requires no_trivia_if { NoTriviaIf self.old.bare self.old.source.rows.now }
+        requires checked { CheckedRows self.old.rows.now self.old.text.now }
+        requires token_boundary { TokenBoundary self.old.rows.now self.old.text.now from }
+        requires no_trivia_if { NoTriviaIf self.old.bare self.old.rows.now }
         ensures { LaysFastTokens (code_state self.old sink.old) from result (code_state self.new sink.new) }
     {
         let bare = self.bare;
-        let rows = self.source.rows;
-        let text = self.source.text;
+        let rows = self.rows;
+        let text = self.text;
         let fast = self.fast_kinds();
         let mut changing = changing_kinds(self.fn_state, self.record_pending);
         let mut loose = loose_after(Kind::Other as u32, self.prev_minus_is_unary);

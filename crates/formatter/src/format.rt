@@ -21,18 +21,18 @@ impl<'a> Formatter<'a> {
     // Lays out all tokens of checked rows into an empty sink, and tells how that ends.
     pub fn format(&mut self, sink: &mut Sink) -> Result<Finished, WalkError>
         requires fresh { Fresh self.old sink.old × (self.old.options.indent_width ≤ most_indent_width) }
-        requires checked_rows { CheckedRows self.old.source.rows.now self.old.source.text.now }
-        requires no_trivia_if { NoTriviaIf self.old.bare self.old.source.rows.now }
-        ensures laid_out { LaidOut self.old.source.rows.now self.old.source.text.now
+        requires checked_rows { CheckedRows self.old.rows.now self.old.text.now }
+        requires no_trivia_if { NoTriviaIf self.old.bare self.old.rows.now }
+        ensures laid_out { LaidOut self.old.rows.now self.old.text.now
             (options_of self.old.options) sink.old.out.now result sink.new.out.now }
         ensures length { IfOk result (λ f. sink.new.len ≡ f.length) }
         ensures lent { sink.new.out.ghost_name ≡ sink.old.out.ghost_name }
     {
-        self.ends = ends_of(self.source.rows, self.options.list_width);
+        self.ends = ends_of(self.rows, self.options.list_width);
         let mut place = Place { at: 0, index: 0 };
         // No iterator over rows: a token takes as many rows as it has.
-        while place.at < self.source.rows.len() {
-            let token = token_at(self.source.rows, place.at, place.index, self.bare);
+        while place.at < self.rows.len() {
+            let token = token_at(self.rows, place.at, place.index, self.bare);
             self.push_token(sink, token)?;
             place = self.next_place(token);
             if self.may_start_fast_tokens(place.at) {
@@ -130,7 +130,7 @@ impl<'a> Formatter<'a> {
 
     // Whether the token has trailing trivia, and its arm does not return before them.
     fn writes_trailing(&self, token: TokenAt) -> bool
-        requires { (token.own + row_size ≤ token.next) × (token.next ≤ length self.now.source.rows.now) }
+        requires { (token.own + row_size ≤ token.next) × (token.next ≤ length self.now.rows.now) }
         ensures { AtToken token self.now (λ t ts. result ≡ ltb (token.own + row_size) token.next
             && not (returns_early t ts (fields_of self.now))) }
     {
@@ -147,16 +147,16 @@ impl<'a> Formatter<'a> {
 
     // Where the next token's rows start, and its index. The `{` of `record E {}` took the `}` along.
     fn next_place(&self, token: TokenAt) -> Place
-        requires next_in_bounds { (token.next ≤ length self.now.source.rows.now)
+        requires next_in_bounds { (token.next ≤ length self.now.rows.now)
             × (token.index + 1 < most32) }
         requires next_token { took_next token.kind self.now.prev ≡ true
-            → NextToken self.now.source.rows.now token.next self.now.bare }
-        ensures { NextPlace self.now.source.rows.now token (took_next token.kind self.now.prev) result }
+            → NextToken self.now.rows.now token.next self.now.bare }
+        ensures { NextPlace self.now.rows.now token (took_next token.kind self.now.prev) result }
     {
         let at = token.next;
         let index = token.index + 1;
         if token.kind == Kind::LeftBrace as u32 && self.prev_is(Kind::RightBrace as u32) {
-            let taken = token_at(self.source.rows, at, index, self.bare);
+            let taken = token_at(self.rows, at, index, self.bare);
             return Place {
                 at: taken.next,
                 index: index + 1,

@@ -15,7 +15,7 @@ ghost use Rattle.formatter.specs.Token.{bare_token, lexeme_of};
 ghost use Rattle.formatter.specs.Parts.{gap_size, indent_or_space_size, emit_tail};
 
 use crate::{FnState, Formatter, TokenAt};
-use row_writers::write_lexeme;
+use row_writers::{Source, write_lexeme};
 use rows::Kind;
 use sink::write::{Sink, Tail};
 use spaces::is_value_kind;
@@ -90,7 +90,16 @@ impl<'a> Formatter<'a> {
         ensures kept { Kept self.old self.new }
     {
         let gap = self.gap_before(kind);
-        write_lexeme(sink, gap, self.source, token.own, tail);
+        write_lexeme(
+            sink,
+            gap,
+            Source {
+                rows: self.rows,
+                text: self.text,
+            },
+            token.own,
+            tail,
+        );
         self.at_line_start = false;
         self.prev = Some(kind);
     }

@@ -100,11 +100,13 @@ pub struct Ends {
 
 // The fields of format.rs under its names. The port adds what format.rs has in parameters: the options, the
 // rows and the text, what all rows tell, and whether no row is trivia; and `commas`, the number of inserted
-// commas.
-#[derive(Drop)]
+// commas. The rows and the text are fields of their own: where a `Copy` struct holds a `Source`, the checker
+// finds no plan for methods that borrow it.
+#[derive(Clone, Copy)]
 pub struct Formatter<'a> {
     pub options: Options,
-    pub source: Source<'a>,
+    pub rows: &'a [u8],
+    pub text: &'a [u8],
     pub ends: Ends,
     pub bare: bool,
     pub indent: usize,
@@ -155,11 +157,13 @@ impl<'a> Formatter<'a> {
     pub fn new(options: Options, source: Source<'a>, bare: bool) -> Self
         ensures fresh { (s : Sink) → s.len ≡ 0 → Fresh result s }
         ensures ends { Ending source.entry.rows.now result.ends }
-        ensures given { (result.options ≡ options) × (result.source ≡ source.entry) × (result.bare ≡ bare) }
+        ensures given { (result.options ≡ options) × (result.rows ≡ source.entry.rows)
+            × (result.text ≡ source.entry.text) × (result.bare ≡ bare) }
     {
         Formatter {
             options,
-            source,
+            rows: source.rows,
+            text: source.text,
             ends: ends_not_sought(source.rows),
             bare,
             indent: 0,

@@ -17,8 +17,8 @@ use sink::write::Sink;
 impl<'a> Formatter<'a> {
     // Newline: it is swallowed, or writes a line feed, or is left out.
     pub fn newline_arm(&mut self, sink: &mut Sink, token: TokenAt)
-        requires { token.own + row_size ≤ length self.old.source.rows.now }
-        ensures { (text : List ℕ) → AtTokenOf token self.old.source.rows.now text
+        requires { token.own + row_size ≤ length self.old.rows.now }
+        ensures { (text : List ℕ) → AtTokenOf token self.old.rows.now text
             (λ t ts. Puts (newline_arm token.index ts) self.old sink.old self.new sink.new) }
     {
         if self.suppresses(token.index) {
@@ -41,12 +41,12 @@ impl<'a> Formatter<'a> {
     // not at the text's start before a comment, not in a record or a one-line block, and never a third line
     // feed.
     fn feeds(&self, sink: &Sink, own: usize) -> bool
-        requires { own + row_size ≤ length self.now.source.rows.now }
+        requires { own + row_size ≤ length self.now.rows.now }
         ensures { (text : List ℕ) (x : Locals) → sink.now.len ≤ length sink.now.out.now
-            → result ≡ feeds_line (tokens_of (drop (own + row_size) self.now.source.rows.now) text)
+            → result ≡ feeds_line (tokens_of (drop (own + row_size) self.now.rows.now) text)
             (state_of x (code_state self.now sink.now)) }
     {
-        if sink.len == 0 && next_has_comment(&self.source.rows[own + ROW_BYTES..]) {
+        if sink.len == 0 && next_has_comment(&self.rows[own + ROW_BYTES..]) {
             return false;
         }
         if self.in_record || self.in_one_line_block() {

@@ -82,7 +82,7 @@ loop-place-smaller-then-may_start_fast_tokens c =
     let ι = c.loop-place.invariant in
     let t = rw (rows_same ι) at c.loop-place-test.true in
     let few = fast_tokens_few c.requires.checked_rows (at_place α) (c.may_start_fast_tokens.ensures c.if-may_start_fast_tokens.true) c.push_fast_tokens-at.ensures in
-    falls (length c.args.self.now.source.rows.now) t (after_place α) few.0 c.place_at-place.ensures.0
+    falls (length c.args.self.now.rows.now) t (after_place α) few.0 c.place_at-place.ensures.0
 
 pub may_start_fast_braces-requires : goal.may_start_fast_braces-requires
 may_start_fast_braces-requires c = rows_left c.requires.checked_rows (at_place (goal.at.may_start_fast_braces-requires c).After-next_place-place)

@@ -19,4 +19,4 @@ returns-then-ends-list_width c = λ text t ts σ.
 pub returns : goal.returns
 returns c = λ text t ts σ.
     looked σ (should_break_list c.args.self.now.options.list_width)
-    (part_is c.args.token.lead c.args.self.now.source.rows.now) (list_tokens _ _ _ c.should_break_list.ensures)
+    (part_is c.args.token.lead c.args.self.now.rows.now) (list_tokens _ _ _ c.should_break_list.ensures)
