@@ -10,7 +10,7 @@ use lib.ListN.{length, get_or, set, drop, replicate, length-set}
 use lib.Seq.{get_or-set_same, get_or-set_other}
 use Rattle.definition.specs.Emit.{is_at}
 use Rattle.formatter.specs.Stack.{top_first, OnStack}
-use Rattle.formatter.specs.StackArray.{top_kept}
+use Rattle.formatter.specs.StackArray.{top_kept, top_length}
 
 -- ---- the list
 
@@ -43,8 +43,8 @@ zeros zero i = refl
 zeros (suc n) zero = refl
 zeros (suc n) (suc i) = zeros n i
 
-pub none_on : OnStack 0 (replicate 64 0)
-none_on = record { few = omega arith; size = refl; rest = λ i h. zeros 64 i }
+pub zeros_on : (n : ℕ) → n ≤ 64 → OnStack n (replicate 64 0)
+zeros_on n h = record { few = h; size = refl; rest = λ i l. zeros 64 i }
 
 pub pushed_on : (n : ℕ) (k : List ℕ) (v : ℕ) → OnStack n k → n < 64 → OnStack (n + 1) (set k n v)
 pushed_on n k v σ h =
@@ -53,3 +53,6 @@ pushed_on n k v σ h =
       size = length-set k n v ∙ σ.size;
       rest = λ i l. get_or-set_other k n i v 0 (λ e. omega arith) ∙ σ.rest i (omega arith);
     }
+
+-- What `push` does to the list and to the array.
+pub ruleset pushing = (top_length, top_pushed, pushed_on)

@@ -14,7 +14,6 @@ use Rattle.rows.specs.Checks.{at_start}
 use Rattle.rows.specs.Token.{Token, bytes_of, tokens_of}
 use Rattle.rows.proofs.RowList.{rows_cons, part_cons, rows_drop, rows_length, row_drop, row-index}
 use Rattle.rows.proofs.Sound.{in_bounds, known_kinds}
-use Rattle.formatter.proofs.Numbered.{read_as}
 use Rattle.formatter.specs.declared.Ends.{Ends}
 use Rattle.formatter.specs.declared.TokenAt.{TokenAt}
 use Rattle.formatter.specs.Token.{Ahead, InRows, StandsFor}

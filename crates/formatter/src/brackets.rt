@@ -47,7 +47,8 @@ impl<'a> Formatter<'a> {
     pub fn at_signature(&self) -> bool
         ensures { result ≡ at_signature (fields_of self.now) }
     {
-        !self.in_one_line_block() && self.fn_state != FnState::Outside
+        !self.in_one_line_block()
+            && (self.fn_state == FnState::NAMED || self.fn_state == FnState::AFTER_FN)
     }
 
     // Whether the list that the token opens breaks: it is wide, and outside one-line blocks and records.
@@ -86,7 +87,7 @@ impl<'a> Formatter<'a> {
             (λ t ts. Puts (open_signature (options_of self.old.options) token.index t ts)
             self.old sink.old self.new sink.new) }
     {
-        self.fn_state = FnState::Outside;
+        self.fn_state = FnState::OUTSIDE;
         if should_break_sig(&self.rows[token.lead..], self.options.fn_sig_width) {
             self.break_signature(sink, token.index);
         } else {

@@ -38,7 +38,7 @@ impl<'a> Formatter<'a> {
         if self.in_record {
             return false;
         }
-        self.fn_state == FnState::Outside
+        self.fn_state == FnState::OUTSIDE
     }
 
     // Lays out the braces from the row at `from` on, while they stand in a one-line block and two bytes are

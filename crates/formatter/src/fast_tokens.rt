@@ -6,7 +6,7 @@ ghost use Rattle.rows.specs.Kinds.{Other};
 ghost use Rattle.spaces.specs.Between.{bit};
 ghost use Rattle.rows.specs.Row.{row_size};
 ghost use Rattle.definition.specs.Emit.{is_some};
-ghost use Rattle.formatter.specs.CodeState.{code_state, signature_of};
+ghost use Rattle.formatter.specs.CodeState.{code_state, fn_number, signature_of};
 ghost use Rattle.formatter.specs.Format.{CheckedRows, TokenBoundary, RowsLeft, NoTriviaIf};
 ghost use Rattle.formatter.specs.FastTokens.{MayStartFastTokens, BareRow, RowAhead, IsFastToken};
 ghost use Rattle.formatter.specs.FastTokens.{LaysFastTokens, TracksFastToken};
@@ -32,7 +32,7 @@ const FN: KindSet = KindSet(1 << Kind::Fn as u64);
 
 const CLOSERS: KindSet = KindSet(1 << Kind::RightParen as u64 | 1 << Kind::RightBracket as u64);
 
-// These change a field that fast tokens change where `fn_state` is `Outside` and no record is pending:
+// These change a field that fast tokens change where `fn_state` is `OUTSIDE` and no record is pending:
 // RightParen, RightBracket, Minus, Fn, Record.
 const CHANGING: KindSet = KindSet(
     CLOSERS.0 | FN.0 | 1 << Kind::Minus as u64 | 1 << Kind::Record as u64,
@@ -59,7 +59,7 @@ impl<'a> Formatter<'a> {
             return false;
         }
         if self.in_broken_signature() {
-            return self.fn_state == FnState::Outside;
+            return self.fn_state == FnState::OUTSIDE;
         }
         true
     }
@@ -183,9 +183,9 @@ fn space_before(spaced: usize, kind: u32) -> usize
 
 // The kinds that change a field, as bits: all, where `fn` or `record` is still looked back to.
 fn changing_kinds(fn_state: FnState, record_pending: bool) -> KindSet
-    ensures { result.0 ≡ changing_kinds fn_state record_pending }
+    ensures { result.0 ≡ changing_kinds (fn_number fn_state) record_pending }
 {
-    if record_pending || fn_state != FnState::Outside {
+    if record_pending || fn_state != FnState::OUTSIDE {
         return KindSet::ALL;
     }
     CHANGING
@@ -193,12 +193,12 @@ fn changing_kinds(fn_state: FnState, record_pending: bool) -> KindSet
 
 // `fn_state` after a fast token of this kind.
 fn fn_state_after(state: FnState, kind: Kind) -> FnState
-    ensures { result ≡ fn_after (kind_number kind) state }
+    ensures { fn_number result ≡ fn_after (kind_number kind) (fn_number state) }
 {
     match kind {
-        Kind::Fn => FnState::AfterFn,
+        Kind::Fn => FnState::AFTER_FN,
         Kind::Identifier => named_after(state),
-        _ => FnState::Outside,
+        _ => FnState::OUTSIDE,
     }
 }
 

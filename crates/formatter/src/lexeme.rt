@@ -148,22 +148,22 @@ impl<'a> Formatter<'a> {
         }
     }
 
-    // Tracks `fn name (`, after a token whose kind has this number. `Outside`, which is most frequent, is
+    // Tracks `fn name (`, after a token whose kind has this number. `OUTSIDE`, which is most frequent, is
     // asked for first.
     pub fn track_fn_state(&mut self, kind: u32)
         ensures { (s : Sink) → Puts (update (track_fn_state kind)) self.old s self.new s }
     {
-        if kind != Kind::Fn as u32 && self.fn_state == FnState::Outside {
+        if kind != Kind::Fn as u32 && self.fn_state == FnState::OUTSIDE {
             return;
         }
         if self.in_broken_signature() {
             return;
         }
         match Kind::of(kind) {
-            Kind::Fn => self.fn_state = FnState::AfterFn,
+            Kind::Fn => self.fn_state = FnState::AFTER_FN,
             Kind::Identifier => self.fn_state = named_after(self.fn_state),
             Kind::Newline => {}
-            _ => self.fn_state = FnState::Outside,
+            _ => self.fn_state = FnState::OUTSIDE,
         }
     }
 }
@@ -172,14 +172,14 @@ impl<'a> Formatter<'a> {
 pub fn named_after(state: FnState) -> FnState
     ensures { fn_number result ≡ cond (eqb (fn_number state) 1) 2 0 }
 {
-    match state {
-        FnState::AfterFn => FnState::Named,
-        _ => FnState::Outside,
+    if state == FnState::AFTER_FN {
+        return FnState::NAMED;
     }
+    FnState::OUTSIDE
 }
 
-// Answers whether a record is pending after a token whose kind has this number: `record` arms the record layout, a name
-// leaves it armed, anything else disarms it.
+// Answers whether a record is pending after a token whose kind has this number: `record` arms the record
+// layout, a name leaves it armed, anything else disarms it.
 pub fn record_pending_after(pending: bool, kind: u32) -> bool
     ensures { result ≡ eqb kind Record || (eqb kind Identifier && pending) }
 {

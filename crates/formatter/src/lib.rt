@@ -32,13 +32,17 @@ use rows::Kind;
 
 // How far the walk has come in `fn name (`: `fn_state`, a number in format.rs.
 #[derive(Clone, Copy, Debug, PartialEq, Eq)]
-pub enum FnState {
-    // 0: it is in no such place.
-    Outside,
-    // 1: `fn` stands before.
-    AfterFn,
-    // 2: `fn` and a name stand before.
-    Named,
+pub struct FnState(pub u8);
+
+impl FnState {
+    // It is in no such place.
+    pub const OUTSIDE: FnState = FnState(0);
+
+    // `fn` stands before.
+    pub const AFTER_FN: FnState = FnState(1);
+
+    // `fn` and a name stand before.
+    pub const NAMED: FnState = FnState(2);
 }
 
 // Four counts have a type of their own each, so that none is taken for another. This one says how many parens
@@ -76,8 +80,8 @@ pub struct Options {
     pub list_width: u32,
 }
 
-// A token: the number of its kind as its row has it, its index among the tokens, where its leading rows start,
-// where its own row starts, and where its trailing rows end.
+// A token: its kind's number as its row has it, its index among the tokens, where its leading rows start, where
+// its own row starts, and where its trailing rows end.
 #[derive(Clone, Copy)]
 pub struct TokenAt {
     pub kind: u32,
@@ -171,7 +175,7 @@ impl<'a> Formatter<'a> {
             prev: None,
             prev_minus_is_unary: false,
             inline_depth: InlineDepth(0),
-            fn_state: FnState::Outside,
+            fn_state: FnState::OUTSIDE,
             sig_break_depth: None,
             record_pending: false,
             in_record: false,

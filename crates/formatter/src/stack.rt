@@ -35,7 +35,7 @@ impl Model for Stack {
 
 impl Stack {
     // The empty stack.
-    #[tactic(auto, using(crate::proofs::Entries::none_on), unfolding(crate::specs::Stack::top_first))]
+    #[tactic(auto, unfolding(crate::specs::Stack::top_first))]
     pub fn new() -> Self
         ensures { result ≡ [] }
     {
@@ -70,7 +70,7 @@ impl Stack {
     }
 
     // Puts a depth on the stack. A full one stays as it is.
-    #[tactic(auto, using(crate::specs::StackArray::top_length, crate::proofs::Entries::top_pushed, crate::proofs::Entries::pushed_on))]
+    #[tactic(auto, using(crate::proofs::Entries::pushing))]
     pub fn push(&mut self, depth: u32)
         ensures { self.new ≡ cond (ltb (length self.old) stack_size) (depth ∷ self.old) self.old }
     {
