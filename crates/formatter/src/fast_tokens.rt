@@ -88,7 +88,7 @@ impl<'a> Formatter<'a> {
             let space = space_before(spaced, row.kind);
             sink.put_token(space, text, row.start as usize, row.end as usize);
             if bit(changing, row.kind) == 1 {
-                self.track_fast_token(Kind::of(prev), row.token_kind());
+                self.track_fast_token(prev, row.kind);
                 changing = changing_kinds(self.fn_state, self.record_pending);
                 loose = loose_after(Kind::Other as u32, self.prev_minus_is_unary);
             }
@@ -101,8 +101,8 @@ impl<'a> Formatter<'a> {
     }
 
     // Tracks a fast token of this kind, after one of the kind `prev`.
-    fn track_fast_token(&mut self, prev: Kind, kind: Kind)
-        ensures { TracksFastToken (kind_number prev) (kind_number kind) self.old self.new }
+    fn track_fast_token(&mut self, prev: u32, kind: u32)
+        ensures { TracksFastToken prev kind self.old self.new }
     {
         self.fn_state = fn_state_after(self.fn_state, kind);
         self.record_pending = pending_after(self.record_pending, kind);
@@ -192,44 +192,46 @@ fn changing_kinds(fn_state: FnState, record_pending: bool) -> KindSet
 }
 
 // `fn_state` after a fast token of this kind.
-fn fn_state_after(state: FnState, kind: Kind) -> FnState
-    ensures { fn_number result ≡ fn_after (kind_number kind) (fn_number state) }
+fn fn_state_after(state: FnState, kind: u32) -> FnState
+    ensures { fn_number result ≡ fn_after kind (fn_number state) }
 {
-    match kind {
-        Kind::Fn => FnState::AFTER_FN,
-        Kind::Identifier => named_after(state),
-        _ => FnState::OUTSIDE,
+    if kind == Kind::Fn as u32 {
+        return FnState::AFTER_FN;
     }
+    if kind == Kind::Identifier as u32 {
+        return named_after(state);
+    }
+    FnState::OUTSIDE
 }
 
 // `record_pending` after a fast token of this kind: only the last arm of `push_token` sets it.
-fn pending_after(pending: bool, kind: Kind) -> bool
-    ensures { result ≡ pending_after (kind_number kind) pending }
+fn pending_after(pending: bool, kind: u32) -> bool
+    ensures { result ≡ pending_after kind pending }
 {
-    if kind as u32 <= Kind::Comma as u32 || kind == Kind::Else {
+    if kind <= Kind::Comma as u32 || kind == Kind::Else as u32 {
         return pending;
     }
-    record_pending_after(pending, kind as u32)
+    record_pending_after(pending, kind)
 }
 
 // `prev_minus_is_unary` after a fast token of this kind, where the one before has the kind `prev`.
-fn unary_after(unary: bool, prev: Kind, kind: Kind) -> bool
-    ensures { result ≡ unary_after (kind_number prev) (kind_number kind) unary }
+fn unary_after(unary: bool, prev: u32, kind: u32) -> bool
+    ensures { result ≡ unary_after prev kind unary }
 {
-    if kind == Kind::Minus {
-        return !is_value_kind(prev as u32);
+    if kind == Kind::Minus as u32 {
+        return !is_value_kind(prev);
     }
     unary
 }
 
 // `group_depth` after a fast token of this kind.
-fn group_depth_after(depth: usize, kind: Kind) -> usize
-    ensures { result ≡ group_after (kind_number kind) depth }
+fn group_depth_after(depth: usize, kind: u32) -> usize
+    ensures { result ≡ group_after kind depth }
 {
-    match kind {
-        Kind::RightParen | Kind::RightBracket => depth.saturating_sub(1),
-        _ => depth,
+    if kind == Kind::RightParen as u32 || kind == Kind::RightBracket as u32 {
+        return depth.saturating_sub(1);
     }
+    depth
 }
 
 // The set, or no kind.

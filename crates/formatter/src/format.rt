@@ -17,6 +17,27 @@ use crate::{Finished, Formatter, TokenAt, WalkError};
 use rows::{Kind, ROW_BYTES};
 use sink::write::Sink;
 
+// The kinds that have an arm of their own, as rows have them.
+const EOF: u32 = Kind::Eof as u32;
+
+const NEWLINE: u32 = Kind::Newline as u32;
+
+const RIGHT_BRACE: u32 = Kind::RightBrace as u32;
+
+const LEFT_BRACE: u32 = Kind::LeftBrace as u32;
+
+const LEFT_PAREN: u32 = Kind::LeftParen as u32;
+
+const LEFT_BRACKET: u32 = Kind::LeftBracket as u32;
+
+const RIGHT_PAREN: u32 = Kind::RightParen as u32;
+
+const RIGHT_BRACKET: u32 = Kind::RightBracket as u32;
+
+const COMMA: u32 = Kind::Comma as u32;
+
+const ELSE: u32 = Kind::Else as u32;
+
 impl<'a> Formatter<'a> {
     // Lays out all tokens of checked rows into an empty sink, and tells how that ends.
     pub fn format(&mut self, sink: &mut Sink) -> Result<Finished, WalkError>
@@ -90,17 +111,17 @@ impl<'a> Formatter<'a> {
             → Does (arm (options_of self.old.options) token.index t ts) x
             (code_state self.old sink.old) (code_state self.new sink.new)) }
     {
-        match token.kind() {
-            Kind::Eof => {}
-            Kind::Newline => self.newline_arm(sink, token),
-            Kind::RightBrace => self.right_brace_arm(sink),
-            Kind::LeftBrace => self.left_brace_arm(sink, token),
-            Kind::LeftParen => self.left_paren_arm(sink, token),
-            Kind::LeftBracket => self.left_bracket_arm(sink, token),
-            Kind::RightParen => self.right_paren_arm(sink, token),
-            Kind::RightBracket => self.right_bracket_arm(sink, token),
-            Kind::Comma => self.comma_arm(sink, token),
-            Kind::Else => self.else_arm(sink, token, inline_close),
+        match token.kind {
+            EOF => {}
+            NEWLINE => self.newline_arm(sink, token),
+            RIGHT_BRACE => self.right_brace_arm(sink),
+            LEFT_BRACE => self.left_brace_arm(sink, token),
+            LEFT_PAREN => self.left_paren_arm(sink, token),
+            LEFT_BRACKET => self.left_bracket_arm(sink, token),
+            RIGHT_PAREN => self.right_paren_arm(sink, token),
+            RIGHT_BRACKET => self.right_bracket_arm(sink, token),
+            COMMA => self.comma_arm(sink, token),
+            ELSE => self.else_arm(sink, token, inline_close),
             _ => self.other_arm(sink, token),
         }
     }
@@ -121,9 +142,9 @@ impl<'a> Formatter<'a> {
         if !self.break_stack.is_full() {
             return false;
         }
-        match token.kind() {
-            Kind::LeftParen => !self.at_signature() && self.breaks_list(token),
-            Kind::LeftBracket => self.breaks_list(token),
+        match token.kind {
+            LEFT_PAREN => !self.at_signature() && self.breaks_list(token),
+            LEFT_BRACKET => self.breaks_list(token),
             _ => false,
         }
     }
@@ -137,10 +158,10 @@ impl<'a> Formatter<'a> {
         if token.next == token.own + ROW_BYTES {
             return false;
         }
-        match token.kind() {
-            Kind::LeftBrace => !self.empties_record(token),
-            Kind::RightParen => !self.closes_broken(),
-            Kind::RightBracket => !self.in_broken_list(),
+        match token.kind {
+            LEFT_BRACE => !self.empties_record(token),
+            RIGHT_PAREN => !self.closes_broken(),
+            RIGHT_BRACKET => !self.in_broken_list(),
             _ => true,
         }
     }
@@ -155,7 +176,7 @@ impl<'a> Formatter<'a> {
     {
         let at = token.next;
         let index = token.index + 1;
-        if token.kind == Kind::LeftBrace as u32 && self.prev_is(Kind::RightBrace as u32) {
+        if token.kind == LEFT_BRACE && self.prev_is(RIGHT_BRACE) {
             let taken = token_at(self.rows, at, index, self.bare);
             return Place {
                 at: taken.next,

@@ -159,11 +159,12 @@ impl<'a> Formatter<'a> {
         if self.in_broken_signature() {
             return;
         }
-        match Kind::of(kind) {
-            Kind::Fn => self.fn_state = FnState::AFTER_FN,
-            Kind::Identifier => self.fn_state = named_after(self.fn_state),
-            Kind::Newline => {}
-            _ => self.fn_state = FnState::OUTSIDE,
+        if kind == Kind::Fn as u32 {
+            self.fn_state = FnState::AFTER_FN;
+        } else if kind == Kind::Identifier as u32 {
+            self.fn_state = named_after(self.fn_state);
+        } else if kind != Kind::Newline as u32 {
+            self.fn_state = FnState::OUTSIDE;
         }
     }
 }
