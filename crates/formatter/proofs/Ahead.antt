@@ -197,7 +197,7 @@ module _ {z : Given} {l₀ : List ℕ} {x : Locals} {f : CodeState} {i at : ℕ}
     pub goes_past_fast_braces : Going z l₀ (i + (to - at) / 16) to gone_braces g
     goes_past_fast_braces =
         let form : formatter_of g.form gone_braces ≡ after_fast_braces (ltb at to) σ.laid.close (fast_braces_at g to) (formatter_of f.form x) = σ.changed.form gone_braces in
-        let rows : f.form.source.rows.now ≡ z.source.rows.now = ap (λ y. y.source.rows.now) same in
+        let rows : f.form.rows.now ≡ z.source.rows.now = ap (λ y. y.source.rows.now) same in
         let w = σ.laid.whole in
         let v = γ.head.whole in
         goes_past (record {

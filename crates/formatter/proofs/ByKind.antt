@@ -3,10 +3,7 @@ use mathlib.Core.List.{List}
 use mathlib.Core.Path.{◌≡◌}
 use Prim.Native.Nat.{ℕ}
 use Rattle.rows.specs.Kinds.{Eof, Newline, LeftBrace, RightBrace, LeftParen, RightParen, LeftBracket, RightBracket, Comma, Else}
-use Rattle.rows.specs.declared.kind.Kind.{Kind}
-use Rattle.rows.specs.declared.kind.Kind.TheVariants as kinds
-use Rattle.rows.specs.KindNumber.{kind_number}
-use Rattle.formatter.proofs.Numbered.{other_kind}
+use borrow.Author.Tests.{ne_eqb}
 use Rattle.rows.specs.Options.{Options}
 use Rattle.rows.specs.Token.{Token}
 use Rattle.definition.specs.Act.{nothing}
@@ -47,9 +44,9 @@ module _ (o : Options) (i : ℕ) (t : Token) (ts : List Token) {x : Locals} {p q
   pub at_else : t.kind ≡ Else → Does (else_arm o t) x p q → Does (arm o i t ts) x p q
   at_else e d = no (λ n. rw e) (no (λ n. rw e) (no (λ n. rw e) (no (λ n. rw e) (no (λ n. rw e) (no (λ n. rw e) (no (λ n. rw e) (no (λ n. rw e) (no (λ n. rw e) (yes (λ n. rw e) d)))))))))
 
-  pub at_other : (k : Kind) → t.kind ≡ kind_number k
-      → (k ≡ kinds.Eof → ⊥) → (k ≡ kinds.Newline → ⊥) → (k ≡ kinds.RightBrace → ⊥) → (k ≡ kinds.LeftBrace → ⊥) → (k ≡ kinds.LeftParen → ⊥) → (k ≡ kinds.LeftBracket → ⊥) → (k ≡ kinds.RightParen → ⊥) → (k ≡ kinds.RightBracket → ⊥) → (k ≡ kinds.Comma → ⊥) → (k ≡ kinds.Else → ⊥)
+  pub at_other : {k : ℕ} → t.kind ≡ k
+      → (k ≡ Eof → ⊥) → (k ≡ Newline → ⊥) → (k ≡ RightBrace → ⊥) → (k ≡ LeftBrace → ⊥) → (k ≡ LeftParen → ⊥) → (k ≡ LeftBracket → ⊥) → (k ≡ RightParen → ⊥) → (k ≡ RightBracket → ⊥) → (k ≡ Comma → ⊥) → (k ≡ Else → ⊥)
       → Does (other_arm o t) x p q → Does (arm o i t ts) x p q
-  at_other k e a b c f g h j l m y d =
-      no (λ n. rw e (other_kind k kinds.Eof a)) (no (λ n. rw e (other_kind k kinds.Newline b)) (no (λ n. rw e (other_kind k kinds.RightBrace c)) (no (λ n. rw e (other_kind k kinds.LeftBrace f)) (no (λ n. rw e (other_kind k kinds.LeftParen g))
-      (no (λ n. rw e (other_kind k kinds.LeftBracket h)) (no (λ n. rw e (other_kind k kinds.RightParen j)) (no (λ n. rw e (other_kind k kinds.RightBracket l)) (no (λ n. rw e (other_kind k kinds.Comma m)) (no (λ n. rw e (other_kind k kinds.Else y)) d)))))))))
+  at_other {k} e a b c f g h j l m y d =
+      no (λ n. rw e (ne_eqb k Eof a)) (no (λ n. rw e (ne_eqb k Newline b)) (no (λ n. rw e (ne_eqb k RightBrace c)) (no (λ n. rw e (ne_eqb k LeftBrace f)) (no (λ n. rw e (ne_eqb k LeftParen g))
+      (no (λ n. rw e (ne_eqb k LeftBracket h)) (no (λ n. rw e (ne_eqb k RightParen j)) (no (λ n. rw e (ne_eqb k RightBracket l)) (no (λ n. rw e (ne_eqb k Comma m)) (no (λ n. rw e (ne_eqb k Else y)) d)))))))))

@@ -24,7 +24,6 @@ use Rattle.row_writers.specs.Comment.{comment_head, lead_tail}
 use Rattle.sink.specs.declared.write.Sink.{Sink}
 use Rattle.sink.proofs.Appends.{and_then, nothing}
 use Rattle.formatter.specs.declared.Formatter.{Formatter}
-use Rattle.row_writers.specs.declared.Source.{Source}
 use Rattle.formatter.specs.CodeState.{Locals, CodeState, formatter_of, Given, given, options_of}
 use Rattle.formatter.specs.Does.{Same, Does, Done, Puts}
 use Rattle.formatter.specs.Trivia.{WholeRows, trivia_in, lead_token, trail_bytes}
@@ -101,26 +100,26 @@ bounds-first β e = rw e at β
 
 -- From the state f, the rows that are left do what is left of what all of them do from the state f₀.
 pub record LeadsLeft (all left : List Row) (f₀ f : CodeState) : Type 0 where
-  pub bounds : InBounds f₀.form.source.text.now left
+  pub bounds : InBounds f₀.form.text.now left
   pub same : Same f₀ f
   pub indent : f.form.indent ≤ 4294967295
   pub rest :
-      (q : CodeState) → Done (leading_trivia (options_of f₀.form.options) (map (trivia_of f₀.form.source.text.now) left)) f q
-      → Done (leading_trivia (options_of f₀.form.options) (map (trivia_of f₀.form.source.text.now) all)) f₀ q
+      (q : CodeState) → Done (leading_trivia (options_of f₀.form.options) (map (trivia_of f₀.form.text.now) left)) f q
+      → Done (leading_trivia (options_of f₀.form.options) (map (trivia_of f₀.form.text.now) all)) f₀ q
 
-pub same_source : {p q : CodeState} → Same p q → q.form.source ≡ p.form.source
-same_source s = ap (λ (z : Given). z.source) s.given
+same_text : {p q : CodeState} → Same p q → q.form.text.now ≡ p.form.text.now
+same_text s = ap (λ (z : Given). z.source.text.now) s.given
 
-pub leads_start : {all : List Row} {f : CodeState} → InBounds f.form.source.text.now all → f.form.indent ≤ 4294967295 → LeadsLeft all all f f
+pub leads_start : {all : List Row} {f : CodeState} → InBounds f.form.text.now all → f.form.indent ≤ 4294967295 → LeadsLeft all all f f
 leads_start β i = record { bounds = β; same = record { given = refl; lent = refl }; indent = i; rest = λ q d. d }
 
 module _ {all left : List Row} {f₀ f : CodeState} (σ : LeadsLeft all left f₀ f) where
   module _ {r : Row} {rs : List Row} (e : left ≡ r ∷ rs) where
-    pub lead_inside : Inside f.form.source.text.now r
-    lead_inside = rw (same_source σ.same) (bounds-first σ.bounds e).0
+    pub lead_inside : Inside f.form.text.now r
+    lead_inside = rw (same_text σ.same) (bounds-first σ.bounds e).0
 
     pub leads_more :
-        {g : CodeState} → g.form.indent ≡ f.form.indent → Done (lead_act (options_of f.form.options) (trivia_of f.form.source.text.now r)) f g
+        {g : CodeState} → g.form.indent ≡ f.form.indent → Done (lead_act (options_of f.form.options) (trivia_of f.form.text.now r)) f g
         → LeadsLeft all rs f₀ g
     unfolding leading_trivia
     leads_more {g} i d =
@@ -134,11 +133,11 @@ module _ {all left : List Row} {f₀ f : CodeState} (σ : LeadsLeft all left f�
         none : Locals
         none = record { inline_close = false; returned = false; skip_next = false; too_deep = Rattle.std.proofs.Math.Option.none }
 
-        same-lead : Done (lead_act (options_of f₀.form.options) (trivia_of f₀.form.source.text.now r)) f g
-        same-lead = rw (sym (same_options σ.same), sym (ap (λ (z : Source). z.text.now) (same_source σ.same))) d
+        same-lead : Done (lead_act (options_of f₀.form.options) (trivia_of f₀.form.text.now r)) f g
+        same-lead = rw (sym (same_options σ.same), sym (same_text σ.same)) d
 
   -- At the end nothing is left.
-  pub leads_done : left ≡ [] → Done (leading_trivia (options_of f₀.form.options) (map (trivia_of f₀.form.source.text.now) all)) f₀ f
+  pub leads_done : left ≡ [] → Done (leading_trivia (options_of f₀.form.options) (map (trivia_of f₀.form.text.now) all)) f₀ f
   unfolding leading_trivia
   leads_done e = σ.rest f (λ x. rw e stays)
 

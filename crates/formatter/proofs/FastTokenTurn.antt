@@ -21,9 +21,6 @@ use Rattle.definition.specs.Arms.{at_record_fields, in_broken_list, else_on_new_
 use Rattle.definition.specs.PushToken.{arm, take_inline_close, turn}
 use Rattle.spaces.specs.Between.{loose_after, bit, spaces}
 use Rattle.spaces.proofs.Pairs.{spaces_are, loose_other}
-use Rattle.formatter.specs.declared.FnState.{FnState}
-use Rattle.formatter.specs.declared.FnState.TheVariants.{Outside, AfterFn, Named}
-use Rattle.formatter.specs.CodeState.{fn_number}
 use Rattle.formatter.specs.FastTokens.{FastKinds, is_closer, fast_kind_bits, space_before, FastState, fn_after, pending_after, group_after, changing_kinds, fast_state_after, BeforeFastTokens, after_fast_tokens}
 use Rattle.formatter.proofs.Gaps.{token_gap_lem}
 use Rattle.formatter.proofs.Turn.{same, chosen_not, by_arm_lem}
@@ -125,8 +122,8 @@ changes_not k h z =
     split (changes k) (λ c. let w : ◌≡◌ {A = ℕ} 0 1 = sym z ∙ rw c at e in absurd (omega arith)) (λ c. c)
 
 kept_outside : (p k : ℕ) (unary : Bool) (group : ℕ) → changes k ≡ false
-    → fast_state_after p k (record { fn_state = Outside; record_pending = false; prev_minus_is_unary = unary; group_depth = group })
-    ≡ record { fn_state = Outside; record_pending = false; prev_minus_is_unary = unary; group_depth = group }
+    → fast_state_after p k (record { fn_state = 0; record_pending = false; prev_minus_is_unary = unary; group_depth = group })
+    ≡ record { fn_state = 0; record_pending = false; prev_minus_is_unary = unary; group_depth = group }
 kept_outside p k unary group c =
     let q : is_closer k ≡ false = or_left (is_closer k) (eqb k Minus || (eqb k Fn || eqb k Record)) c in
     let d : eqb k Minus || (eqb k Fn || eqb k Record) ≡ false = or_right (is_closer k) (eqb k Minus || (eqb k Fn || eqb k Record)) c in
@@ -134,33 +131,23 @@ kept_outside p k unary group c =
     let e : eqb k Fn || eqb k Record ≡ false = or_right (eqb k Minus) (eqb k Fn || eqb k Record) d in
     let f : eqb k Fn ≡ false = or_left (eqb k Fn) (eqb k Record) e in
     let r : eqb k Record ≡ false = or_right (eqb k Fn) (eqb k Record) e in
-    rw (q, m, f, r, and-false (eqb k Identifier)) (ap (λ b. record { fn_state = Outside; record_pending = b; prev_minus_is_unary = unary; group_depth = group }) (same (leb k Comma || eqb k Else)))
+    rw (q, m, f, r, and-false (eqb k Identifier)) (ap (λ b. record { fn_state = 0; record_pending = b; prev_minus_is_unary = unary; group_depth = group }) (same (leb k Comma || eqb k Else)))
 
 none_left : (k : ℕ) → k ≤ Other → bit 0x7_ffff_ffff k ≡ 0 → ⊥
 none_left k h z =
     let e : bit 0x7_ffff_ffff k ≡ 1 = eqb-true _ _ (below 35 (λ k. eqb (bit 0x7_ffff_ffff k) 1) all_kinds k (omega arith)) in
     let w : ◌≡◌ {A = ℕ} 0 1 = sym z ∙ e in omega arith
 
-kept_by : (p k : ℕ) (fn : FnState) (pending unary : Bool) (group : ℕ) → k ≤ Other → bit (changing_kinds fn pending) k ≡ 0
+kept_by : (p k fn : ℕ) (pending unary : Bool) (group : ℕ) → k ≤ Other → bit (changing_kinds fn pending) k ≡ 0
     → fast_state_after p k (record { fn_state = fn; record_pending = pending; prev_minus_is_unary = unary; group_depth = group })
     ≡ record { fn_state = fn; record_pending = pending; prev_minus_is_unary = unary; group_depth = group }
-kept_by p k Outside false unary group h z = kept_outside p k unary group (changes_not k h z)
-kept_by p k AfterFn false unary group h z = absurd (none_left k h z)
-kept_by p k Named false unary group h z = absurd (none_left k h z)
-kept_by p k Outside true unary group h z = absurd (none_left k h z)
-kept_by p k AfterFn true unary group h z = absurd (none_left k h z)
-kept_by p k Named true unary group h z = absurd (none_left k h z)
+kept_by p k fn true unary group h z = absurd (none_left k h z)
+kept_by p k fn false unary group h z =
+    split (eqb fn 0) (λ e. rw (eqb-true fn 0 e) (kept_outside p k unary group (changes_not k h (rw e at z)))) (λ e. absurd (none_left k h (rw e at z)))
 
 -- A kind that changes no field.
 pub kept : (p k : ℕ) (m : FastState) → k ≤ Other → bit (changing_kinds m.fn_state m.record_pending) k ≡ 0 → fast_state_after p k m ≡ m
 kept p k m h z = kept_by p k m.fn_state m.record_pending m.prev_minus_is_unary m.group_depth h z
-
--- ---- `fn_state`
-
-number_in : (a b : Bool) → fn_number (cond a AfterFn (cond b Named Outside)) ≡ cond a 1 (cond b 2 0)
-number_in true b = refl
-number_in false true = refl
-number_in false false = refl
 
 -- ---- the arm
 
@@ -217,7 +204,7 @@ module _ {f : Formatter} {p : ℕ} {m : FastState} {ks : FastKinds} (σ : Before
   pub prev_is_lem : f.prev ≡ some p
   prev_is_lem = sym (ap (λ g. g.prev) σ.with_state)
 
-  fn_is : f.fn_state ≡ fn_number m.fn_state
+  fn_is : f.fn_state ≡ m.fn_state
   fn_is = sym (ap (λ g. g.fn_state) σ.with_state)
 
   pending_is : f.record_pending ≡ m.record_pending
@@ -229,7 +216,7 @@ module _ {f : Formatter} {p : ℕ} {m : FastState} {ks : FastKinds} (σ : Before
   group_is : f.group_depth ≡ m.group_depth
   group_is = sym (ap (λ g. g.group_depth) σ.with_state)
 
-  fn_after_lem : (k : ℕ) → is_fast_kind ks k ≡ true → cond (is_some f.sig_break_depth) f.fn_state (fn_state_after k f) ≡ fn_number (fn_after k m.fn_state)
+  fn_after_lem : (k : ℕ) → is_fast_kind ks k ≡ true → cond (is_some f.sig_break_depth) f.fn_state (fn_state_after k f) ≡ fn_after k m.fn_state
   unfolding is_fast_kind
   fn_after_lem k h =
       split (is_some f.sig_break_depth)
@@ -237,7 +224,7 @@ module _ {f : Formatter} {p : ℕ} {m : FastState} {ks : FastKinds} (σ : Before
       let q = σ.no_fn e in
       let n : eqb k Fn ≡ false = never ks k Fn h q.0 in
       rw (e, fn_is, q.1, n, and-false (eqb k Identifier)))
-      (λ e. rw (e, fn_is, never ks k Newline h refl, number_in (eqb k Fn) (eqb k Identifier && eqb (fn_number m.fn_state) 1)))
+      (λ e. rw (e, fn_is, never ks k Newline h refl))
 
 -- ---- the turn
 

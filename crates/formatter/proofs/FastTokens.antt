@@ -37,7 +37,7 @@ use Rattle.formatter.specs.declared.Formatter as code
 use Rattle.std.specs.declared.option.Option.{Option}
 use Rattle.std.specs.declared.option.Option.TheVariants.{None, Some}
 use Rattle.formatter.specs.declared.SignatureDepth.{SignatureDepth}
-use Rattle.formatter.specs.CodeState.{Locals, CodeState, prev_of, signature_of, formatter_of, fields_of, given}
+use Rattle.formatter.specs.CodeState.{fn_number, Locals, CodeState, prev_of, signature_of, formatter_of, fields_of, given}
 use Rattle.formatter.specs.Does.{Same}
 use Rattle.formatter.specs.Trivia.{trivia_in}
 use Rattle.formatter.specs.Format.{CheckedRows, TokenBoundary, own_row, next_row}
@@ -221,7 +221,7 @@ module _ {rows text l k : List ℕ} {from n before at len fast prev : ℕ} {m₀
 -- From the code's state f at the call, fast tokens are laid out up to the state g: with the loop's sets, and whether a space may stand next.
 pub record FastTokensLoop (rows text : List ℕ) (f g : CodeState) (from fast change after at prev spaced : ℕ) : Type 0 where
   pub so_far : FastTokensSoFar rows text from f.sink.len (last_kind f.form) (fast_state_of f.form) fast f.sink.out.now at g.sink.len prev (fast_state_of g.form) g.sink.out.now
-  pub changing : change ≡ changing_kinds g.form.fn_state g.form.record_pending
+  pub changing : change ≡ changing_kinds (fn_number g.form.fn_state) g.form.record_pending
   pub loose : after ≡ loose_after Other g.form.prev_minus_is_unary
   pub gap : spaced ≡ bit after prev
   pub form : (x : Locals) → formatter_of g.form x ≡ with_fields (fast_state_of g.form) (formatter_of f.form x)
@@ -231,7 +231,7 @@ pub record FastTokensLoop (rows text : List ℕ) (f g : CodeState) (from fast ch
 -- Before the first fast token.
 pub starts :
     {rows text : List ℕ} {f : CodeState} {from fast change after prev spaced : ℕ} → TokenBoundary rows text from → f.sink.len ≤ length f.sink.out.now → prev ≡ last_kind f.form
-    → change ≡ changing_kinds f.form.fn_state f.form.record_pending → after ≡ loose_after Other f.form.prev_minus_is_unary → spaced ≡ bit after prev
+    → change ≡ changing_kinds (fn_number f.form.fn_state) f.form.record_pending → after ≡ loose_after Other f.form.prev_minus_is_unary → spaced ≡ bit after prev
     → FastTokensLoop rows text f f from fast change after from prev spaced
 starts {f = f} {from} head within e c a z =
     let none_yet : ltb from from ≡ false = le-ltb from from (omega arith) in
@@ -287,7 +287,7 @@ module _ {rows text : List ℕ} {f g : CodeState} {from fast change after at pre
       {g' h : CodeState} {room change' after' spaced' space : ℕ} → g' ≡ h → IsFastToken rows fast at room spaced → room ≡ length g.sink.out.now - g.sink.len
       → (r : Row) → r ≡ row_at rows at → space ≡ space_before spaced r.kind → fast ≡ fast_kind_bits (fast_kinds_of f.form)
       → FastTokenWritten prev r.kind (replicate space 32 ++ bytes_of text r) g h
-      → change' ≡ changing_kinds h.form.fn_state h.form.record_pending → after' ≡ loose_after Other h.form.prev_minus_is_unary → spaced' ≡ bit after' r.kind
+      → change' ≡ changing_kinds (fn_number h.form.fn_state) h.form.record_pending → after' ≡ loose_after Other h.form.prev_minus_is_unary → spaced' ≡ bit after' r.kind
       → FastTokensLoop rows text f g' from fast change' after' (at + 16) r.kind spaced'
   goes_on {h = h} e τ q r s z t w c a y =
       rw e (record {

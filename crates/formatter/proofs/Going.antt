@@ -98,7 +98,7 @@ pub record Going (z : Given) (l₀ : List ℕ) (i at : ℕ) (x : Locals) (p : Co
 fresh_state : {f : CodeState} → Fresh f.form f.sink → state_of (locals_of Formatter.new) f ≡ begun
 fresh_state φ = rw (φ.new, φ.empty, φ.none)
 
-pub starts : {f : CodeState} → CheckedRows f.form.source.rows.now f.form.source.text.now → Fresh f.form f.sink → Going (given f.form) f.sink.out.now 0 0 (locals_of Formatter.new) f
+pub starts : {f : CodeState} → CheckedRows f.form.rows.now f.form.text.now → Fresh f.form f.sink → Going (given f.form) f.sink.out.now 0 0 (locals_of Formatter.new) f
 starts {f} ω φ =
     record {
       head = head_first ω;

@@ -15,7 +15,6 @@ use Rattle.definition.specs.Act.{Act, update, ◌⨾◌, run}
 use Rattle.definition.specs.Emit.{line_begun, indented}
 use Rattle.definition.specs.Arms.{at_signature, breaks_list, group_opened, pushed, open_list, close_signature, right_paren_arm}
 use Rattle.definition.specs.PushToken.{overflows}
-use Rattle.rows.specs.KindNumber.{kind_number}
 use Rattle.formatter.specs.declared.Formatter.{Formatter}
 use Rattle.formatter.specs.declared.TokenAt.{TokenAt}
 use Rattle.formatter.specs.CodeState.{Locals, CodeState, state_of, locals_of, fields_of}
@@ -28,7 +27,7 @@ use Rattle.formatter.proofs.Does.{seq, same-run}
 
 -- An act of the token's kind and lexeme, as the code finds them.
 pub its :
-    {token : TokenAt} (f : Formatter) {t : Token} {ts : List Token} → StandsFor token f.source.rows.now f.source.text.now t ts → {k : ℕ} → kind_number token.kind ≡ k
+    {token : TokenAt} (f : Formatter) {t : Token} {ts : List Token} → StandsFor token f.rows.now f.text.now t ts → {k : ℕ} → token.kind ≡ k
     → (a : Token → Act) {x : Locals} {p q : CodeState} → Does (a (bare_token k (lexeme_of token f))) x p q
     → Does (a (bare_token t.kind t.lexeme)) x p q
 its f σ e a d = rw (σ.kind, e, σ.lexeme) d

@@ -13,9 +13,9 @@ use Rattle.shared.specs.Numbers.{most32}
 use Rattle.shared.proofs.Logic.{split}
 use Rattle.rows.specs.Kinds.{LeftBrace, RightBrace}
 use Rattle.rows.specs.Options
-use Rattle.rows.specs.Row.{rows_of}
+use Rattle.rows.specs.Checks.{most_rows, most_row_bytes}
+use Rattle.rows.specs.Row.{row_size, rows_of}
 use Rattle.rows.specs.Token.{Token}
-use Rattle.rows.specs.KindNumber.{kind_number}
 use Rattle.definition.specs.Formatter as definition
 use Rattle.definition.specs.Act.{State, run}
 use Rattle.definition.specs.Emit.{is_at}
@@ -50,7 +50,7 @@ pub record Loop (f : CodeState) (i at : ℕ) (p : CodeState) : Type 0 where
   pub going : Going (given f.form) f.sink.out.now i at locals p
   pub no_skip : locals.skip_next ≡ false
 
-pub begins : {f : CodeState} → CheckedRows f.form.source.rows.now f.form.source.text.now → Fresh f.form f.sink → Loop f 0 0 f
+pub begins : {f : CodeState} → CheckedRows f.form.rows.now f.form.text.now → Fresh f.form f.sink → Loop f 0 0 f
 begins ω φ = record { locals = locals_of definition.new; same = record { given = refl; lent = refl }; going = starts ω φ; no_skip = refl }
 
 -- ---- what the rows are, in the state p
@@ -60,20 +60,20 @@ module _ {f : CodeState} {i at : ℕ} {p : CodeState} (ι : Loop f i at p) where
   pub carried : (P : Given → Type 0) → P (given f.form) → P (given p.form)
   carried P π = subst P (sym ι.same.given) π
 
-  pub rows_same : p.form.source.rows.now ≡ f.form.source.rows.now
+  pub rows_same : p.form.rows.now ≡ f.form.rows.now
   rows_same = ap (λ (z : Given). z.source.rows.now) ι.same.given
 
-  pub next_token_there : CheckedRows f.form.source.rows.now f.form.source.text.now → NoTriviaIf f.form.bare f.form.source.rows.now → at < length p.form.source.rows.now → NextToken p.form.source.rows.now at p.form.bare
+  pub next_token_there : CheckedRows f.form.rows.now f.form.text.now → NoTriviaIf f.form.bare f.form.rows.now → at < length p.form.rows.now → NextToken p.form.rows.now at p.form.bare
   next_token_there ω only h = carried (λ z. NextToken z.source.rows.now at z.bare) (next_token ω ι.going.head (rw rows_same at h) only)
 
 -- ---- one turn
 
-module _ {f : CodeState} {i at : ℕ} {p : CodeState} (width : f.form.options.indent_width ≤ 16) (ω : CheckedRows f.form.source.rows.now f.form.source.text.now) (ε : Ending f.form.source.rows.now f.form.ends) (ι : Loop f i at p) (inside : at < length p.form.source.rows.now) {token : TokenAt} (its : TokenRows p.form.source.rows.now at i token) where
+module _ {f : CodeState} {i at : ℕ} {p : CodeState} (width : f.form.options.indent_width ≤ 16) (ω : CheckedRows f.form.rows.now f.form.text.now) (ε : Ending f.form.rows.now f.form.ends) (ι : Loop f i at p) (inside : at < length p.form.rows.now) {token : TokenAt} (its : TokenRows p.form.rows.now at i token) where
   abbrev rows : List ℕ
-  rows = f.form.source.rows.now
+  rows = f.form.rows.now
 
   abbrev text : List ℕ
-  text = f.form.source.text.now
+  text = f.form.text.now
 
   abbrev o : Options.Options
   o = options_of f.form.options
@@ -99,7 +99,7 @@ module _ {f : CodeState} {i at : ℕ} {p : CodeState} (width : f.form.options.in
   σ : StandsFor token rows text t ts
   σ = stands ω ι.going.head h τ
 
-  there : StandsFor token p.form.source.rows.now p.form.source.text.now t ts
+  there : StandsFor token p.form.rows.now p.form.text.now t ts
   there = carried ι (λ z. StandsFor token z.source.rows.now z.source.text.now t ts) σ
 
   module _ {r : Result (Unit {0}) WalkError} {q : CodeState} (π : TokenPushed token p r q) where
@@ -154,7 +154,7 @@ module _ {f : CodeState} {i at : ℕ} {p : CodeState} (width : f.form.options.in
       took =
           turn_skip o i t ts (state_of x p) ι.going.shallow ι.no_skip calm
           ∙ ap (λ n. eqb n LeftBrace && is_at after.formatter.prev RightBrace) σ.kind
-          ∙ ap (λ (w : State). eqb (kind_number token.kind) LeftBrace && is_at w.formatter.prev RightBrace) (sym (fit ω ι.going h turned fits shallow).state)
+          ∙ ap (λ (w : State). eqb token.kind LeftBrace && is_at w.formatter.prev RightBrace) (sym (fit ω ι.going h turned fits shallow).state)
 
       next_is_lem : token.next ≡ next_row rows (own_row rows at)
       next_is_lem = τ.next ∙ ap (next_row rows) τ.own
@@ -172,10 +172,10 @@ module _ {f : CodeState} {i at : ℕ} {p : CodeState} (width : f.form.options.in
       onward P y = subst P (sym turn-same.given) y
 
       -- The token that was taken along is there.
-      pub next_there_too : NoTriviaIf f.form.bare rows → took_next token.kind q.form.prev ≡ true → NextToken q.form.source.rows.now token.next q.form.bare
+      pub next_there_too : NoTriviaIf f.form.bare rows → took_next token.kind q.form.prev ≡ true → NextToken q.form.rows.now token.next q.form.bare
       next_there_too only e = onward (λ z. NextToken z.source.rows.now token.next z.bare) (next_token ω its_head (next_in e) only)
 
-      pub next-bounds : (token.next ≤ length q.form.source.rows.now) × (token.index + 1 < most32)
+      pub next-bounds : (token.next ≤ length q.form.rows.now) × (token.index + 1 < most32)
       next-bounds = (onward (λ z. token.next ≤ length z.source.rows.now) its_head.within, let b = few in let e = τ.index in omega arith)
 
       place_taken :
@@ -195,7 +195,7 @@ module _ {f : CodeState} {i at : ℕ} {p : CodeState} (width : f.form.options.in
           let z : i + 1 ≡ j = let a = τ.index in omega arith in
           record { locals = locals_of after.formatter; same = turn-same; going = rw (e, ← z) went_next; no_skip = took ∙ c }
 
-      module _ {place : Place} (ν : NextPlace q.form.source.rows.now token (took_next token.kind q.form.prev) place) where
+      module _ {place : Place} (ν : NextPlace q.form.rows.now token (took_next token.kind q.form.prev) place) where
         ν₀ : NextPlace rows token (took_next token.kind q.form.prev) place
         ν₀ = rw (ap (λ (z : Given). z.source.rows.now) turn-same.given) at ν
 
@@ -206,16 +206,24 @@ module _ {f : CodeState} {i at : ℕ} {p : CodeState} (width : f.form.options.in
             (λ c. place_taken (rw c at ν₀.at) (rw c at ν₀.index) c)
             (λ c. place_next (rw c at ν₀.at) (rw c at ν₀.index) c)
 
+        -- It lies further on.
+        pub placed-after : at < place.at
+        placed-after =
+            let d = next_is_lem in
+            split (took_next token.kind q.form.prev)
+            (λ c. let e = rw c at ν₀.at in omega arith)
+            (λ c. let e = rw c at ν₀.at in omega arith)
+
 -- ---- fast tokens and fast braces
 
-module _ {f : CodeState} {i at : ℕ} {p : CodeState} (ω : CheckedRows f.form.source.rows.now f.form.source.text.now) (ι : Loop f i at p) where
+module _ {f : CodeState} {i at : ℕ} {p : CodeState} (ω : CheckedRows f.form.rows.now f.form.text.now) (ι : Loop f i at p) where
   -- A whole number of rows is left.
-  pub rows_left : RowsLeft p.form.source.rows.now at
+  pub rows_left : RowsLeft p.form.rows.now at
   rows_left = carried ι (λ z. RowsLeft z.source.rows.now at) (ι.going.head.within, let a = ω.whole in let b = ι.going.head.whole in omega arith)
 
   -- ---- fast tokens
 
-  pub boundary_there : TokenBoundary p.form.source.rows.now p.form.source.text.now at
+  pub boundary_there : TokenBoundary p.form.rows.now p.form.text.now at
   boundary_there = carried ι (λ z. TokenBoundary z.source.rows.now z.source.text.now at) ι.going.head
 
   pub past_fast_tokens : MayStartFastTokens p.form → {to : ℕ} {g : CodeState} → LaysFastTokens p at to g → Loop f (i + (to - at) / 16) to g
@@ -227,19 +235,31 @@ module _ {f : CodeState} {i at : ℕ} {p : CodeState} (ω : CheckedRows f.form.s
         no_skip = ι.no_skip;
       }
 
+  -- They end within the rows, and their indexes are below the most rows.
+  pub fast_tokens_few :
+      MayStartFastTokens p.form → {to : ℕ} {g : CodeState} → LaysFastTokens p at to g
+      → (at ≤ to) × (to ≤ most_row_bytes) × (i + (to - at) / row_size ≤ most_rows)
+  fast_tokens_few ρ {to} {g} σ =
+      let ι₂ = past_fast_tokens ρ σ in
+      let w = σ.laid.whole in
+      let h = ι₂.going.head.within in
+      let n = few_tokens ω ι₂.going in
+      let c = ω.few in
+      (omega arith, omega arith, omega arith)
+
   -- ---- fast braces
 
-  module _ (only : NoTriviaIf f.form.bare f.form.source.rows.now) (ρ : MayStartFastBraces p.form) where
-    only_here : only_tokens (rows_of f.form.source.rows.now) ≡ true
+  module _ (only : NoTriviaIf f.form.bare f.form.rows.now) (ρ : MayStartFastBraces p.form) where
+    only_here : only_tokens (rows_of f.form.rows.now) ≡ true
     only_here = only (ap (λ (z : Given). z.bare) (sym ι.same.given) ∙ ρ.bare)
 
-    pub fast_braces_place : (at ≤ length p.form.source.rows.now) × (p.sink.len ≤ length p.sink.out.now)
+    pub fast_braces_place : (at ≤ length p.form.rows.now) × (p.sink.len ≤ length p.sink.out.now)
     fast_braces_place = (boundary_there.within, ι.going.room)
 
-    pub fast_braces_rows : only_tokens (rows_of (drop at p.form.source.rows.now)) ≡ true
-    fast_braces_rows = carried ι (λ z. only_tokens (rows_of (drop at z.source.rows.now)) ≡ true) (only_at f.form.source.rows.now at ι.going.head.whole only_here)
+    pub fast_braces_rows : only_tokens (rows_of (drop at p.form.rows.now)) ≡ true
+    fast_braces_rows = carried ι (λ z. only_tokens (rows_of (drop at z.source.rows.now)) ≡ true) (only_at f.form.rows.now at ι.going.head.whole only_here)
 
-    pub fast_braces_depth : p.form.inline_depth.0 + length p.form.source.rows.now < 18446744073709551616
+    pub fast_braces_depth : p.form.inline_depth.0 + length p.form.rows.now < 18446744073709551616
     fast_braces_depth = let e = ap length (rows_same ι) in let a = ι.going.counts.inline in let b = few_tokens ω ι.going in let c = ω.few in omega arith
 
     pub past_fast_braces : {to : ℕ} {g : CodeState} → LaysFastBraces p at to g → Loop f (i + (to - at) / 16) to g

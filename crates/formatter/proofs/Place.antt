@@ -14,7 +14,6 @@ use Rattle.rows.specs.Checks.{at_start}
 use Rattle.rows.specs.Token.{Token, bytes_of, tokens_of}
 use Rattle.rows.proofs.RowList.{rows_cons, part_cons, rows_drop, rows_length, row_drop, row-index}
 use Rattle.rows.proofs.Sound.{in_bounds, known_kinds}
-use Rattle.formatter.proofs.Numbered.{read_as}
 use Rattle.formatter.specs.declared.Ends.{Ends}
 use Rattle.formatter.specs.declared.TokenAt.{TokenAt}
 use Rattle.formatter.specs.Token.{Ahead, InRows, StandsFor}
@@ -178,7 +177,7 @@ module _ {rows text : List ℕ} {at : ℕ} (ω : CheckedRows rows text) (η : To
     pub stands : StandsFor token rows text (token_here rows text at) (tokens_next rows text at)
     stands =
         record {
-          kind = sym (read_as token.kind (rw τ.own at τ.kind) kind_here);
+          kind = sym (rw τ.own at τ.kind);
           lexeme = rw τ.own;
           ahead = rw τ.lead tokens_here;
           after = rw τ.own;
@@ -200,6 +199,7 @@ module _ {rows text : List ℕ} {at : ℕ} (ω : CheckedRows rows text) (η : To
           own = rw (τ.next, τ.own) (omega arith);
           next = rw (τ.next, τ.own) x;
           inside = rw τ.own row_in;
+          kind = rw (τ.kind, τ.own) kind_here;
           index = rw τ.index few;
         }
 

@@ -19,7 +19,6 @@ use Rattle.definition.specs.Emit.{track_fn_state, trailing_trivia, leading_trivi
 use Rattle.definition.specs.PushToken.{arm, overflows, turn, take_inline_close}
 use Rattle.definition.specs.Layout.{checked}
 use Rattle.definition.proofs.Growth.{depth}
-use Rattle.rows.specs.KindNumber.{kind_number}
 use Rattle.formatter.specs.declared.TokenAt.{TokenAt}
 use Rattle.formatter.specs.declared.WalkError.{WalkError}
 use Rattle.formatter.specs.declared.WalkError.TheVariants.{Deep, Full}
@@ -65,8 +64,8 @@ pub record Armed (z : Given) (token : TokenAt) (f g : CodeState) (r close b : Bo
 -- And then the trailing trivia and `fn_state`.
 pub record Calls (z : Given) (token : TokenAt) (f g : CodeState) (r close b : Bool) (g₂ g₃ g₄ : CodeState) : Type 0 where
   pub armed : Armed z token f g r close b g₂
-  pub trailed : Trailed (trivia_in g₂.form.source.rows.now g₂.form.source.text.now (token.own + 16) token.next) b g₂ g₃
-  pub tracked : Done (update (track_fn_state (kind_number token.kind))) g₃ g₄
+  pub trailed : Trailed (trivia_in g₂.form.rows.now g₂.form.text.now (token.own + 16) token.next) b g₂ g₃
+  pub tracked : Done (update (track_fn_state token.kind)) g₃ g₄
 
 -- No locals are set.
 abbrev pub quiet : Locals
@@ -95,10 +94,10 @@ not-ok e = let y : ◌≡◌ {A = ℕ} 0 1 = cc in absurd (omega arith)
 
 module _ {token : TokenAt} {p : CodeState} (θ : HasToken token p.form p.sink) where
   abbrev rows : List ℕ
-  rows = p.form.source.rows.now
+  rows = p.form.rows.now
 
   abbrev text : List ℕ
-  text = p.form.source.text.now
+  text = p.form.text.now
 
   abbrev o : Options.Options
   o = options_of p.form.options
@@ -233,7 +232,7 @@ module _ {token : TokenAt} {p : CodeState} (θ : HasToken token p.form p.sink) w
           abbrev left : Locals
           left = locals_of (run (arm o i t ts) (state_of y g)).formatter
 
-          module _ {g₃ g₄ : CodeState} (trailed : Trailed (trivia_in g₂.form.source.rows.now g₂.form.source.text.now (token.own + 16) token.next) b g₂ g₃) (tracked : Done (update (track_fn_state (kind_number token.kind))) g₃ g₄) where
+          module _ {g₃ g₄ : CodeState} (trailed : Trailed (trivia_in g₂.form.rows.now g₂.form.text.now (token.own + 16) token.next) b g₂ g₃) (tracked : Done (update (track_fn_state token.kind)) g₃ g₄) where
             its_trail : Does (trail_token t.trailing) left g₂ g₃
             its_trail = go (subst (λ z. Trailed (trivia_in z.source.rows.now z.source.text.now (token.own + 16) token.next) b g₂ g₃) second trailed)
               where
@@ -354,7 +353,7 @@ module _ {token : TokenAt} {p : CodeState} (θ : HasToken token p.form p.sink) w
         α₀ = subst (λ z. Armed z token p g r close b g₂) (lead_same δ).given α
 
         -- The trailing trivia's rows.
-        pub pushed_trail_rows : WholeRows g₂.form.source.rows.now g₂.form.source.text.now (token.own + 16) token.next
+        pub pushed_trail_rows : WholeRows g₂.form.rows.now g₂.form.text.now (token.own + 16) token.next
         pushed_trail_rows = subst (λ z. WholeRows z.source.rows.now z.source.text.now (token.own + 16) token.next) (sym (second δ quiet refl refl room α₀)) trail_rows
 
       module _ {r close b : Bool} {g₂ g₃ g₄ : CodeState} (κ : Calls (given g.form) token p g r close b g₂ g₃ g₄) where

@@ -17,7 +17,6 @@ use Rattle.rows.specs.declared.kind.Kind.{Kind}
 use Rattle.rows.specs.KindNumber.{kind_number}
 use Rattle.formatter.specs.declared.SignatureDepth.{SignatureDepth}
 use Rattle.formatter.specs.declared.FnState.{FnState}
-use Rattle.formatter.specs.declared.FnState.TheVariants.{Outside, AfterFn, Named}
 
 -- ---- the fields that are Options
 
@@ -40,9 +39,7 @@ signature_of s = option_of (λ d. d.0) s
 
 -- `fn_state`, as the definition has it.
 abbrev pub fn_number : FnState → ℕ
-fn_number Outside = 0
-fn_number AfterFn = 1
-fn_number Named = 2
+fn_number s = s.0
 
 -- ---- the options
 
@@ -126,4 +123,4 @@ pub record Given : Type 0 where
   pub bare : Bool
 
 abbrev pub given : Formatter → Given
-given f = record { options = f.options; source = f.source; ends = f.ends; bare = f.bare }
+given f = record { options = f.options; source = record { rows = f.rows; text = f.text }; ends = f.ends; bare = f.bare }

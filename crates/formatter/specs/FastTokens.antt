@@ -18,8 +18,6 @@ use Rattle.definition.specs.Arms.{at_record_fields, in_broken_list}
 use Rattle.definition.specs.Layout.{finished, lay_from}
 use Rattle.spaces.specs.Between.{bit}
 use Rattle.formatter.specs.declared.Formatter as code
-use Rattle.formatter.specs.declared.FnState.{FnState}
-use Rattle.formatter.specs.declared.FnState.TheVariants.{Outside, AfterFn, Named}
 use Rattle.rows.specs.declared.kind.Kind.TheVariants.{Eof}
 use Rattle.formatter.specs.CodeState.{Locals, CodeState, fn_number, prev_of, signature_of, fields_of, formatter_of, given}
 use Rattle.formatter.specs.Does.{Same}
@@ -64,14 +62,14 @@ space_before spaced k = cond (ltb k Hash) 0 spaced
 
 -- But for the last kind.
 pub record FastState : Type 0 where
-  pub fn_state : FnState
+  pub fn_state : ℕ
   pub record_pending : Bool
   pub prev_minus_is_unary : Bool
   pub group_depth : ℕ
 
 -- `fn_state` after a token of the kind k, where it was n.
-abbrev pub fn_after : ℕ → FnState → FnState
-fn_after k n = cond (eqb k Fn) AfterFn (cond (eqb k Identifier && eqb (fn_number n) 1) Named Outside)
+abbrev pub fn_after : ℕ → ℕ → ℕ
+fn_after k n = cond (eqb k Fn) 1 (cond (eqb k Identifier && eqb n 1) 2 0)
 
 -- `record_pending` after a token of the kind k, where it was b.
 abbrev pub pending_after : ℕ → Bool → Bool
@@ -86,14 +84,14 @@ abbrev pub group_after : ℕ → ℕ → ℕ
 group_after k n = cond (is_closer k) (n - 1) n
 
 -- The kinds that change one of these fields, as the bits of a number: all, where `fn` or `record` is still looked back to.
-abbrev pub changing_kinds : FnState → Bool → ℕ
-changing_kinds fn pending = cond (pending || not (eqb (fn_number fn) 0)) 0x7_ffff_ffff 0x34_00a0
+abbrev pub changing_kinds : ℕ → Bool → ℕ
+changing_kinds fn pending = cond (pending || not (eqb fn 0)) 0x7_ffff_ffff 0x34_00a0
 
 -- These fields of the code's state f.
 abbrev pub fast_state_of : code.Formatter → FastState
 fast_state_of f =
     record {
-      fn_state = f.fn_state;
+      fn_state = fn_number f.fn_state;
       record_pending = f.record_pending;
       prev_minus_is_unary = f.prev_minus_is_unary;
       group_depth = f.group_depth.0;
@@ -112,7 +110,7 @@ fast_state_after p k m =
 -- The definition's formatter f with the fields of m, and with the last kind k besides.
 abbrev pub with_fields : FastState → Formatter → Formatter
 with_fields m f =
-    set_fn_state (fn_number m.fn_state)
+    set_fn_state m.fn_state
     (set_record_pending m.record_pending
     (set_prev_minus_is_unary m.prev_minus_is_unary (set_group_depth m.group_depth f)))
 
@@ -153,7 +151,7 @@ pub record BeforeFastTokens (f : Formatter) (p : ℕ) (m : FastState) (t : FastK
   pub no_skip : f.skip_next ≡ false
   pub shallow : f.too_deep ≡ none
   pub with_state : with_fast_state p m f ≡ f
-  pub no_fn : is_some f.sig_break_depth ≡ true → (t.fns ≡ false) × (fn_number m.fn_state ≡ 0)
+  pub no_fn : is_some f.sig_break_depth ≡ true → (t.fns ≡ false) × (m.fn_state ≡ 0)
   pub unbroken : t.commas ≡ true → at_record_fields f || in_broken_list f ≡ false
   pub no_brace : t.elses ≡ true → eqb p RightBrace ≡ false
   pub whole : t.closers ≡ true → (f.sig_break_depth ≡ none) × (f.break_stack ≡ [])
@@ -210,7 +208,7 @@ last_kind f = kind_number (unwrap_or f.prev Eof)
 -- From the row at `from`, the code's state p comes to q at the row at `at`.
 pub record LaysFastTokens (p : CodeState) (from at : ℕ) (q : CodeState) : Type 0 where
   pub laid :
-      FastTokensLaidOut p.form.source.rows.now p.form.source.text.now from p.sink.len (last_kind p.form) (fast_state_of p.form)
+      FastTokensLaidOut p.form.rows.now p.form.text.now from p.sink.len (last_kind p.form) (fast_state_of p.form)
       (fast_kinds_of p.form) p.sink.out.now q.sink.out.now
       (record { at = at; prev = last_kind q.form; len = q.sink.len; state = fast_state_of q.form })
   pub changed : ChangedBy (with_fast_state (last_kind q.form) (fast_state_of q.form)) p q

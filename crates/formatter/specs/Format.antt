@@ -1,11 +1,10 @@
 -- The loop over checked rows: which rows are a token's, and what a layout comes to.
 -- Assumes nothing.
-use Rattle.std.specs.Prelude.{Bool, true, false, cond, ◌&&◌, List, [], ◌∷◌, ◌++◌, ◌≡◌, ℕ, zero, suc, ◌+◌, ◌*◌, ◌/◌, ◌%◌, ◌≤◌, ◌<◌, eqb, length, drop, min, Result, Ok, Err}
+use Rattle.std.specs.Prelude.{Bool, true, false, cond, ◌&&◌, List, [], ◌∷◌, ◌++◌, ◌≡◌, ℕ, zero, suc, ◌+◌, ◌*◌, ◌/◌, ◌%◌, ◌≤◌, ◌<◌, eqb, length, drop, Result, Ok, Err}
 use Rattle.shared.specs.Numbers.{most32}
 use Rattle.std.proofs.Math.Option.{none}
 use Rattle.shared.specs.Report.{deep}
-use Rattle.rows.specs.Kinds.{Leading, TokenRow, Trailing, Other}
-use Rattle.rows.specs.KindNumber.{kind_number}
+use Rattle.rows.specs.Kinds.{Leading, TokenRow, Trailing}
 use Rattle.rows.specs.Options
 use Rattle.rows.specs.Row.{Row, row_size, row_at, rows_of}
 use Rattle.rows.specs.Checks.{Before, bad_from, GoodRows, most_row_bytes}
@@ -81,7 +80,7 @@ pub record NextToken (rows : List ℕ) (lead : ℕ) (bare : Bool) : Type 0 where
 
 -- The code's token is the one whose leading rows start at the index `first`, and it has this number among the tokens.
 pub record TokenRows (rows : List ℕ) (first number : ℕ) (token : TokenAt) : Type 0 where
-  pub kind : kind_number token.kind ≡ min (row_at rows token.own).kind Other
+  pub kind : token.kind ≡ (row_at rows token.own).kind
   pub index : token.index ≡ number
   pub lead : token.lead ≡ first
   pub own : token.own ≡ own_row rows first
@@ -101,12 +100,12 @@ pub record Ending (rows : List ℕ) (ends : Ends) : Type 0 where
 -- What `push_token` asks: the rows are checked, the token is the one whose rows begin at its index `lead`, what all rows tell is
 -- true, and an arm may begin.
 pub record HasToken (token : TokenAt) (f : Formatter) (s : Sink) : Type 0 where
-  pub checked : CheckedRows f.source.rows.now f.source.text.now
-  pub boundary : TokenBoundary f.source.rows.now f.source.text.now token.lead
-  pub inside : token.lead < length f.source.rows.now
-  pub its_rows : TokenRows f.source.rows.now token.lead token.index token
+  pub checked : CheckedRows f.rows.now f.text.now
+  pub boundary : TokenBoundary f.rows.now f.text.now token.lead
+  pub inside : token.lead < length f.rows.now
+  pub its_rows : TokenRows f.rows.now token.lead token.index token
   pub index : token.index < most32
-  pub ends : Ending f.source.rows.now f.ends
+  pub ends : Ending f.rows.now f.ends
   pub ready : Ready f s
 
 -- A refusal of the walk, as the code tells it.

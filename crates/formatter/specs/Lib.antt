@@ -1,5 +1,6 @@
 pub mod CodeState
 pub mod Stack
+pub mod StackArray
 pub mod Does
 pub mod Token
 pub mod Parts

@@ -2,8 +2,7 @@
 -- Assumes nothing.
 use Rattle.std.specs.Prelude.{true, List, [], ◌∷◌, ◌≡◌, ℕ, ◌+◌, ◌≤◌, ◌<◌, length, drop, Option, None, Some}
 use Rattle.shared.specs.Numbers.{most32}
-use Rattle.rows.specs.Kinds.{Comma, RightBrace}
-use Rattle.rows.specs.KindNumber.{kind_number}
+use Rattle.rows.specs.Kinds.{Comma, RightBrace, Other}
 use Rattle.rows.specs.Options.{most_indent_width}
 use Rattle.rows.specs.Row.{row_size, row_at, rows_of}
 use Rattle.rows.specs.Bounds.{Inside, InBounds}
@@ -58,11 +57,12 @@ pub record InRows (token : TokenAt) (rows text : List ℕ) : Type 0 where
   pub own : token.own + row_size ≤ token.next
   pub next : token.next ≤ length rows
   pub inside : Inside text (row_at rows token.own)
+  pub kind : token.kind ≤ Other
   pub index : token.index < most32
 
 -- The same of the formatter's rows and text.
 abbrev pub HasRows : TokenAt → Formatter → Type 0
-HasRows token f = InRows token f.source.rows.now f.source.text.now
+HasRows token f = InRows token f.rows.now f.text.now
 
 -- What `ends` tells is true of the rows from the index `lead` on: which kinds they lack, and how wide their tokens are at most.
 pub record Ahead (ends : Ends) (lead : ℕ) (rows : List ℕ) : Type 0 where
@@ -72,11 +72,11 @@ pub record Ahead (ends : Ends) (lead : ℕ) (rows : List ℕ) : Type 0 where
 
 -- The same of what the formatter was told, from the token on.
 abbrev pub HasEnds : TokenAt → Formatter → Type 0
-HasEnds token f = (token.lead ≤ length f.source.rows.now) × Ahead f.ends token.lead f.source.rows.now
+HasEnds token f = (token.lead ≤ length f.rows.now) × Ahead f.ends token.lead f.rows.now
 
 -- The bytes of a token's lexeme.
 abbrev pub lexeme_of : TokenAt → Formatter → List ℕ
-lexeme_of token f = bytes_of f.source.text.now (row_at f.source.rows.now token.own)
+lexeme_of token f = bytes_of f.text.now (row_at f.rows.now token.own)
 
 -- The definition's token without trivia that has this kind and lexeme.
 abbrev pub bare_token : ℕ → List ℕ → Token
@@ -84,12 +84,16 @@ bare_token kind lexeme = record { kind = kind; lexeme = lexeme; leading = []; tr
 
 -- The code's token stands for the definition's token t, and the tokens ts come after it.
 pub record StandsFor (token : TokenAt) (rows text : List ℕ) (t : Token) (ts : List Token) : Type 0 where
-  pub kind : t.kind ≡ kind_number token.kind
+  pub kind : t.kind ≡ token.kind
   pub lexeme : t.lexeme ≡ bytes_of text (row_at rows token.own)
   pub ahead : tokens_of (drop token.lead rows) text ≡ t ∷ ts
   pub after : tokens_of (drop (token.own + row_size) rows) text ≡ ts
   pub bounds : InBounds text (rows_of (drop token.lead rows))
 
 -- P holds of the definition's token that the code's token stands for, and of the tokens after it.
+abbrev pub AtTokenOf : TokenAt → List ℕ → List ℕ → (Token → List Token → Type 0) → Type 0
+AtTokenOf token rows text P = (t : Token) (ts : List Token) → StandsFor token rows text t ts → P t ts
+
+-- The same of the formatter's rows and text.
 abbrev pub AtToken : TokenAt → Formatter → (Token → List Token → Type 0) → Type 0
-AtToken token f P = (t : Token) (ts : List Token) → StandsFor token f.source.rows.now f.source.text.now t ts → P t ts
+AtToken token f P = AtTokenOf token f.rows.now f.text.now P

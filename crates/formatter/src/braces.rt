@@ -1,5 +1,5 @@
 // The arms of `}` and `{`.
-ghost use Rattle.std.specs.Prelude.{cond, not, ◌&&◌, ◌||◌, ◌∷◌, ◌≡◌, ◌+◌, ◌-◌, ◌≤◌, ◌<◌, length};
+ghost use Rattle.std.specs.Prelude.{cond, not, ◌&&◌, ◌||◌, List, ◌∷◌, ◌≡◌, ℕ, ◌+◌, ◌-◌, ◌≤◌, ◌<◌, length};
 ghost use Rattle.shared.specs.Numbers.{most32};
 ghost use Rattle.rows.specs.Kinds.{Comma, LeftBrace, RightBrace};
 ghost use Rattle.rows.specs.KindNumber.{kind_number};
@@ -14,14 +14,14 @@ ghost use Rattle.sink.specs.Sink.{past_gap};
 ghost use Rattle.sink.specs.declared.write.Sink.{Sink};
 ghost use Rattle.formatter.specs.CodeState.{fields_of, options_of};
 ghost use Rattle.formatter.specs.Does.{Puts};
-ghost use Rattle.formatter.specs.Token.{IndentBounds, CanWrite, Ready, HasRows, HasEnds, AtToken};
+ghost use Rattle.formatter.specs.Token.{IndentBounds, CanWrite, Ready, HasRows, HasEnds, AtToken, AtTokenOf};
 ghost use Rattle.formatter.specs.Token.{bare_token, lexeme_of};
 ghost use Rattle.formatter.specs.Parts.{inline_close_size, opens_block, record_entered};
 ghost use Rattle.formatter.specs.Parts.{open_one_line, braced};
 
 use crate::{BraceStyle, Formatter, RecordDepth, TokenAt};
 use lookahead::{block_is_single_line, next_is};
-use row_writers::write_lexeme;
+use row_writers::{Source, write_lexeme};
 use rows::{Kind, ROW_BYTES};
 use sink::write::{Sink, Tail, count_comma};
 
@@ -63,7 +63,7 @@ impl<'a> Formatter<'a> {
         if self.at_line_start {
             return self.indent_size();
         }
-        if self.prev_is(Kind::LeftBrace) {
+        if self.prev_is(Kind::LeftBrace as u32) {
             return 0;
         }
         1
@@ -90,7 +90,7 @@ impl<'a> Formatter<'a> {
         ensures { result
             ≡ not (prev_is Comma (fields_of self.now) || prev_is LeftBrace (fields_of self.now)) }
     {
-        !self.prev_is(Kind::Comma) && !self.prev_is(Kind::LeftBrace)
+        !self.prev_is(Kind::Comma as u32) && !self.prev_is(Kind::LeftBrace as u32)
     }
 
     // Writes the `}` of a block over several lines.
@@ -120,7 +120,7 @@ impl<'a> Formatter<'a> {
     pub fn left_brace_arm(&mut self, sink: &mut Sink, token: TokenAt)
         requires ready { Ready self.old sink.old }
         requires in_rows { HasRows token self.old × HasEnds token self.old }
-        requires kind_value { kind_number token.kind ≡ LeftBrace }
+        requires kind_value { token.kind ≡ LeftBrace }
         ensures { AtToken token self.old
             (λ t ts. Puts (left_brace_arm (options_of self.old.options) token.index t ts)
             self.old sink.old self.new sink.new) }
@@ -137,15 +137,11 @@ impl<'a> Formatter<'a> {
 
     // Whether the token is the `{` of `record E {` with a `}` right after it.
     pub fn empties_record(&self, token: TokenAt) -> bool
-        requires { token.own + row_size ≤ length self.now.source.rows.now }
-        ensures { AtToken token self.now
+        requires { token.own + row_size ≤ length self.now.rows.now }
+        ensures { (text : List ℕ) → AtTokenOf token self.now.rows.now text
             (λ t ts. result ≡ self.now.record_pending && next_is RightBrace ts) }
     {
-        self.record_pending
-            && next_is(
-                &self.source.rows[token.own + ROW_BYTES..],
-                Kind::RightBrace as u32,
-            )
+        self.record_pending && next_is(&self.rows[token.own + ROW_BYTES..], Kind::RightBrace as u32)
     }
 
     // Writes the braces of `record E {}`, which stay on one line: the `{` takes the `}` along.
@@ -156,7 +152,16 @@ impl<'a> Formatter<'a> {
             (bare_token LeftBrace (lexeme_of token self.old))) self.old sink.old self.new sink.new }
     {
         let gap = self.gap_before(Kind::LeftBrace);
-        write_lexeme(sink, gap, self.source, token.own, Tail::Braces);
+        write_lexeme(
+            sink,
+            gap,
+            Source {
+                rows: self.rows,
+                text: self.text,
+            },
+            token.own,
+            Tail::Braces,
+        );
         self.at_line_start = false;
         self.prev = Some(Kind::RightBrace);
         self.record_pending = false;
@@ -177,7 +182,7 @@ impl<'a> Formatter<'a> {
         if self.ends.braces <= lead {
             return true;
         }
-        !block_is_single_line(&self.source.rows[lead..])
+        !block_is_single_line(&self.rows[lead..])
     }
 
     // The record fields after such a `{`: after `record` and its name it opens a record, in a record it goes

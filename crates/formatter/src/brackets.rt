@@ -1,5 +1,5 @@
 // The arms of round and square brackets and of commas.
-ghost use Rattle.std.specs.Prelude.{false, ◌||◌, [], ◌∷◌, ◌≡◌, ◌+◌, ◌-◌, ◌<◌, length};
+ghost use Rattle.std.specs.Prelude.{false, ◌||◌, List, [], ◌∷◌, ◌≡◌, ℕ, ◌+◌, ◌-◌, ◌<◌, length};
 ghost use Rattle.std.proofs.Math.Option.{map};
 ghost use Rattle.shared.specs.Numbers.{most32};
 ghost use Rattle.rows.specs.Kinds.{LeftParen, RightParen, LeftBracket, RightBracket, Comma};
@@ -13,7 +13,7 @@ ghost use Rattle.definition.specs.PushToken.{overflows};
 ghost use Rattle.formatter.specs.CodeState.{fields_of, options_of, signature_of};
 ghost use Rattle.formatter.specs.Does.{Puts};
 ghost use Rattle.formatter.specs.Stack.{stack_size};
-ghost use Rattle.formatter.specs.Token.{CanWrite, Ready, HasRows, HasEnds, AtToken};
+ghost use Rattle.formatter.specs.Token.{CanWrite, Ready, HasRows, HasEnds, AtToken, AtTokenOf};
 ghost use Rattle.formatter.specs.Token.{bare_token, lexeme_of, depth_of};
 ghost use Rattle.formatter.specs.Parts.{closes_signature, close_list};
 
@@ -27,7 +27,7 @@ impl<'a> Formatter<'a> {
     pub fn left_paren_arm(&mut self, sink: &mut Sink, token: TokenAt)
         requires ready { Ready self.old sink.old }
         requires in_rows { HasRows token self.old × HasEnds token self.old }
-        requires kind_value { kind_number token.kind ≡ LeftParen }
+        requires kind_value { token.kind ≡ LeftParen }
         ensures { AtToken token self.old
             (λ t ts. overflows (options_of self.old.options) t ts (fields_of self.old) ≡ false
             → Puts (left_paren_arm (options_of self.old.options) token.index t ts)
@@ -47,13 +47,14 @@ impl<'a> Formatter<'a> {
     pub fn at_signature(&self) -> bool
         ensures { result ≡ at_signature (fields_of self.now) }
     {
-        !self.in_one_line_block() && self.fn_state != FnState::Outside
+        !self.in_one_line_block()
+            && (self.fn_state == FnState::NAMED || self.fn_state == FnState::AFTER_FN)
     }
 
     // Whether the list that the token opens breaks: it is wide, and outside one-line blocks and records.
     pub fn breaks_list(&self, token: TokenAt) -> bool
         requires { HasEnds token self.now }
-        ensures { AtToken token self.now
+        ensures { (text : List ℕ) → AtTokenOf token self.now.rows.now text
             (λ t ts. result ≡ breaks_list (options_of self.now.options) t ts (fields_of self.now)) }
     {
         !self.in_one_line_block() && !self.in_record && self.list_is_wide(token)
@@ -61,9 +62,9 @@ impl<'a> Formatter<'a> {
 
     // Whether the list that the token opens is wider than `list_width`: not where no comma is left, nor where
     // all tokens together are not wider.
-    fn list_is_wide(&self, token: TokenAt) -> bool
+    pub fn list_is_wide(&self, token: TokenAt) -> bool
         requires { HasEnds token self.now }
-        ensures { AtToken token self.now
+        ensures { (text : List ℕ) → AtTokenOf token self.now.rows.now text
             (λ t ts. result ≡ should_break_list self.now.options.list_width (t ∷ ts)) }
     {
         let ends = self.ends;
@@ -74,20 +75,20 @@ impl<'a> Formatter<'a> {
         if 0 < ends.width && ends.width <= list_width as usize {
             return false;
         }
-        should_break_list(&self.source.rows[token.lead..], list_width)
+        should_break_list(&self.rows[token.lead..], list_width)
     }
 
     // Opens a signature, broken or on its line.
     fn open_signature(&mut self, sink: &mut Sink, token: TokenAt)
         requires ready { Ready self.old sink.old }
         requires in_rows { HasRows token self.old }
-        requires kind_value { kind_number token.kind ≡ LeftParen }
+        requires kind_value { token.kind ≡ LeftParen }
         ensures { AtToken token self.old
             (λ t ts. Puts (open_signature (options_of self.old.options) token.index t ts)
             self.old sink.old self.new sink.new) }
     {
-        self.fn_state = FnState::Outside;
-        if should_break_sig(&self.source.rows[token.lead..], self.options.fn_sig_width) {
+        self.fn_state = FnState::OUTSIDE;
+        if should_break_sig(&self.rows[token.lead..], self.options.fn_sig_width) {
             self.break_signature(sink, token.index);
         } else {
             self.open_group(sink, token, Kind::LeftParen);
@@ -114,7 +115,7 @@ impl<'a> Formatter<'a> {
     // Opens a broken list, which has one item a line. `kind` is the token's, a constant in each call.
     fn open_list(&mut self, sink: &mut Sink, token: TokenAt, kind: Kind)
         requires ready { Ready self.old sink.old }
-        requires in_rows { HasRows token self.old × (kind ≡ token.kind) }
+        requires in_rows { HasRows token self.old × (kind_number kind ≡ token.kind) }
         ensures { length self.old.break_stack < stack_size
             → Puts (open_list (options_of self.old.options) token.index
             (bare_token (kind_number kind) (lexeme_of token self.old))) self.old sink.old self.new sink.new }
@@ -130,7 +131,7 @@ impl<'a> Formatter<'a> {
     // Opens a group that stays on its line. `kind` is the token's, a constant in each call.
     fn open_group(&mut self, sink: &mut Sink, token: TokenAt, kind: Kind)
         requires can_write { CanWrite self.old sink.old × (self.old.group_depth.0 < most32) }
-        requires in_rows { HasRows token self.old × (kind ≡ token.kind) }
+        requires in_rows { HasRows token self.old × (kind_number kind ≡ token.kind) }
         ensures { Puts (open_group (options_of self.old.options)
             (bare_token (kind_number kind) (lexeme_of token self.old))) self.old sink.old self.new sink.new }
     {
@@ -142,7 +143,7 @@ impl<'a> Formatter<'a> {
     pub fn left_bracket_arm(&mut self, sink: &mut Sink, token: TokenAt)
         requires ready { Ready self.old sink.old }
         requires in_rows { HasRows token self.old × HasEnds token self.old }
-        requires kind_value { kind_number token.kind ≡ LeftBracket }
+        requires kind_value { token.kind ≡ LeftBracket }
         ensures { AtToken token self.old
             (λ t ts. overflows (options_of self.old.options) t ts (fields_of self.old) ≡ false
             → Puts (left_bracket_arm (options_of self.old.options) token.index t ts)
@@ -158,7 +159,7 @@ impl<'a> Formatter<'a> {
     // `)` closes a broken signature, a broken list or a group that stays on its line.
     pub fn right_paren_arm(&mut self, sink: &mut Sink, token: TokenAt)
         requires ready { Ready self.old sink.old }
-        requires in_rows { HasRows token self.old × (kind_number token.kind ≡ RightParen) }
+        requires in_rows { HasRows token self.old × (token.kind ≡ RightParen) }
         ensures { AtToken token self.old
             (λ t ts. Puts (right_paren_arm (options_of self.old.options) t)
             self.old sink.old self.new sink.new) }
@@ -222,7 +223,7 @@ impl<'a> Formatter<'a> {
     // Writes the closer of a group that stays on its line. `kind` is the token's, a constant in each call.
     fn close_group(&mut self, sink: &mut Sink, token: TokenAt, kind: Kind)
         requires can_write { CanWrite self.old sink.old }
-        requires in_rows { HasRows token self.old × (kind ≡ token.kind) }
+        requires in_rows { HasRows token self.old × (kind_number kind ≡ token.kind) }
         ensures { Puts (close_group (options_of self.old.options)
             (bare_token (kind_number kind) (lexeme_of token self.old))) self.old sink.old self.new sink.new }
     {
@@ -233,13 +234,13 @@ impl<'a> Formatter<'a> {
     // `]` closes a broken list or a group that stays on its line.
     pub fn right_bracket_arm(&mut self, sink: &mut Sink, token: TokenAt)
         requires ready { Ready self.old sink.old }
-        requires in_rows { HasRows token self.old × (kind_number token.kind ≡ RightBracket) }
+        requires in_rows { HasRows token self.old × (token.kind ≡ RightBracket) }
         ensures { AtToken token self.old
             (λ t ts. Puts (right_bracket_arm (options_of self.old.options) t)
             self.old sink.old self.new sink.new) }
     {
         if self.in_broken_list() {
-            let wanted = !self.prev_is(Kind::Comma);
+            let wanted = !self.prev_is(Kind::Comma as u32);
             self.close_list(sink, wanted, b']', Kind::RightBracket);
         } else {
             self.close_group(sink, token, Kind::RightBracket);
@@ -249,7 +250,7 @@ impl<'a> Formatter<'a> {
     // `,` ends its line or is a lexeme like others.
     pub fn comma_arm(&mut self, sink: &mut Sink, token: TokenAt)
         requires ready { Ready self.old sink.old }
-        requires in_rows { HasRows token self.old × (kind_number token.kind ≡ Comma) }
+        requires in_rows { HasRows token self.old × (token.kind ≡ Comma) }
         ensures { AtToken token self.old
             (λ t ts. Puts (comma_arm (options_of self.old.options) token.index t)
             self.old sink.old self.new sink.new) }

@@ -14,16 +14,16 @@ impl<'a> Formatter<'a> {
     // Whether fast braces may start at the row at `at`: in a one-line block and in a line, outside records,
     // where no `record` or `fn` is looked back to, and there is no trivia.
     pub fn may_start_fast_braces(&self, at: usize) -> bool
-        requires { RowsLeft self.now.source.rows.now at }
+        requires { RowsLeft self.now.rows.now at }
         ensures { result ≡ true → MayStartFastBraces self.now }
     {
         if !self.in_one_line_block() {
             return false;
         }
-        if self.source.rows.len() <= at {
+        if self.rows.len() <= at {
             return false;
         }
-        if (Kind::RightBrace as u32) < row_at(self.source.rows, at).kind {
+        if (Kind::RightBrace as u32) < row_at(self.rows, at).kind {
             return false;
         }
         if !self.bare {
@@ -38,23 +38,23 @@ impl<'a> Formatter<'a> {
         if self.in_record {
             return false;
         }
-        self.fn_state == FnState::Outside
+        self.fn_state == FnState::OUTSIDE
     }
 
     // Lays out the braces from the row at `from` on, while they stand in a one-line block and two bytes are
     // free, and answers the index of the row after them.
     pub fn push_fast_braces(&mut self, sink: &mut Sink, from: usize) -> usize
-        requires at_in_bounds { (from ≤ length self.old.source.rows.now)
+        requires at_in_bounds { (from ≤ length self.old.rows.now)
             × (sink.old.len ≤ length sink.old.out.now) }
-        requires rows_value { only_tokens (rows_of (drop from self.old.source.rows.now)) ≡ true }
-        requires rows_bound { self.old.inline_depth.0 + length self.old.source.rows.now < past64 }
+        requires rows_value { only_tokens (rows_of (drop from self.old.rows.now)) ≡ true }
+        requires rows_bound { self.old.inline_depth.0 + length self.old.rows.now < past64 }
         ensures { LaysFastBraces (code_state self.old sink.old) from result (code_state self.new sink.new) }
     {
         let mut at = from;
         let mut prev = self.prev.unwrap_or(Kind::Eof);
         let mut depth = self.inline_depth.0;
         let mut closed = self.just_closed_inline;
-        for row in Rows::of(&self.source.rows[from..]) {
+        for row in Rows::of(&self.rows[from..]) {
             if !takes_brace(depth, sink.room()) {
                 break;
             }

@@ -6,7 +6,7 @@ ghost use Rattle.rows.specs.Kinds.{Other};
 ghost use Rattle.spaces.specs.Between.{bit};
 ghost use Rattle.rows.specs.Row.{row_size};
 ghost use Rattle.definition.specs.Emit.{is_some};
-ghost use Rattle.formatter.specs.CodeState.{code_state, signature_of};
+ghost use Rattle.formatter.specs.CodeState.{code_state, fn_number, signature_of};
 ghost use Rattle.formatter.specs.Format.{CheckedRows, TokenBoundary, RowsLeft, NoTriviaIf};
 ghost use Rattle.formatter.specs.FastTokens.{MayStartFastTokens, BareRow, RowAhead, IsFastToken};
 ghost use Rattle.formatter.specs.FastTokens.{LaysFastTokens, TracksFastToken};
@@ -17,7 +17,7 @@ use crate::lexeme::{named_after, record_pending_after};
 use crate::{FnState, Formatter, GroupDepth};
 use rows::{Kind, KindSet, ROW_BYTES, What, row_at};
 use sink::write::Sink;
-use spaces::is_value;
+use spaces::is_value_kind;
 use spaces::loose::loose_after;
 
 // These kinds are fast in every state: Colon to Minus, Record, Identifier to Other.
@@ -32,7 +32,7 @@ const FN: KindSet = KindSet(1 << Kind::Fn as u64);
 
 const CLOSERS: KindSet = KindSet(1 << Kind::RightParen as u64 | 1 << Kind::RightBracket as u64);
 
-// These change a field that fast tokens change where `fn_state` is `Outside` and no record is pending:
+// These change a field that fast tokens change where `fn_state` is `OUTSIDE` and no record is pending:
 // RightParen, RightBracket, Minus, Fn, Record.
 const CHANGING: KindSet = KindSet(
     CLOSERS.0 | FN.0 | 1 << Kind::Minus as u64 | 1 << Kind::Record as u64,
@@ -42,13 +42,13 @@ impl<'a> Formatter<'a> {
     // Whether fast tokens may start at the row at `at`: in a line, and not right after the `}` of a one-line
     // block. Braces, openers, Newline, Eof and trivia never are fast.
     pub fn may_start_fast_tokens(&self, at: usize) -> bool
-        requires { RowsLeft self.now.source.rows.now at }
+        requires { RowsLeft self.now.rows.now at }
         ensures { result ≡ true → MayStartFastTokens self.now }
     {
-        if self.source.rows.len() <= at {
+        if self.rows.len() <= at {
             return false;
         }
-        let kind = row_at(self.source.rows, at).kind;
+        let kind = row_at(self.rows, at).kind;
         if kind <= Kind::LeftParen as u32 || kind == Kind::LeftBracket as u32 {
             return false;
         }
@@ -59,7 +59,7 @@ impl<'a> Formatter<'a> {
             return false;
         }
         if self.in_broken_signature() {
-            return self.fn_state == FnState::Outside;
+            return self.fn_state == FnState::OUTSIDE;
         }
         true
     }
@@ -68,17 +68,17 @@ impl<'a> Formatter<'a> {
     // after them. What each turn reads is in locals: in fields it takes longer.
     pub fn push_fast_tokens(&mut self, sink: &mut Sink, from: usize) -> usize
         requires len_in_bounds { sink.old.len ≤ length sink.old.out.now }
-        requires checked { CheckedRows self.old.source.rows.now self.old.source.text.now }
-        requires token_boundary { TokenBoundary self.old.source.rows.now self.old.source.text.now from }
-        requires no_trivia_if { NoTriviaIf self.old.bare self.old.source.rows.now }
+        requires checked { CheckedRows self.old.rows.now self.old.text.now }
+        requires token_boundary { TokenBoundary self.old.rows.now self.old.text.now from }
+        requires no_trivia_if { NoTriviaIf self.old.bare self.old.rows.now }
         ensures { LaysFastTokens (code_state self.old sink.old) from result (code_state self.new sink.new) }
     {
         let bare = self.bare;
-        let rows = self.source.rows;
-        let text = self.source.text;
+        let rows = self.rows;
+        let text = self.text;
         let fast = self.fast_kinds();
         let mut changing = changing_kinds(self.fn_state, self.record_pending);
-        let mut loose = loose_after(Kind::Other, self.prev_minus_is_unary);
+        let mut loose = loose_after(Kind::Other as u32, self.prev_minus_is_unary);
         let mut at = from;
         let mut prev = self.prev.unwrap_or(Kind::Eof) as u32;
         let mut spaced = bit(loose, prev);
@@ -88,9 +88,9 @@ impl<'a> Formatter<'a> {
             let space = space_before(spaced, row.kind);
             sink.put_token(space, text, row.start as usize, row.end as usize);
             if bit(changing, row.kind) == 1 {
-                self.track_fast_token(Kind::of(prev), row.token_kind());
+                self.track_fast_token(prev, row.kind);
                 changing = changing_kinds(self.fn_state, self.record_pending);
-                loose = loose_after(Kind::Other, self.prev_minus_is_unary);
+                loose = loose_after(Kind::Other as u32, self.prev_minus_is_unary);
             }
             prev = row.kind;
             spaced = bit(loose, prev);
@@ -101,8 +101,8 @@ impl<'a> Formatter<'a> {
     }
 
     // Tracks a fast token of this kind, after one of the kind `prev`.
-    fn track_fast_token(&mut self, prev: Kind, kind: Kind)
-        ensures { TracksFastToken (kind_number prev) (kind_number kind) self.old self.new }
+    fn track_fast_token(&mut self, prev: u32, kind: u32)
+        ensures { TracksFastToken prev kind self.old self.new }
     {
         self.fn_state = fn_state_after(self.fn_state, kind);
         self.record_pending = pending_after(self.record_pending, kind);
@@ -116,7 +116,7 @@ impl<'a> Formatter<'a> {
         ensures { result.0 ≡ fast_kind_bits (fast_kinds_of self.now) }
     {
         let commas = kinds_if(!self.breaks_comma(), COMMA);
-        let elses = kinds_if(!self.prev_is(Kind::RightBrace), ELSE);
+        let elses = kinds_if(!self.prev_is(Kind::RightBrace as u32), ELSE);
         let fns = kinds_if(!self.in_broken_signature(), FN);
         let closers = kinds_if(self.nothing_is_broken(), CLOSERS);
         KindSet(FAST.0 + commas.0 + elses.0 + fns.0 + closers.0)
@@ -183,53 +183,55 @@ fn space_before(spaced: usize, kind: u32) -> usize
 
 // The kinds that change a field, as bits: all, where `fn` or `record` is still looked back to.
 fn changing_kinds(fn_state: FnState, record_pending: bool) -> KindSet
-    ensures { result.0 ≡ changing_kinds fn_state record_pending }
+    ensures { result.0 ≡ changing_kinds (fn_number fn_state) record_pending }
 {
-    if record_pending || fn_state != FnState::Outside {
+    if record_pending || fn_state != FnState::OUTSIDE {
         return KindSet::ALL;
     }
     CHANGING
 }
 
 // `fn_state` after a fast token of this kind.
-fn fn_state_after(state: FnState, kind: Kind) -> FnState
-    ensures { result ≡ fn_after (kind_number kind) state }
+fn fn_state_after(state: FnState, kind: u32) -> FnState
+    ensures { fn_number result ≡ fn_after kind (fn_number state) }
 {
-    match kind {
-        Kind::Fn => FnState::AfterFn,
-        Kind::Identifier => named_after(state),
-        _ => FnState::Outside,
+    if kind == Kind::Fn as u32 {
+        return FnState::AFTER_FN;
     }
+    if kind == Kind::Identifier as u32 {
+        return named_after(state);
+    }
+    FnState::OUTSIDE
 }
 
 // `record_pending` after a fast token of this kind: only the last arm of `push_token` sets it.
-fn pending_after(pending: bool, kind: Kind) -> bool
-    ensures { result ≡ pending_after (kind_number kind) pending }
+fn pending_after(pending: bool, kind: u32) -> bool
+    ensures { result ≡ pending_after kind pending }
 {
-    if kind as u32 <= Kind::Comma as u32 || kind == Kind::Else {
+    if kind <= Kind::Comma as u32 || kind == Kind::Else as u32 {
         return pending;
     }
     record_pending_after(pending, kind)
 }
 
 // `prev_minus_is_unary` after a fast token of this kind, where the one before has the kind `prev`.
-fn unary_after(unary: bool, prev: Kind, kind: Kind) -> bool
-    ensures { result ≡ unary_after (kind_number prev) (kind_number kind) unary }
+fn unary_after(unary: bool, prev: u32, kind: u32) -> bool
+    ensures { result ≡ unary_after prev kind unary }
 {
-    if kind == Kind::Minus {
-        return !is_value(prev);
+    if kind == Kind::Minus as u32 {
+        return !is_value_kind(prev);
     }
     unary
 }
 
 // `group_depth` after a fast token of this kind.
-fn group_depth_after(depth: usize, kind: Kind) -> usize
-    ensures { result ≡ group_after (kind_number kind) depth }
+fn group_depth_after(depth: usize, kind: u32) -> usize
+    ensures { result ≡ group_after kind depth }
 {
-    match kind {
-        Kind::RightParen | Kind::RightBracket => depth.saturating_sub(1),
-        _ => depth,
+    if kind == Kind::RightParen as u32 || kind == Kind::RightBracket as u32 {
+        return depth.saturating_sub(1);
     }
+    depth
 }
 
 // The set, or no kind.

@@ -17,22 +17,43 @@ use crate::{Finished, Formatter, TokenAt, WalkError};
 use rows::{Kind, ROW_BYTES};
 use sink::write::Sink;
 
+// The kinds that have an arm of their own, as rows have them.
+const EOF: u32 = Kind::Eof as u32;
+
+const NEWLINE: u32 = Kind::Newline as u32;
+
+const RIGHT_BRACE: u32 = Kind::RightBrace as u32;
+
+const LEFT_BRACE: u32 = Kind::LeftBrace as u32;
+
+const LEFT_PAREN: u32 = Kind::LeftParen as u32;
+
+const LEFT_BRACKET: u32 = Kind::LeftBracket as u32;
+
+const RIGHT_PAREN: u32 = Kind::RightParen as u32;
+
+const RIGHT_BRACKET: u32 = Kind::RightBracket as u32;
+
+const COMMA: u32 = Kind::Comma as u32;
+
+const ELSE: u32 = Kind::Else as u32;
+
 impl<'a> Formatter<'a> {
     // Lays out all tokens of checked rows into an empty sink, and tells how that ends.
     pub fn format(&mut self, sink: &mut Sink) -> Result<Finished, WalkError>
         requires fresh { Fresh self.old sink.old × (self.old.options.indent_width ≤ most_indent_width) }
-        requires checked_rows { CheckedRows self.old.source.rows.now self.old.source.text.now }
-        requires no_trivia_if { NoTriviaIf self.old.bare self.old.source.rows.now }
-        ensures laid_out { LaidOut self.old.source.rows.now self.old.source.text.now
+        requires checked_rows { CheckedRows self.old.rows.now self.old.text.now }
+        requires no_trivia_if { NoTriviaIf self.old.bare self.old.rows.now }
+        ensures laid_out { LaidOut self.old.rows.now self.old.text.now
             (options_of self.old.options) sink.old.out.now result sink.new.out.now }
         ensures length { IfOk result (λ f. sink.new.len ≡ f.length) }
         ensures lent { sink.new.out.ghost_name ≡ sink.old.out.ghost_name }
     {
-        self.ends = ends_of(self.source.rows, self.options.list_width);
+        self.ends = ends_of(self.rows, self.options.list_width);
         let mut place = Place { at: 0, index: 0 };
         // No iterator over rows: a token takes as many rows as it has.
-        while place.at < self.source.rows.len() {
-            let token = token_at(self.source.rows, place.at, place.index, self.bare);
+        while place.at < self.rows.len() {
+            let token = token_at(self.rows, place.at, place.index, self.bare);
             self.push_token(sink, token)?;
             place = self.next_place(token);
             if self.may_start_fast_tokens(place.at) {
@@ -91,16 +112,16 @@ impl<'a> Formatter<'a> {
             (code_state self.old sink.old) (code_state self.new sink.new)) }
     {
         match token.kind {
-            Kind::Eof => {}
-            Kind::Newline => self.newline_arm(sink, token),
-            Kind::RightBrace => self.right_brace_arm(sink),
-            Kind::LeftBrace => self.left_brace_arm(sink, token),
-            Kind::LeftParen => self.left_paren_arm(sink, token),
-            Kind::LeftBracket => self.left_bracket_arm(sink, token),
-            Kind::RightParen => self.right_paren_arm(sink, token),
-            Kind::RightBracket => self.right_bracket_arm(sink, token),
-            Kind::Comma => self.comma_arm(sink, token),
-            Kind::Else => self.else_arm(sink, token, inline_close),
+            EOF => {}
+            NEWLINE => self.newline_arm(sink, token),
+            RIGHT_BRACE => self.right_brace_arm(sink),
+            LEFT_BRACE => self.left_brace_arm(sink, token),
+            LEFT_PAREN => self.left_paren_arm(sink, token),
+            LEFT_BRACKET => self.left_bracket_arm(sink, token),
+            RIGHT_PAREN => self.right_paren_arm(sink, token),
+            RIGHT_BRACKET => self.right_bracket_arm(sink, token),
+            COMMA => self.comma_arm(sink, token),
+            ELSE => self.else_arm(sink, token, inline_close),
             _ => self.other_arm(sink, token),
         }
     }
@@ -122,15 +143,15 @@ impl<'a> Formatter<'a> {
             return false;
         }
         match token.kind {
-            Kind::LeftParen => !self.at_signature() && self.breaks_list(token),
-            Kind::LeftBracket => self.breaks_list(token),
+            LEFT_PAREN => !self.at_signature() && self.breaks_list(token),
+            LEFT_BRACKET => self.breaks_list(token),
             _ => false,
         }
     }
 
     // Whether the token has trailing trivia, and its arm does not return before them.
     fn writes_trailing(&self, token: TokenAt) -> bool
-        requires { (token.own + row_size ≤ token.next) × (token.next ≤ length self.now.source.rows.now) }
+        requires { (token.own + row_size ≤ token.next) × (token.next ≤ length self.now.rows.now) }
         ensures { AtToken token self.now (λ t ts. result ≡ ltb (token.own + row_size) token.next
             && not (returns_early t ts (fields_of self.now))) }
     {
@@ -138,25 +159,25 @@ impl<'a> Formatter<'a> {
             return false;
         }
         match token.kind {
-            Kind::LeftBrace => !self.empties_record(token),
-            Kind::RightParen => !self.closes_broken(),
-            Kind::RightBracket => !self.in_broken_list(),
+            LEFT_BRACE => !self.empties_record(token),
+            RIGHT_PAREN => !self.closes_broken(),
+            RIGHT_BRACKET => !self.in_broken_list(),
             _ => true,
         }
     }
 
     // Where the next token's rows start, and its index. The `{` of `record E {}` took the `}` along.
     fn next_place(&self, token: TokenAt) -> Place
-        requires next_in_bounds { (token.next ≤ length self.now.source.rows.now)
+        requires next_in_bounds { (token.next ≤ length self.now.rows.now)
             × (token.index + 1 < most32) }
         requires next_token { took_next token.kind self.now.prev ≡ true
-            → NextToken self.now.source.rows.now token.next self.now.bare }
-        ensures { NextPlace self.now.source.rows.now token (took_next token.kind self.now.prev) result }
+            → NextToken self.now.rows.now token.next self.now.bare }
+        ensures { NextPlace self.now.rows.now token (took_next token.kind self.now.prev) result }
     {
         let at = token.next;
         let index = token.index + 1;
-        if token.kind == Kind::LeftBrace && self.prev_is(Kind::RightBrace) {
-            let taken = token_at(self.source.rows, at, index, self.bare);
+        if token.kind == LEFT_BRACE && self.prev_is(RIGHT_BRACE) {
+            let taken = token_at(self.rows, at, index, self.bare);
             return Place {
                 at: taken.next,
                 index: index + 1,

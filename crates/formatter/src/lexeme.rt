@@ -15,10 +15,10 @@ ghost use Rattle.formatter.specs.Token.{bare_token, lexeme_of};
 ghost use Rattle.formatter.specs.Parts.{gap_size, indent_or_space_size, emit_tail};
 
 use crate::{FnState, Formatter, TokenAt};
-use row_writers::write_lexeme;
+use row_writers::{Source, write_lexeme};
 use rows::Kind;
 use sink::write::{Sink, Tail};
-use spaces::is_value;
+use spaces::is_value_kind;
 use spaces::loose::{loose_after, spaces_between};
 
 impl<'a> Formatter<'a> {
@@ -26,7 +26,7 @@ impl<'a> Formatter<'a> {
     // `inline_close` is true where the `}` of a one-line block stands right before it.
     pub fn else_arm(&mut self, sink: &mut Sink, token: TokenAt, inline_close: bool)
         requires ready { Ready self.old sink.old }
-        requires in_rows { HasRows token self.old × (kind_number token.kind ≡ Else) }
+        requires in_rows { HasRows token self.old × (token.kind ≡ Else) }
         ensures { AtToken token self.old (λ t ts. (x : Locals) → x.inline_close ≡ inline_close
             → Does (else_arm (options_of self.old.options) t) x
             (code_state self.old sink.old) (code_state self.new sink.new)) }
@@ -49,7 +49,7 @@ impl<'a> Formatter<'a> {
         !self.in_one_line_block()
             && !self.in_record
             && !inline_close
-            && self.prev_is(Kind::RightBrace)
+            && self.prev_is(Kind::RightBrace as u32)
     }
 
     // Any other token writes its lexeme. `record` sets `record_pending`, a name leaves it, anything else
@@ -61,7 +61,7 @@ impl<'a> Formatter<'a> {
             (λ t ts. Puts (other_arm (options_of self.old.options) t) self.old sink.old self.new sink.new) }
     {
         self.record_pending = record_pending_after(self.record_pending, token.kind);
-        self.push_lexeme(sink, token, token.kind);
+        self.push_lexeme(sink, token, token.kind());
     }
 
     // Writes the spaces and the token's lexeme, and tracks `prev` and whether a `-` is unary. `kind` is the
@@ -69,7 +69,7 @@ impl<'a> Formatter<'a> {
     // list misses its bar.
     pub fn push_lexeme(&mut self, sink: &mut Sink, token: TokenAt, kind: Kind)
         requires can_write { CanWrite self.old sink.old }
-        requires in_rows { HasRows token self.old × (kind ≡ token.kind) }
+        requires in_rows { HasRows token self.old × (kind_number kind ≡ token.kind) }
         ensures does { Puts (push_lexeme (options_of self.old.options)
             (bare_token (kind_number kind) (lexeme_of token self.old))) self.old sink.old self.new sink.new }
         ensures kept { Kept self.old self.new }
@@ -83,14 +83,23 @@ impl<'a> Formatter<'a> {
     // whether a `-` is unary.
     pub fn emit_token_text(&mut self, sink: &mut Sink, token: TokenAt, kind: Kind, tail: Tail)
         requires can_write { CanWrite self.old sink.old }
-        requires in_rows { HasRows token self.old × (kind ≡ token.kind) }
+        requires in_rows { HasRows token self.old × (kind_number kind ≡ token.kind) }
         ensures does { Puts (emit_tail (options_of self.old.options)
             (bare_token (kind_number kind) (lexeme_of token self.old)) (tail_bytes tail))
             self.old sink.old self.new sink.new }
         ensures kept { Kept self.old self.new }
     {
         let gap = self.gap_before(kind);
-        write_lexeme(sink, gap, self.source, token.own, tail);
+        write_lexeme(
+            sink,
+            gap,
+            Source {
+                rows: self.rows,
+                text: self.text,
+            },
+            token.own,
+            tail,
+        );
         self.at_line_start = false;
         self.prev = Some(kind);
     }
@@ -107,7 +116,11 @@ impl<'a> Formatter<'a> {
         match self.prev {
             None => 0,
             Some(prev) => {
-                spaces_between(loose_after(kind, self.prev_minus_is_unary), prev, kind)
+                spaces_between(
+                    loose_after(kind as u32, self.prev_minus_is_unary),
+                    prev,
+                    kind,
+                )
             }
         }
     }
@@ -129,27 +142,29 @@ impl<'a> Formatter<'a> {
         ensures { result ≡ (track_minus (kind_number kind) (fields_of self.now)).prev_minus_is_unary }
     {
         if kind == Kind::Minus {
-            !self.prev.is_some_and(|prev| is_value(prev))
+            !self.prev.is_some_and(|prev| is_value_kind(prev as u32))
         } else {
             self.prev_minus_is_unary
         }
     }
 
-    // Tracks `fn name (`. `Outside`, which is most frequent, is asked for first.
-    pub fn track_fn_state(&mut self, kind: Kind)
-        ensures { (s : Sink) → Puts (update (track_fn_state (kind_number kind))) self.old s self.new s }
+    // Tracks `fn name (`, after a token whose kind has this number. `OUTSIDE`, which is most frequent, is
+    // asked for first.
+    pub fn track_fn_state(&mut self, kind: u32)
+        ensures { (s : Sink) → Puts (update (track_fn_state kind)) self.old s self.new s }
     {
-        if kind != Kind::Fn && self.fn_state == FnState::Outside {
+        if kind != Kind::Fn as u32 && self.fn_state == FnState::OUTSIDE {
             return;
         }
         if self.in_broken_signature() {
             return;
         }
-        match kind {
-            Kind::Fn => self.fn_state = FnState::AfterFn,
-            Kind::Identifier => self.fn_state = named_after(self.fn_state),
-            Kind::Newline => {}
-            _ => self.fn_state = FnState::Outside,
+        if kind == Kind::Fn as u32 {
+            self.fn_state = FnState::AFTER_FN;
+        } else if kind == Kind::Identifier as u32 {
+            self.fn_state = named_after(self.fn_state);
+        } else if kind != Kind::Newline as u32 {
+            self.fn_state = FnState::OUTSIDE;
         }
     }
 }
@@ -158,17 +173,16 @@ impl<'a> Formatter<'a> {
 pub fn named_after(state: FnState) -> FnState
     ensures { fn_number result ≡ cond (eqb (fn_number state) 1) 2 0 }
 {
-    match state {
-        FnState::AfterFn => FnState::Named,
-        _ => FnState::Outside,
+    if state == FnState::AFTER_FN {
+        return FnState::NAMED;
     }
+    FnState::OUTSIDE
 }
 
-// Answers whether a record is pending after a token of the kind: `record` arms the record layout, a name
-// leaves it armed, anything else disarms it.
-pub fn record_pending_after(pending: bool, kind: Kind) -> bool
-    ensures { result ≡ eqb (kind_number kind) Record
-        || (eqb (kind_number kind) Identifier && pending) }
+// Answers whether a record is pending after a token whose kind has this number: `record` arms the record
+// layout, a name leaves it armed, anything else disarms it.
+pub fn record_pending_after(pending: bool, kind: u32) -> bool
+    ensures { result ≡ eqb kind Record || (eqb kind Identifier && pending) }
 {
-    kind == Kind::Record || kind == Kind::Identifier && pending
+    kind == Kind::Record as u32 || kind == Kind::Identifier as u32 && pending
 }

@@ -3,7 +3,8 @@
 // structs deep the checker knows nothing once the formatter is gone.
 #![tactic(auto)]
 
-ghost use Rattle.std.specs.Prelude.{◌≡◌, ◌*◌, ◌<◌};
+ghost use Rattle.std.specs.Prelude.{◌≡◌, ◌*◌, ◌<◌, min};
+ghost use Rattle.rows.specs.Kinds.{Other};
 ghost use Rattle.rows.specs.KindNumber.{kind_number};
 ghost use Rattle.definition.specs.Emit.{is_at, is_some};
 ghost use Rattle.definition.specs.Arms.{at_record_fields, in_broken_list, in_one_line_block};
@@ -31,13 +32,17 @@ use rows::Kind;
 
 // How far the walk has come in `fn name (`: `fn_state`, a number in format.rs.
 #[derive(Clone, Copy, Debug, PartialEq, Eq)]
-pub enum FnState {
-    // 0: it is in no such place.
-    Outside,
-    // 1: `fn` stands before.
-    AfterFn,
-    // 2: `fn` and a name stand before.
-    Named,
+pub struct FnState(pub u8);
+
+impl FnState {
+    // It is in no such place.
+    pub const OUTSIDE: FnState = FnState(0);
+
+    // `fn` stands before.
+    pub const AFTER_FN: FnState = FnState(1);
+
+    // `fn` and a name stand before.
+    pub const NAMED: FnState = FnState(2);
 }
 
 // Four counts have a type of their own each, so that none is taken for another. This one says how many parens
@@ -75,11 +80,11 @@ pub struct Options {
     pub list_width: u32,
 }
 
-// A token: its kind, its index among the tokens, where its leading rows start, where its own row starts, and
-// where its trailing rows end.
+// A token: its kind's number as its row has it, its index among the tokens, where its leading rows start, where
+// its own row starts, and where its trailing rows end.
 #[derive(Clone, Copy)]
 pub struct TokenAt {
-    pub kind: Kind,
+    pub kind: u32,
     pub index: u32,
     pub lead: usize,
     pub own: usize,
@@ -99,11 +104,13 @@ pub struct Ends {
 
 // The fields of format.rs under its names. The port adds what format.rs has in parameters: the options, the
 // rows and the text, what all rows tell, and whether no row is trivia; and `commas`, the number of inserted
-// commas.
-#[derive(Drop)]
+// commas. The rows and the text are fields of their own: where a `Copy` struct holds a `Source`, the checker
+// finds no plan for methods that borrow it.
+#[derive(Clone, Copy)]
 pub struct Formatter<'a> {
     pub options: Options,
-    pub source: Source<'a>,
+    pub rows: &'a [u8],
+    pub text: &'a [u8],
     pub ends: Ends,
     pub bare: bool,
     pub indent: usize,
@@ -140,16 +147,27 @@ pub enum WalkError {
     Full { index: usize },
 }
 
+impl TokenAt {
+    // The token's kind. Every number above 34 is `Other`.
+    pub fn kind(self) -> Kind
+        ensures { kind_number result ≡ min self.kind Other }
+    {
+        Kind::of(self.kind)
+    }
+}
+
 impl<'a> Formatter<'a> {
     // The state before the first token of `source`. Where `bare` is true, no row is trivia.
     pub fn new(options: Options, source: Source<'a>, bare: bool) -> Self
         ensures fresh { (s : Sink) → s.len ≡ 0 → Fresh result s }
         ensures ends { Ending source.entry.rows.now result.ends }
-        ensures given { (result.options ≡ options) × (result.source ≡ source.entry) × (result.bare ≡ bare) }
+        ensures given { (result.options ≡ options) × (result.rows ≡ source.entry.rows)
+            × (result.text ≡ source.entry.text) × (result.bare ≡ bare) }
     {
         Formatter {
             options,
-            source,
+            rows: source.rows,
+            text: source.text,
             ends: ends_not_sought(source.rows),
             bare,
             indent: 0,
@@ -157,7 +175,7 @@ impl<'a> Formatter<'a> {
             prev: None,
             prev_minus_is_unary: false,
             inline_depth: InlineDepth(0),
-            fn_state: FnState::Outside,
+            fn_state: FnState::OUTSIDE,
             sig_break_depth: None,
             record_pending: false,
             in_record: false,
@@ -172,11 +190,15 @@ impl<'a> Formatter<'a> {
 
     // ---- tests that several arms make
 
-    // Whether the last token has this kind.
-    pub fn prev_is(&self, kind: Kind) -> bool
-        ensures { result ≡ is_at (prev_of self.now.prev) (kind_number kind) }
+    // Whether the last token has the kind of this number.
+    #[tactic(auto, using(rows::proofs::KindNumbers::tag_is))]
+    pub fn prev_is(&self, kind: u32) -> bool
+        ensures { result ≡ is_at (prev_of self.now.prev) kind }
     {
-        self.prev == Some(kind)
+        match self.prev {
+            None => false,
+            Some(prev) => prev as u32 == kind,
+        }
     }
 
     // Whether the walk is inside a block that stays on its line.

@@ -1,12 +1,12 @@
 // The arm of Newline.
-ghost use Rattle.std.specs.Prelude.{◌≡◌, ◌+◌, ◌≤◌, length, take, drop};
+ghost use Rattle.std.specs.Prelude.{List, ◌≡◌, ℕ, ◌+◌, ◌≤◌, length, take, drop};
 ghost use Rattle.rows.specs.Row.{row_size};
 ghost use Rattle.rows.specs.Token.{tokens_of};
 ghost use Rattle.definition.specs.Emit.{is_at};
 ghost use Rattle.definition.specs.Arms.{ends_with_two_feeds, newline_arm};
 ghost use Rattle.formatter.specs.CodeState.{Locals, code_state, newline_of, state_of};
 ghost use Rattle.formatter.specs.Does.{Puts};
-ghost use Rattle.formatter.specs.Token.{AtToken};
+ghost use Rattle.formatter.specs.Token.{AtTokenOf};
 ghost use Rattle.formatter.specs.Parts.{feeds_line};
 
 use crate::{Formatter, TokenAt};
@@ -17,8 +17,8 @@ use sink::write::Sink;
 impl<'a> Formatter<'a> {
     // Newline: it is swallowed, or writes a line feed, or is left out.
     pub fn newline_arm(&mut self, sink: &mut Sink, token: TokenAt)
-        requires { token.own + row_size ≤ length self.old.source.rows.now }
-        ensures { AtToken token self.old
+        requires { token.own + row_size ≤ length self.old.rows.now }
+        ensures { (text : List ℕ) → AtTokenOf token self.old.rows.now text
             (λ t ts. Puts (newline_arm token.index ts) self.old sink.old self.new sink.new) }
     {
         if self.suppresses(token.index) {
@@ -41,13 +41,12 @@ impl<'a> Formatter<'a> {
     // not at the text's start before a comment, not in a record or a one-line block, and never a third line
     // feed.
     fn feeds(&self, sink: &Sink, own: usize) -> bool
-        requires { own + row_size ≤ length self.now.source.rows.now }
-        ensures { (x : Locals) → sink.now.len ≤ length sink.now.out.now
-            → result ≡ feeds_line
-            (tokens_of (drop (own + row_size) self.now.source.rows.now) self.now.source.text.now)
+        requires { own + row_size ≤ length self.now.rows.now }
+        ensures { (text : List ℕ) (x : Locals) → sink.now.len ≤ length sink.now.out.now
+            → result ≡ feeds_line (tokens_of (drop (own + row_size) self.now.rows.now) text)
             (state_of x (code_state self.now sink.now)) }
     {
-        if sink.len == 0 && next_has_comment(&self.source.rows[own + ROW_BYTES..]) {
+        if sink.len == 0 && next_has_comment(&self.rows[own + ROW_BYTES..]) {
             return false;
         }
         if self.in_record || self.in_one_line_block() {

@@ -9,22 +9,28 @@ use std::marker::Model;
 // How many numbers the broken-group stack holds.
 pub const STACK_SIZE: usize = 64;
 
-// Up to 64 depths, of which the first `count` are there. A contract sees them as a list, the last one first.
-#[derive(Drop)]
+// Up to 64 depths, of which the first `count` are there; the other entries are 0. A contract sees them as a
+// list, the last one first.
+#[derive(Clone, Copy)]
 pub struct Stack {
     entries: [u32; STACK_SIZE],
     count: usize,
 }
 
 impl Model for Stack {
-    ghost use Rattle.std.specs.Prelude.{List, ℕ, ◌≤◌};
-    ghost use Rattle.formatter.specs.Stack.{top_first, stack_size};
+    ghost use Rattle.std.specs.Prelude.{List, ℕ, length};
+    ghost use Rattle.formatter.specs.Stack.{top_first, OnStack, entries_of};
+    ghost use Rattle.formatter.specs.StackArray.{array_of};
 
     ghost Value = { List ℕ };
 
     ghost view = { λ s. top_first s.count s.entries };
 
-    ghost invariant = { λ s. s.count ≤ stack_size };
+    ghost invariant = { λ s. OnStack s.count s.entries };
+
+    ghost inverse = { λ xs. record { entries = entries_of xs; count = length xs } };
+
+    ghost inverse_ok = { λ s h. array_of s.count s.entries h (λ n k. record { entries = k; count = n }) };
 }
 
 impl Stack {
@@ -40,7 +46,7 @@ impl Stack {
     }
 
     // Whether no depth is there.
-    #[tactic(auto, using(crate::proofs::Entries::top_length))]
+    #[tactic(auto, using(crate::specs::StackArray::top_length))]
     pub fn is_empty(&self) -> bool
         ensures { result ≡ eqb (length self.now) 0 }
     {
@@ -48,7 +54,7 @@ impl Stack {
     }
 
     // Whether there is no room for one more.
-    #[tactic(auto, using(crate::proofs::Entries::top_length))]
+    #[tactic(auto, using(crate::specs::StackArray::top_length))]
     pub fn is_full(&self) -> bool
         ensures { result ≡ leb stack_size (length self.now) }
     {
@@ -64,7 +70,7 @@ impl Stack {
     }
 
     // Puts a depth on the stack. A full one stays as it is.
-    #[tactic(auto, using(crate::proofs::Entries::top_length, crate::proofs::Entries::top_pushed))]
+    #[tactic(auto, using(crate::proofs::Entries::pushing))]
     pub fn push(&mut self, depth: u32)
         ensures { self.new ≡ cond (ltb (length self.old) stack_size) (depth ∷ self.old) self.old }
     {
@@ -75,10 +81,11 @@ impl Stack {
     }
 
     // Takes the last depth away, if there is one.
-    #[tactic(auto, using(crate::proofs::Entries::top_popped))]
+    #[tactic(auto, using(crate::proofs::Entries::top_popped, crate::specs::StackArray::popped_on))]
     pub fn pop(&mut self)
         ensures { self.new ≡ drop 1 self.old }
     {
         self.count = self.count.saturating_sub(1);
+        self.entries[self.count] = 0;
     }
 }

@@ -44,7 +44,7 @@ fn token_of(rows: &[u8], lead: usize, own: usize, next: usize, index: u32) -> To
     ensures { TokenRows rows.now lead index result }
 {
     TokenAt {
-        kind: row_at(rows, own).token_kind(),
+        kind: row_at(rows, own).kind,
         index,
         lead,
         own,

@@ -19,14 +19,14 @@ impl<'a> Formatter<'a> {
     // Writes the token's leading rows, of which there is at least one; `just_closed_inline` stays as it is.
     pub fn push_leading(&mut self, sink: &mut Sink, token: TokenAt)
         requires indent_bounds { IndentBounds self.old }
-        requires whole_rows { WholeRows self.old.source.rows.now self.old.source.text.now
+        requires whole_rows { WholeRows self.old.rows.now self.old.text.now
             token.lead token.own }
         requires lead_lt_own { token.lead < token.own }
         ensures { Puts (lead_token (options_of self.old.options)
-            (trivia_in self.old.source.rows.now self.old.source.text.now token.lead token.own))
+            (trivia_in self.old.rows.now self.old.text.now token.lead token.own))
             self.old sink.old self.new sink.new }
     {
-        let rows = self.source.rows;
+        let rows = self.rows;
         for row in Rows::of(&rows[token.lead..token.own]) {
             self.push_lead(sink, row);
         }
@@ -35,9 +35,9 @@ impl<'a> Formatter<'a> {
     // Writes one leading row. It never breaks a line by itself, unless it is a blank line.
     fn push_lead(&mut self, sink: &mut Sink, row: Row)
         requires indent_bounds { IndentBounds self.old }
-        requires inside { Inside self.old.source.text.now (row_of row) }
+        requires inside { Inside self.old.text.now (row_of row) }
         ensures does { Puts (lead_act (options_of self.old.options)
-            (trivia_of self.old.source.text.now (row_of row))) self.old sink.old self.new sink.new }
+            (trivia_of self.old.text.now (row_of row))) self.old sink.old self.new sink.new }
         ensures indent { self.new.indent ≡ self.old.indent }
     {
         if row.is_blank_line() {
@@ -47,19 +47,19 @@ impl<'a> Formatter<'a> {
         }
         let gap = self.indent_or_space();
         sink.write_spaces(gap);
-        write_lead(sink, self.source.text, row);
+        write_lead(sink, self.text, row);
     }
 
     // Writes the token's trailing rows. They change no field.
     pub fn push_trailing(&self, sink: &mut Sink, token: TokenAt)
-        requires { WholeRows self.now.source.rows.now self.now.source.text.now
+        requires { WholeRows self.now.rows.now self.now.text.now
             (token.own + row_size) token.next }
         ensures { Puts (trailing_trivia
-            (trivia_in self.now.source.rows.now self.now.source.text.now (token.own + row_size) token.next))
+            (trivia_in self.now.rows.now self.now.text.now (token.own + row_size) token.next))
             self.now sink.old self.now sink.new }
     {
-        let rows = self.source.rows;
-        let text = self.source.text;
+        let rows = self.rows;
+        let text = self.text;
         for row in Rows::of(&rows[token.own + ROW_BYTES..token.next]) {
             push_trail(sink, text, row);
         }

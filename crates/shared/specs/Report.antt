@@ -1,6 +1,6 @@
 -- The table of refusals (specification, 'Refusals'), and what a call answers in its terms.
 -- Assumes nothing.
-use Rattle.std.specs.Prelude.{Bool, cond, List, ◌++◌, ℕ, Option, None, Some, Result, Ok, Err, eqb, length, get_or, drop, replicate}
+use Rattle.std.specs.Prelude.{Bool, cond, List, ◌++◌, ℕ, Result, Ok, Err, eqb, length, get_or, drop, replicate}
 use Rattle.std.specs.Fmt.{decimal}
 use Rattle.shared.specs.Bytes.{space}
 use Rattle.shared.specs.Numbers.{little_endian}
@@ -57,11 +57,6 @@ refusal_number Unreadable = unreadable
 refusal_number PiecesFull = pieces_full
 refusal_number BadReport = report
 
--- The number of a refusal, or 0.
-abbrev pub number_or_0 : Option Refusal → ℕ
-number_or_0 None = 0
-number_or_0 (Some r) = refusal_number r
-
 -- What a program writes of a refusal: its number, a space and its place.
 abbrev pub refused_text : Refused → List ℕ
 refused_text r = decimal (refusal_number r.refusal) ++ space ++ decimal r.place
@@ -87,7 +82,7 @@ accepted r = eqb r.refusal 0
 
 -- the report that a `Report` of the code is
 abbrev pub report_of : Rattle.shared.specs.declared.report.Report.Report → Report
-report_of r = record { refusal = number_or_0 r.refusal; first = r.first; second = r.second; third = r.third }
+report_of r = record { refusal = r.refusal; first = r.first; second = r.second; third = r.third }
 
 -- The report of an answer: three numbers, or a refusal.
 abbrev pub answer_report : Result (List ℕ) Refused → Report

@@ -3,15 +3,15 @@ ghost use Rattle.std.specs.Prelude.{◌≡◌, length};
 ghost use Rattle.shared.specs.Report.{answer_report, report_of, report_bytes, report_size};
 
 use crate::numbers::put;
-use crate::refusal::{Refusal, Refused};
+use crate::refusal::Refused;
 
 // How many bytes a report has.
 pub const REPORT_BYTES: usize = 24;
 
-// The refusal, if there is one, and the report's three numbers.
+// The refusal's number, or 0, and the report's three numbers.
 #[derive(Clone, Copy, Debug, PartialEq, Eq)]
 pub struct Report {
-    pub refusal: Option<Refusal>,
+    pub refusal: u32,
     pub first: u64,
     pub second: u64,
     pub third: u64,
@@ -23,13 +23,13 @@ pub fn report_answer(answer: Result<[u64; 3], Refused>) -> Report
 {
     match answer {
         Ok(numbers) => Report {
-            refusal: None,
+            refusal: 0,
             first: numbers[0],
             second: numbers[1],
             third: numbers[2],
         },
         Err(refused) => Report {
-            refusal: Some(refused.refusal),
+            refusal: refused.refusal.number(),
             first: refused.place as u64,
             second: 0,
             third: 0,
@@ -46,5 +46,5 @@ pub fn put_report(report: &mut [u8], answer: Report) -> u32
     put(report, 0, answer.first.to_le_bytes());
     put(report, 8, answer.second.to_le_bytes());
     put(report, 16, answer.third.to_le_bytes());
-    answer.refusal.map_or(0, Refusal::number)
+    answer.refusal
 }

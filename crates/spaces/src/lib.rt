@@ -121,12 +121,12 @@ fn no_space_before(kind: Kind) -> bool
     )
 }
 
-// Whether a token of this kind can end an expression, so that a `-` after it is binary.
-pub fn is_value(kind: Kind) -> bool
-    ensures { result ≡ is_value_kind (kind_number kind) }
+// Whether a token whose kind has this number can end an expression, so that a `-` after it is binary.
+pub fn is_value_kind(kind: u32) -> bool
+    ensures { result ≡ is_value_kind kind }
 {
     matches!(
-        kind,
+        Kind::of(kind),
         Kind::Identifier
             | Kind::NumberLiteral
             | Kind::ByteLiteral

@@ -39,10 +39,17 @@ const BEFORE_LEFT_BRACKET: KindSet = KindSet(BEFORE_LEFT_PAREN.0 - INDEXED.0);
 
 const MINUS: KindSet = set_of!(Minus);
 
-// Answers the kinds after which a token of the kind `kind` may stand with a space. Where the last `-` is
-// unary, Minus is none of them.
-pub fn loose_after(kind: Kind, unary: bool) -> KindSet
-    ensures { result.0 ≡ loose_after (kind_number kind) unary }
+// Only these three kinds have a set of their own.
+const RIGHT_BRACE: u32 = Kind::RightBrace as u32;
+
+const LEFT_PAREN: u32 = Kind::LeftParen as u32;
+
+const LEFT_BRACKET: u32 = Kind::LeftBracket as u32;
+
+// Answers the kinds after which a token whose kind has the number `kind` may stand with a space. Where the
+// last `-` is unary, Minus is none of them.
+pub fn loose_after(kind: u32, unary: bool) -> KindSet
+    ensures { result.0 ≡ loose_after kind unary }
 {
     let loose = loose_kinds(kind);
     if unary {
@@ -51,13 +58,13 @@ pub fn loose_after(kind: Kind, unary: bool) -> KindSet
     loose
 }
 
-fn loose_kinds(kind: Kind) -> KindSet
-    ensures { result.0 ≡ loose_kinds (kind_number kind) }
+fn loose_kinds(kind: u32) -> KindSet
+    ensures { result.0 ≡ loose_kinds kind }
 {
     match kind {
-        Kind::RightBrace => BEFORE_RIGHT_BRACE,
-        Kind::LeftParen => BEFORE_LEFT_PAREN,
-        Kind::LeftBracket => BEFORE_LEFT_BRACKET,
+        RIGHT_BRACE => BEFORE_RIGHT_BRACE,
+        LEFT_PAREN => BEFORE_LEFT_PAREN,
+        LEFT_BRACKET => BEFORE_LEFT_BRACKET,
         _ => SPACE_AFTER,
     }
 }

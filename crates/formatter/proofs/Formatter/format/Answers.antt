@@ -1,11 +1,12 @@
 -- `formatter::Formatter::format` meets its contract. Assumes nothing.
-use mathlib.Core.Path.{ap}
+use mathlib.Core.Path.{◌≡◌, ap}
+use Prim.Native.Nat.{ℕ, ◌-◌, ◌≤◌, ◌<◌}
 use native.Mathlib.Omega.{arith}
 use lib.ListN.{length}
 use Rattle.formatter.specs.CodeState.{CodeState, code_state}
 use Rattle.formatter.proofs.Going.{laid_done}
-use Rattle.formatter.proofs.Loop.{Loop, begins, rows_same, next_token_there, refused_as, next_there_too, next-bounds, placed}
-use Rattle.formatter.proofs.Loop.{rows_left, boundary_there, past_fast_tokens, fast_braces_place, fast_braces_rows, fast_braces_depth, past_fast_braces}
+use Rattle.formatter.proofs.Loop.{Loop, begins, rows_same, next_token_there, refused_as, next_there_too, next-bounds, placed, placed-after}
+use Rattle.formatter.proofs.Loop.{rows_left, boundary_there, past_fast_tokens, fast_tokens_few, fast_braces_place, fast_braces_rows, fast_braces_depth, past_fast_braces}
 use Rattle.formatter.proofs.Formatter.format.Goals as goal
 use Rattle.formatter.proofs.Formatter.format.Goals.{After-next_place-place}
 
@@ -18,6 +19,16 @@ at_place : (c : After-next_place-place) → Loop (first c) c.next_place-place.re
 at_place c =
     placed c.requires.fresh.1 c.requires.checked_rows c.ends_of-self.ensures c.loop-place.invariant c.loop-place-test.true c.token_at-token.ensures
     c.push_token.ensures c.in_ok-push_token.was c.next_place-place.ensures
+
+-- It lies further on.
+after_place : (c : After-next_place-place) → c.loop-place.place.at < c.next_place-place.result.at
+after_place c =
+    placed-after c.requires.fresh.1 c.requires.checked_rows c.ends_of-self.ensures c.loop-place.invariant c.loop-place-test.true c.token_at-token.ensures
+    c.push_token.ensures c.in_ok-push_token.was c.next_place-place.ensures
+
+-- A place further on leaves fewer bytes of rows.
+falls : (n : ℕ) {at next to k : ℕ} → at < n → at < next → next ≤ to → k ≡ to → n - k < n - at
+falls n a b c e = omega arith
 
 -- ---- the answers
 
@@ -59,6 +70,19 @@ loop-place-preserved-then-may_start_fast_tokens c =
     let a = at_place (goal.at.loop-place-preserved-then-may_start_fast_tokens c).After-next_place-place in
     rw (c.place_at-place.ensures.0, c.place_at-place.ensures.1)
     (past_fast_tokens c.requires.checked_rows a (c.may_start_fast_tokens.ensures c.if-may_start_fast_tokens.true) c.push_fast_tokens-at.ensures)
+
+pub place_at-place-requires : goal.place_at-place-requires
+place_at-place-requires c =
+    let a = at_place (goal.at.place_at-place-requires c).After-next_place-place in
+    fast_tokens_few c.requires.checked_rows a (c.may_start_fast_tokens.ensures c.if-may_start_fast_tokens.true) c.push_fast_tokens-at.ensures
+
+pub loop-place-smaller-then-may_start_fast_tokens : goal.loop-place-smaller-then-may_start_fast_tokens
+loop-place-smaller-then-may_start_fast_tokens c =
+    let α = (goal.at.loop-place-smaller-then-may_start_fast_tokens c).After-next_place-place in
+    let ι = c.loop-place.invariant in
+    let t = rw (rows_same ι) at c.loop-place-test.true in
+    let few = fast_tokens_few c.requires.checked_rows (at_place α) (c.may_start_fast_tokens.ensures c.if-may_start_fast_tokens.true) c.push_fast_tokens-at.ensures in
+    falls (length c.args.self.now.rows.now) t (after_place α) few.0 c.place_at-place.ensures.0
 
 pub may_start_fast_braces-requires : goal.may_start_fast_braces-requires
 may_start_fast_braces-requires c = rows_left c.requires.checked_rows (at_place (goal.at.may_start_fast_braces-requires c).After-next_place-place)

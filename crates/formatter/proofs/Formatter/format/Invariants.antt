@@ -8,4 +8,4 @@ abbrev pub invariant-loop-place : goal.invariant-loop-place
 invariant-loop-place l = Loop (code_state l.initial.self l.initial.sink) l.place.index l.place.at (code_state l.self l.sink)
 
 abbrev pub decreases-loop-place : goal.decreases-loop-place
-decreases-loop-place l = length l.initial.self.source.rows.now - l.place.at
+decreases-loop-place l = length l.initial.self.rows.now - l.place.at

@@ -1,5 +1,6 @@
 -- `formatter::Formatter::gap_before` meets its contract. Assumes nothing.
 use native.Mathlib.Omega.{arith}
+use Rattle.rows.proofs.KindNumbers.{tag_is}
 use Rattle.rows.specs.KindNumber.{kind_number}
 use Rattle.spaces.proofs.Pairs.{spaces_are, spaces-few}
 use Rattle.formatter.proofs.Numbered.{kind_few}
@@ -9,7 +10,7 @@ pub returns-in-Some : goal.returns-in-Some
 returns-in-Some c =
     let a = c.args in
     let p = c.in-Some.prev in (
-      rw (c.if-self.false, c.in-Some.is, c.spaces_between.ensures, c.loose_after.ensures)
+      rw (c.if-self.false, c.in-Some.is, c.spaces_between.ensures, c.loose_after.ensures, tag_is a.kind)
           (spaces_are (kind_number p) (kind_number a.kind) a.self.now.prev_minus_is_unary (kind_few p) (kind_few a.kind)),
       rw c.spaces_between.ensures (omega (arith, spaces-few c.loose_after.result.0 (kind_number p) (kind_number a.kind))),
     )

@@ -9,7 +9,7 @@ use Rattle.formatter.proofs.Formatter.left_bracket_arm.Goals as goal
 pub returns-then-breaks_list : goal.returns-then-breaks_list
 unfolding left_bracket_arm
 returns-then-breaks_list c = λ t ts σ v x.
-    let r = told (c.breaks_list.ensures t ts σ) c.if-breaks_list.true in
+    let r = told (c.breaks_list.ensures _ t ts σ) c.if-breaks_list.true in
     yes
     (λ n. r)
     (rw (σ.kind, σ.lexeme, c.requires.kind_value)
@@ -19,5 +19,5 @@ returns-then-breaks_list c = λ t ts σ v x.
 pub returns-else-breaks_list : goal.returns-else-breaks_list
 unfolding left_bracket_arm
 returns-else-breaks_list c = λ t ts σ v x.
-    unless (c.breaks_list.ensures t ts σ) c.if-breaks_list.false
+    unless (c.breaks_list.ensures _ t ts σ) c.if-breaks_list.false
     (rw (σ.kind, σ.lexeme, c.requires.kind_value) (c.open_group.ensures x))

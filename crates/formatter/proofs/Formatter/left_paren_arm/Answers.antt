@@ -16,7 +16,7 @@ pub returns-then-breaks_list : goal.returns-then-breaks_list
 unfolding left_paren_arm
 returns-then-breaks_list c = λ t ts σ v x.
     let a = told c.at_signature.ensures c.if-at_signature.false in
-    let r = told (c.breaks_list.ensures t ts σ) c.if-breaks_list.true in
+    let r = told (c.breaks_list.ensures _ t ts σ) c.if-breaks_list.true in
     no
     (λ n. a)
     (yes
@@ -29,7 +29,7 @@ pub returns-else-breaks_list : goal.returns-else-breaks_list
 unfolding left_paren_arm
 returns-else-breaks_list c = λ t ts σ v x.
     unless c.at_signature.ensures c.if-at_signature.false
-    (unless (c.breaks_list.ensures t ts σ) c.if-breaks_list.false
+    (unless (c.breaks_list.ensures _ t ts σ) c.if-breaks_list.false
     (seq
     (updated refl (sym (rw c.deeper-self.ensures)) refl nothing)
     (its c.args.self.now σ c.requires.kind_value (open_group (options_of c.args.self.now.options)) (c.open_group.ensures _))))

@@ -13,11 +13,11 @@ use Rattle.formatter.proofs.Formatter.newline_arm.Goals as goal
 
 pub returns-then-suppresses : goal.returns-then-suppresses
 unfolding newline_arm
-returns-then-suppresses c = λ t ts σ x. when c.suppresses.ensures c.if-suppresses.true (updated refl refl refl nothing)
+returns-then-suppresses c = λ text t ts σ x. when c.suppresses.ensures c.if-suppresses.true (updated refl refl refl nothing)
 
 pub returns-then-feeds : goal.returns-then-feeds
 unfolding run said
-returns-then-feeds c = λ t ts σ x.
+returns-then-feeds c = λ text t ts σ x.
     newline c.args.token.index ts
     (told c.suppresses.ensures c.if-suppresses.false)
     (yes
@@ -25,12 +25,12 @@ returns-then-feeds c = λ t ts σ x.
     told
     (looked_after σ
     (λ l. feeds_line l (state_of x (code_state c.args.self.now c.args.sink.now)))
-    refl (c.feeds.ensures x n))
+    refl (c.feeds.ensures text x n))
     c.if-feeds.true)
     (does refl refl refl c.write_byte.ensures))
 
 pub returns-else-feeds : goal.returns-else-feeds
-returns-else-feeds c = λ t ts σ x.
+returns-else-feeds c = λ text t ts σ x.
     newline c.args.token.index ts
     (told c.suppresses.ensures c.if-suppresses.false)
     (no
@@ -38,6 +38,6 @@ returns-else-feeds c = λ t ts σ x.
     told
     (looked_after σ
     (λ l. feeds_line l (state_of x (code_state c.args.self.now c.args.sink.now)))
-    refl (c.feeds.ensures x n))
+    refl (c.feeds.ensures text x n))
     c.if-feeds.false)
     stays)

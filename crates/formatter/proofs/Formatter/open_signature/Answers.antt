@@ -14,7 +14,7 @@ pub returns-then-should_break_sig : goal.returns-then-should_break_sig
 returns-then-should_break_sig c = λ t ts σ x.
     seq (updated refl refl refl nothing)
     (when
-    (looked σ (should_break_sig c.args.self.now.options.fn_sig_width) (part_is c.args.token.lead c.args.self.now.source.rows.now) (sig_tokens _ _ _ c.should_break_sig.ensures))
+    (looked σ (should_break_sig c.args.self.now.options.fn_sig_width) (part_is c.args.token.lead c.args.self.now.rows.now) (sig_tokens _ _ _ c.should_break_sig.ensures))
     c.if-should_break_sig.true
     (c.break_signature.ensures _))
 
@@ -22,6 +22,6 @@ pub returns-else-should_break_sig : goal.returns-else-should_break_sig
 returns-else-should_break_sig c = λ t ts σ x.
     seq (updated refl refl refl nothing)
     (unless
-    (looked σ (should_break_sig c.args.self.now.options.fn_sig_width) (part_is c.args.token.lead c.args.self.now.source.rows.now) (sig_tokens _ _ _ c.should_break_sig.ensures))
+    (looked σ (should_break_sig c.args.self.now.options.fn_sig_width) (part_is c.args.token.lead c.args.self.now.rows.now) (sig_tokens _ _ _ c.should_break_sig.ensures))
     c.if-should_break_sig.false
     (its c.args.self.now σ c.requires.kind_value (open_group (options_of c.args.self.now.options)) (c.open_group.ensures _)))

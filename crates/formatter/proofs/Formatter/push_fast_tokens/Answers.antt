@@ -41,7 +41,7 @@ bit-spaced-requires-in-loop-rows c =
 pub returns : goal.returns
 returns c =
     let i = c.loop-rows.invariant in
-    let k : kind_number c.of-2.result ≡ c.loop-rows.prev = read_as c.of-2.result c.of-2.ensures i.so_far.known in
+    let k : kind_number c.of.result ≡ c.loop-rows.prev = read_as c.of.result c.of.ensures i.so_far.known in
     record {
       laid = rw k (i.so_far.done (fast_kinds_of c.args.self.now) c.fast_kinds-fast.ensures);
       changed = record { form = λ x. ap (set_prev _) (i.form x); same = record { given = i.same.given; lent = i.same.lent }; commas = i.commas };
@@ -56,11 +56,9 @@ loop-rows-preserved c =
     elim c.if-bit-eq1.branch [
       | then-bit-eq1 w ↦
           let τ = w.track_fast_token.ensures in
-          let p : kind_number w.of.result ≡ c.loop-rows.prev = read_as w.of.result w.of.ensures i.so_far.known in
-          let k : kind_number w.token_kind.result ≡ c.row_at-row.result.kind = read_as w.token_kind.result w.token_kind.ensures known in
           goes_on ω i (ap (λ f. code_state f c.put_token.new.self) w.self-is) t c.room.ensures _ c.row_at-row.ensures c.space_before-space.ensures c.fast_kinds-fast.ensures
           (record {
-            state = rw (p, k) at τ.state;
+            state = τ.state;
             form = τ.form;
             given = τ.given;
             sink = c.put_token.ensures;

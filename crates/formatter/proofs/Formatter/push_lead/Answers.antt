@@ -18,7 +18,7 @@ use Rattle.formatter.proofs.Formatter.push_lead.Goals as goal
 pub returns-then-is_blank_line-clause-does : goal.returns-then-is_blank_line-clause-does
 unfolding run said
 returns-then-is_blank_line-clause-does c = λ x.
-    rw (blank_row c.args.self.now.source.text.now (row_of c.args.row) (search rules))
+    rw (blank_row c.args.self.now.text.now (row_of c.args.row) (search rules))
     (does_then {a = comment (λ f. cond f.in_record [] line_feed)} {g = set_at_line_start true} {x = x} {p = code_state c.args.self.now c.args.sink.now} refl refl refl c.write_blank_line.ensures)
 
 pub returns-clause-does : goal.returns-clause-does

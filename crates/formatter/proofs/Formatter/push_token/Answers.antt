@@ -16,7 +16,7 @@ use Rattle.formatter.proofs.Formatter.push_token.Goals.{Joined-token, After-push
 abbrev LeadAt : Joined-token → Type 0
 LeadAt c =
     let p = c.args.self.now in
-    Puts (lead_token (options_of p.options) (trivia_in p.source.rows.now p.source.text.now c.args.token.lead c.args.token.own))
+    Puts (lead_token (options_of p.options) (trivia_in p.rows.now p.text.now c.args.token.lead c.args.token.own))
     p c.args.sink.now c.if-token.self c.if-token.sink
 
 leading : (c : Joined-token) → LeadAt c
