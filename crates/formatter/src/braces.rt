@@ -2,7 +2,6 @@
 ghost use Rattle.std.specs.Prelude.{cond, not, ◌&&◌, ◌||◌, List, ◌∷◌, ◌≡◌, ℕ, ◌+◌, ◌-◌, ◌≤◌, ◌<◌, length};
 ghost use Rattle.shared.specs.Numbers.{most32};
 ghost use Rattle.rows.specs.Kinds.{Comma, LeftBrace, RightBrace};
-ghost use Rattle.rows.specs.KindNumber.{kind_number};
 ghost use Rattle.rows.specs.Row.{row_size};
 ghost use Rattle.definition.specs.Act.{update};
 ghost use Rattle.definition.specs.Emit.{prev_is, open_allman, open_same_line};

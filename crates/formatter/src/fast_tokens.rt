@@ -1,7 +1,6 @@
 // Fast tokens: those that only write their lexeme, and a space before it, are laid out in a tight loop. It is
 // a second form of their arms.
 ghost use Rattle.std.specs.Prelude.{true, cond, not, ◌&&◌, ◌≡◌, ◌+◌, ◌-◌, ◌/◌, ◌*◌, ◌^◌, ◌≤◌, ◌<◌, eqb, length};
-ghost use Rattle.rows.specs.KindNumber.{kind_number};
 ghost use Rattle.rows.specs.Kinds.{Other};
 ghost use Rattle.spaces.specs.Between.{bit};
 ghost use Rattle.rows.specs.Row.{row_size};
