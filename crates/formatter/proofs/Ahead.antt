@@ -24,15 +24,11 @@ use Rattle.definition.proofs.Growth.{depth}
 use Rattle.definition.proofs.Last.{Told}
 use Rattle.sink.proofs.Sink.{later}
 use Rattle.sink.proofs.Appends.{nothing}
-use Rattle.rows.specs.declared.kind.Kind.{Kind}
-use Rattle.rows.specs.declared.kind.Kind.TheVariants as kinds
-use Rattle.rows.specs.KindNumber.{kind_number}
-use Rattle.std.specs.Prelude.{unwrap_or}
-use Rattle.formatter.proofs.Numbered.{kind_few}
 use Rattle.std.specs.declared.option.Option.{Option}
 use Rattle.std.specs.declared.option.Option.TheVariants.{None, Some}
 use Rattle.formatter.specs.CodeState.{Locals, Given, CodeState, state_of, locals_of, prev_of, signature_of, formatter_of, options_of, given}
 use Rattle.formatter.specs.Does.{Does}
+use Rattle.formatter.specs.Token.{kind_of}
 use Rattle.formatter.specs.Format.{CheckedRows, TokenBoundary, only_tokens, own_row, next_row}
 use Rattle.formatter.specs.FastTokens.{BeforeFastTokens, FastTokensLaidOut, LaysFastTokens, last_kind, after_fast_tokens, fast_state_of, fast_kinds_of}
 use Rattle.formatter.specs.FastBraces.{BeforeFastBraces, LaysFastBraces, after_fast_braces, fast_braces_at}
@@ -41,7 +37,7 @@ use Rattle.formatter.proofs.Turned.{taken}
 use Rattle.formatter.proofs.Runs.{checked-after}
 use Rattle.formatter.proofs.Place.{bare-run, token_here, tokens_next, tokens_next_lem}
 use Rattle.formatter.proofs.Pushed.{depth-signature}
-use Rattle.formatter.proofs.Going.{Going, goes_on, tokens_none}
+use Rattle.formatter.proofs.Going.{Going, last_few, goes_on, tokens_none}
 use Rattle.formatter.proofs.Turn.{chosen_not}
 
 -- ---- the token that comes next
@@ -82,7 +78,7 @@ module _ {z : Given} {l₀ : List ℕ} {x : Locals} {p : CodeState} {i at : ℕ}
 
 -- ---- after fast tokens and fast braces
 
-known_prev : (p : Option Kind) → is_some (prev_of p) ≡ true → prev_of p ≡ some (kind_number (unwrap_or p kinds.Eof))
+known_prev : (p : Option ℕ) → is_some (prev_of p) ≡ true → prev_of p ≡ some (kind_of p)
 known_prev None e = impossible' e
 known_prev (Some k) e = refl
 
@@ -179,7 +175,7 @@ module _ {z : Given} {l₀ : List ℕ} {x : Locals} {f : CodeState} {i at : ℕ}
           rest = laid.rest;
           lays = rw (form, σ.changed.commas) (laid.lays (options_of z.options) (formatter_of f.form x) f.form.commas i ρ);
           shallow = refl;
-          told = rw form (record { last = kind_few (unwrap_or g.form.prev kinds.Eof); mid_line = λ e. refl });
+          told = rw form (record { last = laid.last; mid_line = λ e. refl });
           indent = ap (λ y. y.indent) form;
           group = laid.group;
           inline = let e : g.form.inline_depth.0 ≡ f.form.inline_depth.0 = ap (λ y. y.inline_depth) form in omega arith;
@@ -209,7 +205,7 @@ module _ {z : Given} {l₀ : List ℕ} {x : Locals} {f : CodeState} {i at : ℕ}
           rest = σ.laid.rest;
           lays = rw (form, σ.changed.commas) (rw rows at (σ.laid.lays z.source.text.now (options_of z.options) (formatter_of f.form x) f.form.commas i ρ));
           shallow = refl;
-          told = rw form (record { last = kind_few (unwrap_or g.form.prev kinds.Eof); mid_line = λ e. refl });
+          told = rw form (record { last = σ.laid.last (last_few γ); mid_line = λ e. refl });
           indent = ap (λ y. y.indent) form;
           group = let e : g.form.group_depth.0 ≡ f.form.group_depth.0 = ap (λ y. y.group_depth) form in omega arith;
           inline = σ.laid.deep;

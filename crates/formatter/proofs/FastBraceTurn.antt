@@ -15,9 +15,6 @@ use Rattle.shared.specs.Bytes.{space, left_brace, right_brace}
 use Rattle.definition.specs.Emit.{ended_by, track_fn_state}
 use Rattle.definition.specs.Arms.{in_one_line_block, right_brace_arm, left_brace_arm}
 use Rattle.definition.specs.PushToken.{arm, take_inline_close, turn}
-use Rattle.rows.specs.declared.kind.Kind.{Kind}
-use Rattle.rows.specs.declared.kind.Kind.TheVariants as kinds
-use Rattle.rows.specs.KindNumber.{kind_number}
 use Rattle.formatter.specs.FastBraces.{FastBraces, BeforeFastBraces, after_fast_braces}
 use Rattle.formatter.proofs.Turn.{by_arm_lem, with_same, fn_kept}
 
@@ -28,18 +25,18 @@ abbrev pub opener_bytes : List ℕ
 opener_bytes = space ++ left_brace
 
 -- The bytes of a `}`, with a space before it; but `{}` is tight.
-abbrev pub closer_bytes : Kind → List ℕ
-closer_bytes prev = cond (eqb (kind_number prev) LeftBrace) [] space ++ right_brace
+abbrev pub closer_bytes : ℕ → List ℕ
+closer_bytes prev = cond (eqb prev LeftBrace) [] space ++ right_brace
 
 -- The place after a `{` at b, where the text then has the length `len`.
 abbrev pub after_opener : FastBraces → ℕ → FastBraces
 after_opener b len =
-    record { at = b.at + row_size; len = len; prev = kinds.LeftBrace; depth = b.depth + 1; closed = false }
+    record { at = b.at + row_size; len = len; prev = LeftBrace; depth = b.depth + 1; closed = false }
 
 -- The place after a `}` at b, where the text then has the length `len`.
 abbrev pub after_closer : FastBraces → ℕ → FastBraces
 after_closer b len =
-    record { at = b.at + row_size; len = len; prev = kinds.RightBrace; depth = b.depth - 1; closed = true }
+    record { at = b.at + row_size; len = len; prev = RightBrace; depth = b.depth - 1; closed = true }
 
 -- At the place b, a token of the kind k writes xs and goes to the place r.
 abbrev pub Turns : ℕ → FastBraces → List ℕ → FastBraces → Type 0
@@ -58,16 +55,16 @@ module _ (o : Options) (i : ℕ) (t : Token) (ts : List Token) (f : Formatter) (
   abbrev braced : ℕ → ℕ → Bool → Formatter
   braced k d close = ended_by k (set_just_closed_inline close (set_inline_depth d taken))
 
-  abbrev place : Kind → ℕ → Bool → FastBraces
+  abbrev place : ℕ → ℕ → Bool → FastBraces
   place k d close = record { at = 0; len = 0; prev = k; depth = d; closed = close }
 
-  turned : (k : Kind) (d : ℕ) (close : Bool) (text : List ℕ) → t.kind ≡ kind_number k → eqb (kind_number k) LeftParen ≡ false → eqb (kind_number k) LeftBracket ≡ false → eqb (kind_number k) Fn ≡ false → eqb (kind_number k) Newline ≡ false
-      → run (arm o i t ts) (state taken out c) ≡ state (braced (kind_number k) d close) text c
+  turned : (k : ℕ) (d : ℕ) (close : Bool) (text : List ℕ) → t.kind ≡ k → eqb k LeftParen ≡ false → eqb k LeftBracket ≡ false → eqb k Fn ≡ false → eqb k Newline ≡ false
+      → run (arm o i t ts) (state taken out c) ≡ state (braced k d close) text c
       → run (turn o i t ts) (state f out c) ≡ state (after_fast_braces true b.closed (place k d close) f) text c
   turned k d close text e p q n l r =
       by_arm_lem o i t ts f out c lead trail σ.shallow σ.no_skip (rw e p) (rw e q) r refl
-      ∙ ap (λ j. state (track_fn_state j (braced (kind_number k) d close)) text c) e
-      ∙ ap (λ g. state g text c) (with_same (set_inline_depth d f) (kind_number k) (sym σ.mid_line) refl (fn_kept f (kind_number k) σ.no_fn n l) refl refl σ.closed)
+      ∙ ap (λ j. state (track_fn_state j (braced k d close)) text c) e
+      ∙ ap (λ g. state g text c) (with_same (set_inline_depth d f) k (sym σ.mid_line) refl (fn_kept f k σ.no_fn n l) refl refl σ.closed)
 
   arm_open : t.kind ≡ LeftBrace → run (arm o i t ts) (state taken out c) ≡ run (left_brace_arm o i t ts) (state taken out c)
   unfolding run
@@ -77,15 +74,15 @@ module _ (o : Options) (i : ℕ) (t : Token) (ts : List Token) (f : Formatter) (
   unfolding run left_brace_arm
   open_arm = rw (σ.no_record, σ.outside, one_line, σ.mid_line, σ.depth, append_assoc out (32 ∷ []) (123 ∷ []))
 
-  opens : t.kind ≡ LeftBrace → run (turn o i t ts) (state f out c) ≡ state (after_fast_braces true b.closed (place kinds.LeftBrace (b.depth + 1) false) f) (out ++ opener_bytes) c
-  opens e = turned kinds.LeftBrace (b.depth + 1) false (out ++ opener_bytes) e refl refl refl refl (arm_open e ∙ open_arm)
+  opens : t.kind ≡ LeftBrace → run (turn o i t ts) (state f out c) ≡ state (after_fast_braces true b.closed (place LeftBrace (b.depth + 1) false) f) (out ++ opener_bytes) c
+  opens e = turned LeftBrace (b.depth + 1) false (out ++ opener_bytes) e refl refl refl refl (arm_open e ∙ open_arm)
 
   arm-close : t.kind ≡ RightBrace → run (arm o i t ts) (state taken out c) ≡ run (right_brace_arm o) (state taken out c)
   unfolding run
   arm-close e = rw e
 
   abbrev gap : List ℕ
-  gap = cond (eqb (kind_number b.prev) LeftBrace) [] space
+  gap = cond (eqb b.prev LeftBrace) [] space
 
   close-arm : run (right_brace_arm o) (state taken out c) ≡ state (braced RightBrace (b.depth - 1) true) (out ++ closer_bytes b.prev) c
   unfolding run right_brace_arm
@@ -93,8 +90,8 @@ module _ (o : Options) (i : ℕ) (t : Token) (ts : List Token) (f : Formatter) (
 
   closes :
       t.kind ≡ RightBrace
-      → run (turn o i t ts) (state f out c) ≡ state (after_fast_braces true b.closed (place kinds.RightBrace (b.depth - 1) true) f) (out ++ closer_bytes b.prev) c
-  closes e = turned kinds.RightBrace (b.depth - 1) true (out ++ closer_bytes b.prev) e refl refl refl refl (arm-close e ∙ close-arm)
+      → run (turn o i t ts) (state f out c) ≡ state (after_fast_braces true b.closed (place RightBrace (b.depth - 1) true) f) (out ++ closer_bytes b.prev) c
+  closes e = turned RightBrace (b.depth - 1) true (out ++ closer_bytes b.prev) e refl refl refl refl (arm-close e ∙ close-arm)
 
 pub open_turns : (b : FastBraces) (len : ℕ) → 0 < b.depth → Turns LeftBrace b opener_bytes (after_opener b len)
 open_turns b len h o i t ts f out c σ e lead trail = opens o i t ts f out c σ lead trail h e

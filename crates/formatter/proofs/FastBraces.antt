@@ -20,12 +20,10 @@ use Rattle.definition.specs.Layout.{finished, lay_from}
 use Rattle.sink.specs.Sink.{Writes}
 use Rattle.sink.proofs.Sink.{later}
 use Rattle.std.specs.Int.{from_bool}
-use Rattle.rows.specs.declared.kind.Kind.{Kind}
-use Rattle.rows.specs.declared.kind.Kind.TheVariants as kinds
-use Rattle.rows.specs.KindNumber.{kind_number}
-use Rattle.std.specs.Prelude.{unwrap_or, min}
+use Rattle.std.specs.Prelude.{min}
 use Rattle.sink.specs.declared.write.Sink.{Sink}
 use Rattle.formatter.specs.CodeState.{Locals, CodeState, prev_of, formatter_of}
+use Rattle.formatter.specs.Token.{kind_of}
 use Rattle.formatter.specs.Format.{only_tokens}
 use Rattle.formatter.specs.FastBraces.{FastBraces, MayStartFastBraces, BeforeFastBraces, after_fast_braces, fast_braces_at, FastBracesLaidOut}
 use Rattle.formatter.proofs.RunEnd.{RowAt, first_at}
@@ -66,7 +64,7 @@ still_before_fast_braces taken close r σ =
     }
 
 module _ {rows l m : List ℕ} {from b : FastBraces} (α : FastBracesSoFar rows from l b m) (here : b.at + 16 ≤ length rows) where
-  module _ {k : ℕ} {xs m' : List ℕ} (r : FastBraces) (kind : (row_at rows b.at).kind ≡ k) (turns : Turns k b xs r) (next : r.at ≡ b.at + 16) (deep : r.depth ≤ b.depth + 1) (fits : b.len + length xs ≤ length m) (w : Writes m b.len xs m' r.len) where
+  module _ {k : ℕ} {xs m' : List ℕ} (r : FastBraces) (kind : (row_at rows b.at).kind ≡ k) (turns : Turns k b xs r) (next : r.at ≡ b.at + 16) (last : r.prev ≤ Other) (deep : r.depth ≤ b.depth + 1) (fits : b.len + length xs ≤ length m) (w : Writes m b.len xs m' r.len) where
     text-fits : length (take r.len m') ≤ length l
     text-fits =
         let u = (w.fits fits).far in
@@ -96,6 +94,7 @@ module _ {rows l m : List ℕ} {from b : FastBraces} (α : FastBracesSoFar rows 
               record {
                 whole = let x = δ.whole in omega arith;
                 within = let x = here in omega arith;
+                last = λ e. last;
                 size = w.size ∙ δ.size;
                 far = let y = δ.far in omega arith;
                 room = omega arith;
@@ -118,23 +117,23 @@ module _ {rows l m : List ℕ} {from b : FastBraces} (α : FastBracesSoFar rows 
       (row : Row) {r : FastBraces} {m' : List ℕ} → row ≡ row_at rows b.at → min row.kind Other ≡ LeftBrace → 0 < b.depth → 2 ≤ length m - b.len
       → Writes m b.len opener_bytes m' r.len × (r ≡ after_opener b r.len) → FastBracesSoFar rows from l r m'
   goes_open row {r} {m'} e k d f w =
-      rw w.1 (more _ (rw e at (read LeftBrace (omega arith) k)) (open_turns b r.len d) refl (omega arith) (let x = α.done.room in omega arith) w.0)
+      rw w.1 (more _ (rw e at (read LeftBrace (omega arith) k)) (open_turns b r.len d) refl (omega arith) (omega arith) (let x = α.done.room in omega arith) w.0)
 
   closer-fits : 2 ≤ length m - b.len → b.len + length (closer_bytes b.prev) ≤ length m
   closer-fits f =
       let x = α.done.room in
-      split (eqb (kind_number b.prev) LeftBrace) (λ e. rw e (omega arith)) (λ e. rw e (omega arith))
+      split (eqb b.prev LeftBrace) (λ e. rw e (omega arith)) (λ e. rw e (omega arith))
 
   pub goes_close :
       (row : Row) {r : FastBraces} {m' : List ℕ} → row ≡ row_at rows b.at → min row.kind Other ≡ RightBrace → 0 < b.depth → 2 ≤ length m - b.len
       → Writes m b.len (closer_bytes b.prev) m' r.len × (r ≡ after_closer b r.len) → FastBracesSoFar rows from l r m'
   goes_close row {r} {m'} e k d f w =
-      rw w.1 (more _ (rw e at (read RightBrace (omega arith) k)) (close_turns b r.len d) refl (omega arith) (closer-fits f) w.0)
+      rw w.1 (more _ (rw e at (read RightBrace (omega arith) k)) (close_turns b r.len d) refl (omega arith) (omega arith) (closer-fits f) w.0)
 
 -- ---- where they begin
 
 pub before_fast_braces :
-    (p : CodeState) → MayStartFastBraces p.form → (at : ℕ) (x : Locals) → prev_of p.form.prev ≡ some (kind_number (unwrap_or p.form.prev kinds.Eof)) → x.skip_next ≡ false → x.too_deep ≡ none
+    (p : CodeState) → MayStartFastBraces p.form → (at : ℕ) (x : Locals) → prev_of p.form.prev ≡ some (kind_of p.form.prev) → x.skip_next ≡ false → x.too_deep ≡ none
     → BeforeFastBraces (formatter_of p.form x) (fast_braces_at p at)
 before_fast_braces p ν at x q s d =
     record {
@@ -150,5 +149,5 @@ before_fast_braces p ν at x q s d =
     }
 
 -- The bytes of a `}` after the last kind.
-pub closer_is : (k : Kind) {n : ℕ} → n ≡ from_bool (not (eqb (kind_number k) LeftBrace)) → replicate n 32 ++ (125 ∷ []) ≡ closer_bytes k
-closer_is k e = split (eqb (kind_number k) LeftBrace) (λ h. rw (e, h)) (λ h. rw (e, h))
+pub closer_is : (k : ℕ) {n : ℕ} → n ≡ from_bool (not (eqb k LeftBrace)) → replicate n 32 ++ (125 ∷ []) ≡ closer_bytes k
+closer_is k e = split (eqb k LeftBrace) (λ h. rw (e, h)) (λ h. rw (e, h))

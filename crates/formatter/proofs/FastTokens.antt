@@ -30,9 +30,6 @@ use Rattle.sink.specs.Appends.{Appends}
 use Rattle.spaces.specs.Between.{loose_after, bit, spaces}
 use Rattle.spaces.proofs.Pairs.{bit-few}
 use Rattle.sink.proofs.Sink.{later}
-use Rattle.rows.specs.declared.kind.Kind.TheVariants as kinds
-use Rattle.std.specs.Prelude.{unwrap_or}
-use Rattle.formatter.proofs.Numbered.{kind_few}
 use Rattle.formatter.specs.declared.Formatter as code
 use Rattle.std.specs.declared.option.Option.{Option}
 use Rattle.std.specs.declared.option.Option.TheVariants.{None, Some}
@@ -159,6 +156,7 @@ module _ {rows text l k : List ℕ} {from n before at len fast prev : ℕ} {m₀
             record {
               whole = let x = δ.whole in omega arith;
               head = bare_row_boundary ω α.head h λ₁;
+              last = row_known ω α.head h (row_at rows at) refl;
               group = let g = δ.group in omega (arith, less_group kind m.group_depth);
               size = w.size ∙ δ.size;
               far = let y = δ.far in omega arith;
@@ -230,15 +228,15 @@ pub record FastTokensLoop (rows text : List ℕ) (f g : CodeState) (from fast ch
 
 -- Before the first fast token.
 pub starts :
-    {rows text : List ℕ} {f : CodeState} {from fast change after prev spaced : ℕ} → TokenBoundary rows text from → f.sink.len ≤ length f.sink.out.now → prev ≡ last_kind f.form
+    {rows text : List ℕ} {f : CodeState} {from fast change after prev spaced : ℕ} → TokenBoundary rows text from → f.sink.len ≤ length f.sink.out.now → last_kind f.form ≤ Other → prev ≡ last_kind f.form
     → change ≡ changing_kinds (fn_number f.form.fn_state) f.form.record_pending → after ≡ loose_after Other f.form.prev_minus_is_unary → spaced ≡ bit after prev
     → FastTokensLoop rows text f f from fast change after from prev spaced
-starts {f = f} {from} head within e c a z =
+starts {f = f} {from} head within known e c a z =
     let none_yet : ltb from from ≡ false = le-ltb from from (omega arith) in
     record {
       so_far =
           rw e (record {
-            known = kind_few (unwrap_or f.form.prev kinds.Eof);
+            known = known;
             room = within;
             size = refl;
             head = head;
@@ -246,6 +244,7 @@ starts {f = f} {from} head within e c a z =
                 record {
                   whole = omega arith;
                   head = head;
+                  last = known;
                   group = omega arith;
                   size = refl;
                   far = omega arith;

@@ -28,10 +28,10 @@ use Rattle.formatter.specs.declared.Finished.{Finished}
 use Rattle.formatter.specs.declared.WalkError.{WalkError}
 use Rattle.formatter.specs.CodeState.{Locals, Given, CodeState, state_of, locals_of, options_of, given}
 use Rattle.formatter.specs.Does.{Does, Arrives}
-use Rattle.formatter.specs.Token.{depth_of}
+use Rattle.formatter.specs.Token.{depth_of, kind_of}
 use Rattle.formatter.specs.Format.{TokenBoundary, Fresh, CheckedRows, walk_of, formatted_of, pushed_of, error_of, LaidOut, next_row, own_row}
 use Rattle.formatter.proofs.Does.{far}
-use Rattle.formatter.proofs.Pushed.{depth-signature}
+use Rattle.formatter.proofs.Pushed.{depth-signature, kinds_same}
 use Rattle.formatter.proofs.Place.{head_first, token_here, tokens_next, tokens_here, tokens_next_lem, head-next, kind_here}
 use Rattle.formatter.proofs.BareRow.{lay-more}
 
@@ -94,6 +94,10 @@ pub record Going (z : Given) (l₀ : List ℕ) (i at : ℕ) (x : Locals) (p : Co
   pub shallow : x.too_deep ≡ none
   pub told : Told (state_of x p).formatter
   pub counts : AtMost (20 * i) p.form
+
+-- The last kind is a kind.
+pub last_few : {z : Given} {l₀ : List ℕ} {i at : ℕ} {x : Locals} {p : CodeState} → Going z l₀ i at x p → kind_of p.form.prev ≤ 34
+last_few {p = p} γ = rw (kinds_same p.form.prev) at γ.told.last
 
 fresh_state : {f : CodeState} → Fresh f.form f.sink → state_of (locals_of Formatter.new) f ≡ begun
 fresh_state φ = rw (φ.new, φ.empty, φ.none)

@@ -19,15 +19,16 @@ use Rattle.definition.specs.Emit.{track_fn_state, trailing_trivia, leading_trivi
 use Rattle.definition.specs.PushToken.{arm, overflows, turn, take_inline_close}
 use Rattle.definition.specs.Layout.{checked}
 use Rattle.definition.proofs.Growth.{depth}
+use Rattle.definition.proofs.Last
 use Rattle.formatter.specs.declared.TokenAt.{TokenAt}
 use Rattle.formatter.specs.declared.WalkError.{WalkError}
 use Rattle.formatter.specs.declared.WalkError.TheVariants.{Deep, Full}
 use Rattle.std.specs.declared.option.Option.{Option}
 use Rattle.std.specs.declared.option.Option.TheVariants.{None, Some}
 use Rattle.formatter.specs.declared.SignatureDepth.{SignatureDepth}
-use Rattle.formatter.specs.CodeState.{Locals, Given, CodeState, code_state, state_of, locals_of, formatter_of, fields_of, options_of, signature_of, given}
+use Rattle.formatter.specs.CodeState.{Locals, Given, CodeState, code_state, state_of, locals_of, formatter_of, fields_of, options_of, prev_of, signature_of, given}
 use Rattle.formatter.specs.Does.{Does, Done, Arrives, Same}
-use Rattle.formatter.specs.Token.{Ready, HasRows, HasEnds, InRows, Ahead, AtToken, StandsFor, depth_of}
+use Rattle.formatter.specs.Token.{Ready, HasRows, HasEnds, InRows, Ahead, AtToken, StandsFor, depth_of, kind_of}
 use Rattle.formatter.specs.Trivia.{WholeRows, trivia_in, lead_token}
 use Rattle.formatter.specs.Parts.{returns_early}
 use Rattle.formatter.specs.Format.{HasToken, TokenPushed, pushed_of, CheckedRows, TokenBoundary, TokenRows}
@@ -70,6 +71,11 @@ pub record Calls (z : Given) (token : TokenAt) (f g : CodeState) (r close b : Bo
 -- No locals are set.
 abbrev pub quiet : Locals
 quiet = record { inline_close = false; returned = false; skip_next = false; too_deep = none }
+
+-- The last kind as a number, of the code's field and of the definition's.
+pub kinds_same : (p : Option ℕ) → Last.kind_of (prev_of p) ≡ kind_of p
+kinds_same None = refl
+kinds_same (Some k) = refl
 
 pub depth-signature : (b : Option SignatureDepth) → depth (signature_of b) ≡ depth_of b
 depth-signature None = refl
@@ -286,6 +292,7 @@ module _ {token : TokenAt} {p : CodeState} (θ : HasToken token p.form p.sink) w
           let inline : g.form.inline_depth.0 ≡ p.form.inline_depth.0 = kept (λ v. v.inline_depth) s.inline_depth in
           let records : g.form.record_depth.0 ≡ p.form.record_depth.0 = kept (λ v. v.record_depth) s.record_depth in
           let signature : depth_of g.form.sig_break_depth ≡ depth_of p.form.sig_break_depth = sym (depth-signature g.form.sig_break_depth) ∙ kept (λ v. depth v.sig_break_depth) (ap depth s.sig_break_depth) ∙ depth-signature p.form.sig_break_depth in
+          let last : kind_of g.form.prev ≡ kind_of p.form.prev = sym (kinds_same g.form.prev) ∙ kept (λ v. Last.kind_of v.prev) (ap Last.kind_of s.prev) ∙ kinds_same p.form.prev in
           record {
             fits = record { within = room; width = rw width c.fits.width; indent = rw indent c.fits.indent };
             group = rw group c.group;
@@ -293,6 +300,7 @@ module _ {token : TokenAt} {p : CodeState} (θ : HasToken token p.form p.sink) w
             records = rw records c.records;
             signature = rw signature c.signature;
             commas = rw commas-same c.commas;
+            last = rw last c.last;
           }
 
       pub rows_there : HasRows token g.form

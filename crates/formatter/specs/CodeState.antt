@@ -13,8 +13,6 @@ use Rattle.row_writers.specs.declared.Source.{Source}
 use Rattle.sink.specs.declared.write.Sink.{Sink}
 use Rattle.formatter.specs.declared.BraceStyle.{BraceStyle}
 use Rattle.formatter.specs.declared.BraceStyle.TheVariants.{SameLine, Allman}
-use Rattle.rows.specs.declared.kind.Kind.{Kind}
-use Rattle.rows.specs.KindNumber.{kind_number}
 use Rattle.formatter.specs.declared.SignatureDepth.{SignatureDepth}
 use Rattle.formatter.specs.declared.FnState.{FnState}
 
@@ -26,8 +24,8 @@ option_of f None = none
 option_of f (Some x) = some (f x)
 
 -- The last token's kind, if there was a token.
-abbrev pub prev_of : Prelude.Option Kind → Option ℕ
-prev_of p = option_of kind_number p
+abbrev pub prev_of : Prelude.Option ℕ → Option ℕ
+prev_of p = option_of (λ k. k) p
 
 -- The index of the Newline to swallow, if there is one.
 abbrev pub newline_of : Prelude.Option ℕ → Option ℕ

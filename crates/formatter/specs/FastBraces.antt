@@ -1,11 +1,9 @@
 -- Fast braces: the braces of a one-line block, which a tight loop lays out. It is a second form of their arms, and is proved
 -- equal: the definition's walk goes on after them as it would have from their start.
 -- Assumes nothing.
-use Rattle.std.specs.Prelude.{Bool, true, false, cond, not, ◌&&◌, List, ◌≡◌, ℕ, ◌+◌, ◌-◌, ◌*◌, ◌/◌, ◌≤◌, ltb, length, take, drop, unwrap_or}
+use Rattle.std.specs.Prelude.{Bool, true, false, cond, not, ◌&&◌, List, ◌≡◌, ℕ, ◌+◌, ◌-◌, ◌*◌, ◌/◌, ◌≤◌, ltb, length, take, drop}
 use Rattle.std.proofs.Math.Option.{none, some}
-use Rattle.rows.specs.declared.kind.Kind.{Kind}
-use Rattle.rows.specs.declared.kind.Kind.TheVariants as kinds
-use Rattle.rows.specs.KindNumber.{kind_number}
+use Rattle.rows.specs.Kinds.{Other}
 use Rattle.rows.specs.Options.{Options}
 use Rattle.rows.specs.Row.{row_size}
 use Rattle.rows.specs.Token.{tokens_of}
@@ -14,6 +12,7 @@ use Rattle.definition.specs.Act.{state}
 use Rattle.definition.specs.Layout.{finished, lay_from}
 use Rattle.formatter.specs.declared.Formatter as code
 use Rattle.formatter.specs.CodeState.{CodeState, fn_number}
+use Rattle.formatter.specs.Token.{kind_of}
 use Rattle.formatter.specs.FastTokens.{ChangedBy}
 
 -- ---- before fast braces
@@ -31,7 +30,7 @@ pub record MayStartFastBraces (f : code.Formatter) : Type 0 where
 pub record FastBraces : Type 0 where
   pub at : ℕ
   pub len : ℕ
-  pub prev : Kind
+  pub prev : ℕ
   pub depth : ℕ
   pub closed : Bool
 
@@ -41,7 +40,7 @@ fast_braces_at p at =
     record {
       at = at;
       len = p.sink.len;
-      prev = unwrap_or p.form.prev kinds.Eof;
+      prev = kind_of p.form.prev;
       depth = p.form.inline_depth.0;
       closed = p.form.just_closed_inline;
     }
@@ -49,7 +48,7 @@ fast_braces_at p at =
 -- What is asked of the definition's formatter f at the place b.
 pub record BeforeFastBraces (f : Formatter) (b : FastBraces) : Type 0 where
   pub mid_line : f.at_line_start ≡ false
-  pub prev : f.prev ≡ some (kind_number b.prev)
+  pub prev : f.prev ≡ some b.prev
   pub no_fn : f.fn_state ≡ 0
   pub no_record : f.record_pending ≡ false
   pub outside : f.in_record ≡ false
@@ -63,7 +62,7 @@ pub record BeforeFastBraces (f : Formatter) (b : FastBraces) : Type 0 where
 -- The definition's formatter f with the fields of the place b.
 abbrev pub with_fast_braces : FastBraces → Formatter → Formatter
 with_fast_braces b f =
-    set_prev (some (kind_number b.prev)) (set_inline_depth b.depth (set_just_closed_inline b.closed f))
+    set_prev (some b.prev) (set_inline_depth b.depth (set_just_closed_inline b.closed f))
 
 -- The same with the locals: `taken` says whether there was a brace, and `close` is what the last one took.
 abbrev pub after_fast_braces : Bool → Bool → FastBraces → Formatter → Formatter
@@ -75,6 +74,7 @@ after_fast_braces taken close b f =
 pub record FastBracesLaidOut (rows : List ℕ) (b : FastBraces) (l m : List ℕ) (r : FastBraces) : Type 0 where
   pub whole : r.at ≡ b.at + row_size * ((r.at - b.at) / row_size)
   pub within : r.at ≤ length rows
+  pub last : b.prev ≤ Other → r.prev ≤ Other
   pub size : length m ≡ length l
   pub far : b.len ≤ r.len
   pub room : r.len ≤ length m

@@ -1,11 +1,10 @@
 -- Fast tokens: those that only write their lexeme, and a space before it, and that a tight loop lays out. It is a second form of
 -- their arms, and is proved equal: the definition's walk goes on after them as it would have from their start.
 -- Assumes nothing.
-use Rattle.std.specs.Prelude.{Bool, true, false, cond, not, ◌&&◌, ◌||◌, List, [], ◌≡◌, ℕ, ◌+◌, ◌-◌, ◌*◌, ◌/◌, ◌≤◌, ◌<◌, eqb, leb, ltb, length, take, drop, unwrap_or}
+use Rattle.std.specs.Prelude.{Bool, true, false, cond, not, ◌&&◌, ◌||◌, List, [], ◌≡◌, ℕ, ◌+◌, ◌-◌, ◌*◌, ◌/◌, ◌≤◌, ◌<◌, eqb, leb, ltb, length, take, drop}
 use Rattle.std.proofs.Math.Option.{none, some}
 use Rattle.rows.specs.Kinds.{Leading, Trailing, RightBrace, RightParen, RightBracket, Comma, Hash, Minus}
 use Rattle.rows.specs.Kinds.{Else, Fn, Record, Identifier, Other}
-use Rattle.rows.specs.KindNumber.{kind_number}
 use Rattle.rows.specs.Row.{row_size, row_at, rows_of}
 use Rattle.rows.specs.Options.{Options}
 use Rattle.rows.specs.Token.{tokens_of}
@@ -18,9 +17,9 @@ use Rattle.definition.specs.Arms.{at_record_fields, in_broken_list}
 use Rattle.definition.specs.Layout.{finished, lay_from}
 use Rattle.spaces.specs.Between.{bit}
 use Rattle.formatter.specs.declared.Formatter as code
-use Rattle.rows.specs.declared.kind.Kind.TheVariants.{Eof}
 use Rattle.formatter.specs.CodeState.{Locals, CodeState, fn_number, prev_of, signature_of, fields_of, formatter_of, given}
 use Rattle.formatter.specs.Does.{Same}
+use Rattle.formatter.specs.Token.{kind_of}
 use Rattle.formatter.specs.Format.{TokenBoundary, run_rows}
 
 -- ---- the kinds
@@ -189,6 +188,7 @@ pub record FastTokensLaidOut
     (rows text : List ℕ) (from n prev : ℕ) (m : FastState) (t : FastKinds) (l k : List ℕ) (r : FastTokens) : Type 0 where
   pub whole : r.at ≡ from + row_size * ((r.at - from) / row_size)
   pub head : TokenBoundary rows text r.at
+  pub last : r.prev ≤ Other
   pub group : r.state.group_depth ≤ m.group_depth
   pub size : length k ≡ length l
   pub far : n ≤ r.len
@@ -203,7 +203,7 @@ pub record FastTokensLaidOut
 
 -- The last kind, as a number; 0 where there was no token.
 abbrev pub last_kind : code.Formatter → ℕ
-last_kind f = kind_number (unwrap_or f.prev Eof)
+last_kind f = kind_of f.prev
 
 -- From the row at `from`, the code's state p comes to q at the row at `at`.
 pub record LaysFastTokens (p : CodeState) (from at : ℕ) (q : CodeState) : Type 0 where

@@ -4,7 +4,6 @@ use Rattle.std.specs.Prelude.{Bool, true, false, cond, not, ◌&&◌, ◌||◌, 
 use Rattle.std.specs.Prelude
 use Rattle.std.proofs.Math.Option.{some, map}
 use Rattle.rows.specs.Kinds.{LeftBrace, RightBrace, RightParen, RightBracket}
-use Rattle.rows.specs.declared.kind.Kind.{Kind}
 use Rattle.rows.specs.Options.{Options}
 use Rattle.rows.specs.Token.{Token}
 use Rattle.lookahead.specs.Measure.{is_empty, next_has_comment, block_is_single_line}
@@ -92,5 +91,5 @@ returns_early t ts f =
     (eqb t.kind RightBracket && in_broken_list f))
 
 -- Whether the token took the next one along: `record E {}` does, and no other `{` leaves `}` as the last kind.
-abbrev pub took_next : ℕ → Prelude.Option Kind → Bool
+abbrev pub took_next : ℕ → Prelude.Option ℕ → Bool
 took_next kind prev = eqb kind LeftBrace && is_at (prev_of prev) RightBrace

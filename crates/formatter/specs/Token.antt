@@ -1,6 +1,6 @@
 -- What the methods ask of the state and of a token, and the definition's token that the code's token stands for.
 -- Assumes nothing.
-use Rattle.std.specs.Prelude.{true, List, [], ◌∷◌, ◌≡◌, ℕ, ◌+◌, ◌≤◌, ◌<◌, length, drop, Option, None, Some}
+use Rattle.std.specs.Prelude.{true, List, [], ◌∷◌, ◌≡◌, ℕ, ◌+◌, ◌≤◌, ◌<◌, length, drop, Option, None, Some, unwrap_or}
 use Rattle.shared.specs.Numbers.{most32}
 use Rattle.rows.specs.Kinds.{Comma, RightBrace, Other}
 use Rattle.rows.specs.Options.{most_indent_width}
@@ -15,6 +15,10 @@ use Rattle.formatter.specs.declared.TokenAt.{TokenAt}
 use Rattle.formatter.specs.declared.SignatureDepth.{SignatureDepth}
 
 -- ---- the state
+
+-- The last token's kind; 0 where there is none.
+abbrev pub kind_of : Option ℕ → ℕ
+kind_of p = unwrap_or p 0
 
 -- The paren depth inside a broken signature; outside one, 0.
 abbrev pub depth_of : Option SignatureDepth → ℕ
@@ -34,7 +38,12 @@ pub record CanWrite (f : Formatter) (s : Sink) : Type 0 where
   pub width : f.options.indent_width ≤ most_indent_width
   pub indent : f.indent < most32
 
--- What an arm asks: the text fits so far, and each count may grow by one.
+-- What a lexeme asks besides: the last kind is a kind.
+pub record CanWriteLexeme (f : Formatter) (s : Sink) : Type 0 where
+  pub fits : CanWrite f s
+  pub last : kind_of f.prev ≤ Other
+
+-- What an arm asks: the text fits so far, each count may grow by one, and the last kind is a kind.
 pub record Ready (f : Formatter) (s : Sink) : Type 0 where
   pub fits : CanWrite f s
   pub group : f.group_depth.0 < most32
@@ -42,6 +51,7 @@ pub record Ready (f : Formatter) (s : Sink) : Type 0 where
   pub records : f.record_depth.0 < most32
   pub signature : depth_of f.sig_break_depth < most32
   pub commas : f.commas < most32
+  pub last : kind_of f.prev ≤ Other
 
 -- What a lexeme leaves as it was.
 pub record Kept (f g : Formatter) : Type 0 where

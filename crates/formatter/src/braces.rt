@@ -49,7 +49,7 @@ impl<'a> Formatter<'a> {
         self.inline_depth.0 = self.inline_depth.0.saturating_sub(1);
         self.just_closed_inline = true;
         self.at_line_start = false;
-        self.prev = Some(Kind::RightBrace);
+        self.prev = Some(Kind::RightBrace as u32);
     }
 
     // How many spaces stand before the `}` of a one-line block: `{ style = 0 }` keeps its inner spaces, and
@@ -81,7 +81,7 @@ impl<'a> Formatter<'a> {
         self.in_record = false;
         self.record_depth = RecordDepth(0);
         self.at_line_start = false;
-        self.prev = Some(Kind::RightBrace);
+        self.prev = Some(Kind::RightBrace as u32);
     }
 
     // Whether a comma is inserted before a record's `}`: not if the record is empty or has one.
@@ -102,7 +102,7 @@ impl<'a> Formatter<'a> {
         sink.write_closer(false, self.at_line_start, spaces, b'}');
         self.record_depth = self.record_depth_outside();
         self.at_line_start = false;
-        self.prev = Some(Kind::RightBrace);
+        self.prev = Some(Kind::RightBrace as u32);
     }
 
     // `record_depth` after a `}` that closes a block over several lines.
@@ -162,7 +162,7 @@ impl<'a> Formatter<'a> {
             Tail::Braces,
         );
         self.at_line_start = false;
-        self.prev = Some(Kind::RightBrace);
+        self.prev = Some(Kind::RightBrace as u32);
         self.record_pending = false;
     }
 
@@ -220,7 +220,7 @@ impl<'a> Formatter<'a> {
         sink.write_brace(1, b'{');
         self.indent += 1;
         self.at_line_start = false;
-        self.prev = Some(Kind::LeftBrace);
+        self.prev = Some(Kind::LeftBrace as u32);
     }
 
     // Writes a `{` on a line of its own.
@@ -235,7 +235,7 @@ impl<'a> Formatter<'a> {
         self.indent += 1;
         self.suppress_newline_at = Some(index + 1);
         self.at_line_start = true;
-        self.prev = Some(Kind::LeftBrace);
+        self.prev = Some(Kind::LeftBrace as u32);
     }
 
     // Opens a one-line block, or a block inside one.
@@ -251,7 +251,7 @@ impl<'a> Formatter<'a> {
         }
         self.inline_depth.0 += 1;
         self.at_line_start = false;
-        self.prev = Some(Kind::LeftBrace);
+        self.prev = Some(Kind::LeftBrace as u32);
     }
 
     // Whether the `{` of a block inside a one-line block is left out: format.rs writes none at a line's

@@ -13,8 +13,8 @@ ghost use Rattle.definition.specs.PushToken.{overflows};
 ghost use Rattle.formatter.specs.CodeState.{fields_of, options_of, signature_of};
 ghost use Rattle.formatter.specs.Does.{Puts};
 ghost use Rattle.formatter.specs.Stack.{stack_size};
-ghost use Rattle.formatter.specs.Token.{CanWrite, Ready, HasRows, HasEnds, AtToken, AtTokenOf};
-ghost use Rattle.formatter.specs.Token.{bare_token, lexeme_of, depth_of};
+ghost use Rattle.formatter.specs.Token.{CanWrite, CanWriteLexeme, Ready, HasRows, HasEnds};
+ghost use Rattle.formatter.specs.Token.{AtToken, AtTokenOf, bare_token, lexeme_of, depth_of};
 ghost use Rattle.formatter.specs.Parts.{closes_signature, close_list};
 
 use crate::{FnState, Formatter, SignatureDepth, TokenAt};
@@ -108,7 +108,7 @@ impl<'a> Formatter<'a> {
         self.sig_break_depth = Some(SignatureDepth(1));
         self.suppress_newline_at = Some(index + 1);
         self.at_line_start = false;
-        self.prev = Some(Kind::LeftParen);
+        self.prev = Some(Kind::LeftParen as u32);
         self.group_depth.0 += 1;
     }
 
@@ -130,7 +130,7 @@ impl<'a> Formatter<'a> {
 
     // Opens a group that stays on its line. `kind` is the token's, a constant in each call.
     fn open_group(&mut self, sink: &mut Sink, token: TokenAt, kind: Kind)
-        requires can_write { CanWrite self.old sink.old × (self.old.group_depth.0 < most32) }
+        requires can_write_lexeme { CanWriteLexeme self.old sink.old × (self.old.group_depth.0 < most32) }
         requires in_rows { HasRows token self.old × (kind_number kind ≡ token.kind) }
         ensures { Puts (open_group (options_of self.old.options)
             (bare_token (kind_number kind) (lexeme_of token self.old))) self.old sink.old self.new sink.new }
@@ -201,7 +201,7 @@ impl<'a> Formatter<'a> {
         self.indent = self.indent.saturating_sub(1);
         self.group_depth.0 = self.group_depth.0.saturating_sub(1);
         self.at_line_start = false;
-        self.prev = Some(Kind::RightParen);
+        self.prev = Some(Kind::RightParen as u32);
     }
 
     // Writes the closer of a broken list, of this kind, and a comma before it where one is wanted.
@@ -217,12 +217,12 @@ impl<'a> Formatter<'a> {
         self.commas += count_comma(wanted);
         self.group_depth.0 = self.group_depth.0.saturating_sub(1);
         self.at_line_start = false;
-        self.prev = Some(kind);
+        self.prev = Some(kind as u32);
     }
 
     // Writes the closer of a group that stays on its line. `kind` is the token's, a constant in each call.
     fn close_group(&mut self, sink: &mut Sink, token: TokenAt, kind: Kind)
-        requires can_write { CanWrite self.old sink.old }
+        requires can_write_lexeme { CanWriteLexeme self.old sink.old }
         requires in_rows { HasRows token self.old × (kind_number kind ≡ token.kind) }
         ensures { Puts (close_group (options_of self.old.options)
             (bare_token (kind_number kind) (lexeme_of token self.old))) self.old sink.old self.new sink.new }
@@ -259,7 +259,7 @@ impl<'a> Formatter<'a> {
             sink.write_comma_line();
             self.suppress_newline_at = Some(token.index + 1);
             self.at_line_start = true;
-            self.prev = Some(Kind::Comma);
+            self.prev = Some(Kind::Comma as u32);
         } else {
             self.push_lexeme(sink, token, Kind::Comma);
         }

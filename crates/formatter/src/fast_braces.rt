@@ -51,7 +51,7 @@ impl<'a> Formatter<'a> {
         ensures { LaysFastBraces (code_state self.old sink.old) from result (code_state self.new sink.new) }
     {
         let mut at = from;
-        let mut prev = self.prev.unwrap_or(Kind::Eof);
+        let mut prev = self.prev.unwrap_or(Kind::Eof as u32);
         let mut depth = self.inline_depth.0;
         let mut closed = self.just_closed_inline;
         for row in Rows::of(&self.rows[from..]) {
@@ -61,13 +61,13 @@ impl<'a> Formatter<'a> {
             match row.token_kind() {
                 Kind::LeftBrace => {
                     sink.put_token(1, b"{", 0, 1);
-                    prev = Kind::LeftBrace;
+                    prev = Kind::LeftBrace as u32;
                     depth += 1;
                     closed = false;
                 }
                 Kind::RightBrace => {
-                    sink.put_token(usize::from(prev != Kind::LeftBrace), b"}", 0, 1);
-                    prev = Kind::RightBrace;
+                    sink.put_token(usize::from(prev != Kind::LeftBrace as u32), b"}", 0, 1);
+                    prev = Kind::RightBrace as u32;
                     depth -= 1;
                     closed = true;
                 }

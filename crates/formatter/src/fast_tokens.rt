@@ -6,6 +6,7 @@ ghost use Rattle.spaces.specs.Between.{bit};
 ghost use Rattle.rows.specs.Row.{row_size};
 ghost use Rattle.definition.specs.Emit.{is_some};
 ghost use Rattle.formatter.specs.CodeState.{code_state, fn_number, signature_of};
+ghost use Rattle.formatter.specs.Token.{kind_of};
 ghost use Rattle.formatter.specs.Format.{CheckedRows, TokenBoundary, RowsLeft, NoTriviaIf};
 ghost use Rattle.formatter.specs.FastTokens.{MayStartFastTokens, BareRow, RowAhead, IsFastToken};
 ghost use Rattle.formatter.specs.FastTokens.{LaysFastTokens, TracksFastToken};
@@ -68,6 +69,7 @@ impl<'a> Formatter<'a> {
     pub fn push_fast_tokens(&mut self, sink: &mut Sink, from: usize) -> usize
         requires len_in_bounds { sink.old.len ≤ length sink.old.out.now }
         requires checked { CheckedRows self.old.rows.now self.old.text.now }
+        requires last_bound { kind_of self.old.prev ≤ Other }
         requires token_boundary { TokenBoundary self.old.rows.now self.old.text.now from }
         requires no_trivia_if { NoTriviaIf self.old.bare self.old.rows.now }
         ensures { LaysFastTokens (code_state self.old sink.old) from result (code_state self.new sink.new) }
@@ -79,7 +81,7 @@ impl<'a> Formatter<'a> {
         let mut changing = changing_kinds(self.fn_state, self.record_pending);
         let mut loose = loose_after(Kind::Other as u32, self.prev_minus_is_unary);
         let mut at = from;
-        let mut prev = self.prev.unwrap_or(Kind::Eof) as u32;
+        let mut prev = self.prev.unwrap_or(Kind::Eof as u32);
         let mut spaced = bit(loose, prev);
         // No iterator over rows: the row after the one at hand is looked at too, and the index is the answer.
         while is_fast_token(fast, rows, at, bare, sink.room(), spaced) {
@@ -95,7 +97,7 @@ impl<'a> Formatter<'a> {
             spaced = bit(loose, prev);
             at += ROW_BYTES;
         }
-        self.prev = Some(Kind::of(prev));
+        self.prev = Some(prev);
         at
     }
 

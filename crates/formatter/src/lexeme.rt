@@ -1,6 +1,6 @@
 // The arms of `else` and of all other tokens, `push_lexeme`, `emit_token_text` and `track_fn_state`.
-ghost use Rattle.std.specs.Prelude.{cond, ◌&&◌, ◌||◌, ◌≡◌, ◌<◌, eqb};
-ghost use Rattle.rows.specs.Kinds.{Else, Record, Identifier};
+ghost use Rattle.std.specs.Prelude.{cond, ◌&&◌, ◌||◌, ◌≡◌, ◌≤◌, ◌<◌, eqb};
+ghost use Rattle.rows.specs.Kinds.{Else, Record, Identifier, Other};
 ghost use Rattle.rows.specs.KindNumber.{kind_number};
 ghost use Rattle.definition.specs.Act.{update};
 ghost use Rattle.definition.specs.Emit.{track_fn_state, track_minus, push_lexeme};
@@ -10,8 +10,8 @@ ghost use Rattle.sink.specs.Sink.{past_gap};
 ghost use Rattle.sink.specs.declared.write.Sink.{Sink};
 ghost use Rattle.formatter.specs.CodeState.{Locals, code_state, fields_of, fn_number, formatter_of, options_of};
 ghost use Rattle.formatter.specs.Does.{Does, Puts};
-ghost use Rattle.formatter.specs.Token.{CanWrite, Ready, HasRows, Kept, IndentBounds, AtToken};
-ghost use Rattle.formatter.specs.Token.{bare_token, lexeme_of};
+ghost use Rattle.formatter.specs.Token.{CanWriteLexeme, Ready, HasRows, Kept, IndentBounds, AtToken};
+ghost use Rattle.formatter.specs.Token.{bare_token, kind_of, lexeme_of};
 ghost use Rattle.formatter.specs.Parts.{gap_size, indent_or_space_size, emit_tail};
 
 use crate::{FnState, Formatter, TokenAt};
@@ -35,7 +35,7 @@ impl<'a> Formatter<'a> {
             let spaces = self.indent_size();
             sink.write_else(spaces);
             self.at_line_start = false;
-            self.prev = Some(Kind::Else);
+            self.prev = Some(Kind::Else as u32);
         } else {
             self.push_lexeme(sink, token, Kind::Else);
         }
@@ -68,7 +68,7 @@ impl<'a> Formatter<'a> {
     // token's, a constant in most arms: read from the token here, functions take 5 in 100 more, and the small
     // list misses its bar.
     pub fn push_lexeme(&mut self, sink: &mut Sink, token: TokenAt, kind: Kind)
-        requires can_write { CanWrite self.old sink.old }
+        requires can_write_lexeme { CanWriteLexeme self.old sink.old }
         requires in_rows { HasRows token self.old × (kind_number kind ≡ token.kind) }
         ensures does { Puts (push_lexeme (options_of self.old.options)
             (bare_token (kind_number kind) (lexeme_of token self.old))) self.old sink.old self.new sink.new }
@@ -82,7 +82,7 @@ impl<'a> Formatter<'a> {
     // Writes the spaces, the token's lexeme and the tail after it, and tracks `prev`; it does not track
     // whether a `-` is unary.
     pub fn emit_token_text(&mut self, sink: &mut Sink, token: TokenAt, kind: Kind, tail: Tail)
-        requires can_write { CanWrite self.old sink.old }
+        requires can_write_lexeme { CanWriteLexeme self.old sink.old }
         requires in_rows { HasRows token self.old × (kind_number kind ≡ token.kind) }
         ensures does { Puts (emit_tail (options_of self.old.options)
             (bare_token (kind_number kind) (lexeme_of token self.old)) (tail_bytes tail))
@@ -101,12 +101,13 @@ impl<'a> Formatter<'a> {
             tail,
         );
         self.at_line_start = false;
-        self.prev = Some(kind);
+        self.prev = Some(kind as u32);
     }
 
     // How many spaces stand before a token of this kind: the indent at a line's start, else one or none.
     pub fn gap_before(&self, kind: Kind) -> usize
-        requires { IndentBounds self.now }
+        requires indent_bounds { IndentBounds self.now }
+        requires kind_bound { kind_of self.now.prev ≤ Other }
         ensures { (result ≡ gap_size (options_of self.now.options) (kind_number kind) (fields_of self.now))
             × (result < past_gap) }
     {
@@ -118,7 +119,7 @@ impl<'a> Formatter<'a> {
             Some(prev) => {
                 spaces_between(
                     loose_after(kind as u32, self.prev_minus_is_unary),
-                    prev,
+                    Kind::of(prev),
                     kind,
                 )
             }
@@ -142,7 +143,7 @@ impl<'a> Formatter<'a> {
         ensures { result ≡ (track_minus (kind_number kind) (fields_of self.now)).prev_minus_is_unary }
     {
         if kind == Kind::Minus {
-            !self.prev.is_some_and(|prev| is_value_kind(prev as u32))
+            !self.prev.is_some_and(|prev| is_value_kind(prev))
         } else {
             self.prev_minus_is_unary
         }

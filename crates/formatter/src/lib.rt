@@ -104,8 +104,8 @@ pub struct Ends {
 
 // The fields of format.rs under its names. The port adds what format.rs has in parameters: the options, the
 // rows and the text, what all rows tell, and whether no row is trivia; and `commas`, the number of inserted
-// commas. The rows and the text are fields of their own: where a `Copy` struct holds a `Source`, the checker
-// finds no plan for methods that borrow it.
+// commas. `prev` is the number of the last token's kind, as its row has it. The rows and the text are fields
+// of their own: where a `Copy` struct holds a `Source`, the checker finds no plan for methods that borrow it.
 #[derive(Clone, Copy)]
 pub struct Formatter<'a> {
     pub options: Options,
@@ -115,7 +115,7 @@ pub struct Formatter<'a> {
     pub bare: bool,
     pub indent: usize,
     pub at_line_start: bool,
-    pub prev: Option<Kind>,
+    pub prev: Option<u32>,
     pub prev_minus_is_unary: bool,
     pub inline_depth: InlineDepth,
     pub fn_state: FnState,
@@ -191,14 +191,10 @@ impl<'a> Formatter<'a> {
     // ---- tests that several arms make
 
     // Whether the last token has the kind of this number.
-    #[tactic(auto, using(rows::proofs::KindNumbers::tag_is))]
     pub fn prev_is(&self, kind: u32) -> bool
         ensures { result ≡ is_at (prev_of self.now.prev) kind }
     {
-        match self.prev {
-            None => false,
-            Some(prev) => prev as u32 == kind,
-        }
+        self.prev == Some(kind)
     }
 
     // Whether the walk is inside a block that stays on its line.

@@ -26,7 +26,7 @@ impl<'a> Formatter<'a> {
         } else if self.feeds(sink, token.own) {
             sink.write_byte(b'\n');
             self.at_line_start = true;
-            self.prev = Some(Kind::Newline);
+            self.prev = Some(Kind::Newline as u32);
         }
     }
 

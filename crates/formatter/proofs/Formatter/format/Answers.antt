@@ -4,7 +4,7 @@ use Prim.Native.Nat.{ℕ, ◌-◌, ◌≤◌, ◌<◌}
 use native.Mathlib.Omega.{arith}
 use lib.ListN.{length}
 use Rattle.formatter.specs.CodeState.{CodeState, code_state}
-use Rattle.formatter.proofs.Going.{laid_done}
+use Rattle.formatter.proofs.Going.{last_few, laid_done}
 use Rattle.formatter.proofs.Loop.{Loop, begins, rows_same, next_token_there, refused_as, next_there_too, next-bounds, placed, placed-after}
 use Rattle.formatter.proofs.Loop.{rows_left, boundary_there, past_fast_tokens, fast_tokens_few, fast_braces_place, fast_braces_rows, fast_braces_depth, past_fast_braces}
 use Rattle.formatter.proofs.Formatter.format.Goals as goal
@@ -60,6 +60,9 @@ may_start_fast_tokens-requires c = rows_left c.requires.checked_rows (at_place c
 
 pub push_fast_tokens-at-requires-clause-len_in_bounds : goal.push_fast_tokens-at-requires-clause-len_in_bounds
 push_fast_tokens-at-requires-clause-len_in_bounds c = (at_place (goal.at.push_fast_tokens-at-requires-clause-len_in_bounds c).After-next_place-place).going.room
+
+pub push_fast_tokens-at-requires-clause-last_bound : goal.push_fast_tokens-at-requires-clause-last_bound
+push_fast_tokens-at-requires-clause-last_bound c = last_few (at_place (goal.at.push_fast_tokens-at-requires-clause-last_bound c).After-next_place-place).going
 
 pub push_fast_tokens-at-requires-clause-token_boundary : goal.push_fast_tokens-at-requires-clause-token_boundary
 push_fast_tokens-at-requires-clause-token_boundary c =

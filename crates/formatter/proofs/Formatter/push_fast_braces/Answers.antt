@@ -1,10 +1,6 @@
 -- `formatter::Formatter::push_fast_braces` meets its contract. Assumes nothing.
-use mathlib.Core.Bool.{not}
-use mathlib.Core.Path.{refl, sym, ap, ◌∙◌}
+use mathlib.Core.Path.{refl, sym, ◌∙◌}
 use native.Mathlib.Omega.{arith}
-use Rattle.std.specs.Int.{from_bool}
-use Rattle.rows.proofs.KindNumbers.{same_kind}
-use Rattle.rows.specs.declared.kind.Kind.TheVariants as kinds
 use Rattle.sink.proofs.Sink.{same_bytes_lem}
 use Rattle.formatter.proofs.FastBraces.{next_at, goes_open, goes_close, closer_is}
 use Rattle.formatter.proofs.Formatter.push_fast_braces.Goals as goal
@@ -31,7 +27,7 @@ loop-row-preserved c =
             lent = w.put_token.ensures.lent ∙ i.lent;
           })
       | in-RightBrace w ↦
-          let closer = closer_is c.loop-row.prev (w.from.ensures ∙ ap from_bool (w.ne.ensures ∙ ap not (same_kind c.loop-row.prev kinds.LeftBrace))) in
+          let closer = closer_is c.loop-row.prev w.from.ensures in
           rw (w.sink-is, w.prev-is, w.depth-is, w.closed-is)
           (record {
             so_far =

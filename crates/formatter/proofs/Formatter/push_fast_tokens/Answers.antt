@@ -1,20 +1,17 @@
 -- `formatter::Formatter::push_fast_tokens` meets its contract. Assumes nothing.
-use mathlib.Core.Path.{◌≡◌, refl, ap, ◌∙◌}
+use mathlib.Core.Path.{refl, ap, ◌∙◌}
 use Prim.Native.Nat.{◌≤◌}
 use Rattle.rows.specs.Kinds.{Other}
-use Rattle.rows.specs.KindNumber.{kind_number}
-use Rattle.rows.proofs.KindNumbers.{tag_is}
 use Rattle.definition.specs.Formatter.{set_prev}
 use Rattle.formatter.specs.CodeState.{code_state}
 use Rattle.formatter.specs.FastTokens.{fast_kinds_of}
-use Rattle.formatter.proofs.Numbered.{read_as}
 use Rattle.formatter.proofs.FastTokens.{taken-fits, whole_row, row_known, starts, unchanged, few, goes_on}
 use Rattle.formatter.proofs.Formatter.push_fast_tokens.Goals as goal
 use Rattle.formatter.proofs.Formatter.push_fast_tokens.Goals.{then-bit-eq1, else-bit-eq1}
 
 pub loop-rows-init : goal.loop-rows-init
 loop-rows-init c =
-    starts c.requires.token_boundary c.requires.len_in_bounds (tag_is c.unwrap_or-prev.result ∙ ap kind_number c.unwrap_or-prev.ensures)
+    starts c.requires.token_boundary c.requires.len_in_bounds c.requires.last_bound c.unwrap_or-prev.ensures
     c.changing_kinds-changing.ensures c.loose_after-loose.ensures c.bit-spaced.ensures
 
 pub is_fast_token-requires-clause-row_ahead : goal.is_fast_token-requires-clause-row_ahead
@@ -41,9 +38,8 @@ bit-spaced-requires-in-loop-rows c =
 pub returns : goal.returns
 returns c =
     let i = c.loop-rows.invariant in
-    let k : kind_number c.of.result ≡ c.loop-rows.prev = read_as c.of.result c.of.ensures i.so_far.known in
     record {
-      laid = rw k (i.so_far.done (fast_kinds_of c.args.self.now) c.fast_kinds-fast.ensures);
+      laid = i.so_far.done (fast_kinds_of c.args.self.now) c.fast_kinds-fast.ensures;
       changed = record { form = λ x. ap (set_prev _) (i.form x); same = record { given = i.same.given; lent = i.same.lent }; commas = i.commas };
     }
 
