@@ -40,7 +40,7 @@ SIGNATURE = re.compile(r"%s(%s)(?: \{[^}:]*\})?(?: :(?:\s|$)|$)" % (MARKS, NAME)
 TYPE = re.compile(r"%s(?:data|record) (%s)" % (MARKS, NAME))
 RULESET = re.compile(r"%sruleset (%s) =" % (MARKS, NAME))
 LINE = re.compile(r"^( *)(?:module \S+(.*?)\bwhere[ \t]*|(\S[^\n]*))$", re.M | re.S)
-USE = re.compile(r"^(?:(?:unfoldable|pub|ghost) )*use\s+([^\s{;]+?)(?:(?:\.|::)\{([^}]*)\})?(?:\s+as\s+([^\s;]+))?;?[ \t]*$", re.M)
+USE = re.compile(r"^[ \t]*(?:(?:unfoldable|pub|ghost) )*use\s+([^\s{;]+?)(?:(?:\.|::)\{([^}]*)\})?(?:\s+as\s+([^\s;]+))?;?[ \t]*$", re.M)
 CONTRACT = re.compile(r"\b(?:requires|ensures)\b\*?(?:\s+\w+)?\s*\{")
 MEMBER = re.compile(r"\bghost\s+\w+\s*[=:]\s*\{")
 IN_CLAUSES = re.compile(r"[^\x00-\x7f]|\b(?:requires|ensures|result)\b|\.(?:now|old|new)\b")
@@ -141,8 +141,8 @@ class Import:
 
 
 def imported(use, file):
-    line, code = file.line(use.start()), file.code and not use.group().startswith("ghost")
-    handed_on = use.group().startswith("pub")
+    line, code = file.line(use.start()), file.code and not use.group().lstrip().startswith("ghost")
+    handed_on = use.group().lstrip().startswith("pub")
     if use[2] is None:
         return [Import(use[3] or re.split(r"\.|::", use[1])[-1], use[1], None, line, code, handed_on)]
     found = []
