@@ -17,7 +17,7 @@ ghost use Rattle.rows.specs.KindNumber.{kind_number};
 ghost use Rattle.rows.specs.RowsLeft.{rows_left};
 
 use crate::measure::{BRACKETS, Measure, PARENS, Pair, Span, is_top_comma, size_of};
-use rows::{Kind, MOST_ROWS, ROW_BYTES, Row, Rows, Trivia, What};
+use rows::{Kind, MOST_ROWS, ROW_BYTES, Row, Rows, What};
 
 mod measure;
 
@@ -140,7 +140,9 @@ pub fn next_has_comment(rows: &[u8]) -> bool
         if row.is_token() {
             return seen;
         }
-        seen = seen || is_comment(row);
+        if is_comment(row) {
+            seen = true;
+        }
     }
     false
 }
@@ -338,5 +340,5 @@ fn trails(left: Rows) -> bool
 fn is_comment(row: Row) -> bool
     ensures { result ≡ is_comment (row_of row) }
 {
-    row.what() == Some(What::Leading) && row.trivia() != Trivia::BlankLine
+    row.what == What::Leading as u32 && !row.is_blank_line()
 }
