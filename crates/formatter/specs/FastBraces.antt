@@ -90,5 +90,7 @@ pub record FastBracesLaidOut (rows : List ℕ) (b : FastBraces) (l m : List ℕ)
 
 -- From the row at `from`, the code's state p comes to q at the row at `at`.
 pub record LaysFastBraces (p : CodeState) (from at : ℕ) (q : CodeState) : Type 0 where
-  pub laid : FastBracesLaidOut p.form.rows.now (fast_braces_at p from) p.sink.out.now q.sink.out.now (fast_braces_at q at)
+  pub laid :
+      FastBracesLaidOut p.form.rows.now (fast_braces_at p from) p.sink.out.now q.sink.out.now
+      (fast_braces_at q at)
   pub changed : ChangedBy (with_fast_braces (fast_braces_at q at)) p q

@@ -27,8 +27,13 @@ popped_on n k σ =
       few = omega arith;
       size = length-set k (n - 1) 0 ∙ σ.size;
       rest = λ i l. split (eqb i (n - 1))
-          (λ e. let d = eqb-true i (n - 1) e in let w : n - 1 < length k = omega arith in rw d (get_or-set_same k (n - 1) 0 0 w))
-          (λ e. get_or-set_other k (n - 1) i 0 0 (eqb-false i (n - 1) e) ∙ σ.rest i (let u = eqb-false i (n - 1) e in omega arith));
+          (λ e.
+          let d = eqb-true i (n - 1) e in
+          let w : n - 1 < length k = omega arith in
+          rw d (get_or-set_same k (n - 1) 0 0 w))
+          (λ e.
+          let u = eqb-false i (n - 1) e in
+          get_or-set_other k (n - 1) i 0 0 u ∙ σ.rest i (omega arith));
     }
 
 all_zero : (k : List ℕ) → ((i : ℕ) → get_or k i 0 ≡ 0) → replicate (length k) 0 ≡ k
@@ -39,11 +44,15 @@ entries_are : (n : ℕ) (k : List ℕ) → OnStack n k → entries_of (top_first
 unfolding entries_of top_first
 entries_are zero k σ = ap (λ n. replicate n 0) (sym σ.size) ∙ all_zero k (λ i. σ.rest i (omega arith))
 entries_are (suc n) k σ =
-    let without : OnStack n (set k n 0) = let p = popped_on (suc n) k σ in let e : suc n - 1 ≡ n = omega arith in rw e at p in
-    let e : entries_of (top_first n k) ≡ set k n 0 = ap entries_of (sym (top_kept n n k 0 (omega arith))) ∙ entries_are n (set k n 0) without in
+    let p = popped_on (suc n) k σ in
+    let q : suc n - 1 ≡ n = omega arith in
+    let without : OnStack n (set k n 0) = rw q at p in
+    let same = ap entries_of (sym (top_kept n n k 0 (omega arith))) in
+    let e : entries_of (top_first n k) ≡ set k n 0 = same ∙ entries_are n (set k n 0) without in
     rw (top_length n k, e) (set-set k n 0 (get_or k n 0) ∙ set-get_or k n 0)
 
 -- Whatever is made of a stack's count and array is made of those of its list.
 pub array_of :
-    (n : ℕ) (k : List ℕ) → OnStack n k → {A : Type 0} (f : ℕ → List ℕ → A) → f (length (top_first n k)) (entries_of (top_first n k)) ≡ f n k
+    (n : ℕ) (k : List ℕ) → OnStack n k → {A : Type 0} (f : ℕ → List ℕ → A)
+    → f (length (top_first n k)) (entries_of (top_first n k)) ≡ f n k
 array_of n k σ f = rw (top_length n k, entries_are n k σ)

@@ -162,8 +162,8 @@ fn is_fast_token(
     )
 }
 
-// Whether the kind of this number is in the set: 1 or 0. The loop compares kinds as rows have them: as `Kind`s
-// identifiers and names take 8 in 100 more.
+// Whether the kind of this number is in the set: 1 or 0. The loop compares kinds as rows have them: as
+// `Kind`s identifiers and names take 8 in 100 more.
 fn bit(set: KindSet, kind: u32) -> usize
     requires { kind ≤ Other }
     ensures { result ≡ bit set.0 kind }

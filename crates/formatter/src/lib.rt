@@ -80,8 +80,8 @@ pub struct Options {
     pub list_width: u32,
 }
 
-// A token: its kind's number as its row has it, its index among the tokens, where its leading rows start, where
-// its own row starts, and where its trailing rows end.
+// A token: its kind's number as its row has it, its index among the tokens, where its leading rows start,
+// where its own row starts, and where its trailing rows end.
 #[derive(Clone, Copy)]
 pub struct TokenAt {
     pub kind: u32,

@@ -14,8 +14,8 @@ fn main(rt: HostRuntime) -> io::Result<()> {
     replay(&input[..size], |left| replay_case(&rt, left))
 }
 
-// Replays the next case, and returns whether it was whole. A case is two lines: how many numbers the slice has
-// and how many bytes the text, three digits each; then the text and a line feed.
+// Replays the next case, and returns whether it was whole. A case is two lines: how many numbers the slice
+// has and how many bytes the text, three digits each; then the text and a line feed.
 fn replay_case(rt: &impl Print, left: &mut Left<'_>) -> io::Result<bool> {
     let Some((slots, text)) = take_case(left) else {
         return Ok(false);

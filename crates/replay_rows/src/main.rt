@@ -48,7 +48,8 @@ struct Case<'a> {
     call_count: usize,
 }
 
-// Replays the next case, and returns whether its rows were whole. The input may end before its last lookaheads.
+// Replays the next case, and returns whether its rows were whole. The input may end before its last
+// lookaheads.
 fn replay_case(rt: &impl Print, left: &mut Left<'_>) -> io::Result<bool> {
     let Some(case) = take_case(left) else {
         return Ok(false);

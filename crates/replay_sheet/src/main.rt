@@ -30,8 +30,8 @@ struct Case<'a> {
     sheet: &'a [u8],
 }
 
-// Reads one case and replays it before the next is read, and returns whether it was whole and there was room for
-// it. The slices are filled before the call, so that what is unchanged can be told from what is zeroed.
+// Reads one case and replays it before the next is read, and returns whether it was whole and there was room
+// for it. The slices are filled before the call, so that what is unchanged can be told from what is zeroed.
 fn replay_case(
     rt: &impl Print,
     input: &mut impl Read,
