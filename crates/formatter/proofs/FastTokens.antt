@@ -1,5 +1,5 @@
 -- The loop over fast tokens: what holds at each turn, and what a turn does with it. Assumes nothing.
-use mathlib.Core.Bool.{true, false, cond, not, ◌||◌}
+use mathlib.Core.Bool.{◌&&◌, true, false, cond, not, ◌||◌}
 use mathlib.Core.List.{List, [], ◌∷◌, ◌++◌}
 use mathlib.Core.Option.{none, some}
 use mathlib.Core.Path.{◌≡◌, refl, sym, ap, ◌∙◌}
@@ -10,7 +10,7 @@ use lib.Dec.{eqb, ltb}
 use lib.ListN.{length, take, drop, replicate, length-append, length-replicate}
 use lib.Seq.{length-slice, length-take-le}
 use Rattle.shared.proofs.Logic.{split, impossible', and_left, and_right}
-use Rattle.rows.specs.Kinds.{TokenRow, RightBrace, Other}
+use Rattle.rows.specs.Kinds.{TokenRow, RightBrace, Fn, Identifier, Other}
 use Rattle.rows.specs.Row.{Row, row_at, rows_of}
 use Rattle.rows.specs.Bounds.{Inside}
 use Rattle.rows.specs.Options.{Options}
@@ -38,7 +38,7 @@ use Rattle.formatter.specs.CodeState.{fn_number, Locals, CodeState, prev_of, sig
 use Rattle.formatter.specs.Does.{Same}
 use Rattle.formatter.specs.Trivia.{trivia_in}
 use Rattle.formatter.specs.Format.{CheckedRows, TokenBoundary, own_row, next_row}
-use Rattle.formatter.specs.FastTokens.{FastKinds, fast_kinds_of, fast_kind_bits, space_before, group_after, is_closer, FastState, changing_kinds, fast_state_of, fast_state_after, with_fields, BareRow, IsFastToken, MayStartFastTokens, BeforeFastTokens, after_fast_tokens, FastTokens, FastTokensLaidOut, last_kind}
+use Rattle.formatter.specs.FastTokens.{FastKinds, fast_kinds_of, fast_kind_bits, space_before, fn_after, group_after, is_closer, FastState, changing_kinds, fast_state_of, fast_state_after, with_fields, BareRow, IsFastToken, MayStartFastTokens, BeforeFastTokens, after_fast_tokens, FastTokens, FastTokensLaidOut, last_kind}
 use Rattle.formatter.proofs.Comments.{no_trivia}
 use Rattle.formatter.proofs.Place.{tokens_here, head-next, row_in}
 use Rattle.formatter.proofs.BareRow.{row_token, lay-first}
@@ -104,6 +104,9 @@ pub record FastTokensSoFar (rows text : List ℕ) (from n before : ℕ) (m₀ : 
   pub done : (t : FastKinds) → fast ≡ fast_kind_bits t → FastTokensLaidOut rows text from n before m₀ t l k (ended at len prev m)
   pub still : (t : FastKinds) → fast ≡ fast_kind_bits t → (f : Formatter) → BeforeFastTokens f before m₀ t → BeforeFastTokens (after_fast_tokens (ltb from at) prev m f) prev m t
 
+fn_few : (k n : ℕ) → fn_after k n ≤ 2
+fn_few k n = split (eqb k Fn) (λ e. rw e (omega arith)) (λ e. rw e (split (eqb k Identifier && eqb n 1) (λ f. rw f (omega arith)) (λ f. rw f (omega arith))))
+
 less_group : (k n : ℕ) → group_after k n ≤ n
 less_group k n = split (is_closer k) (λ e. rw e (omega arith)) (λ e. rw e (omega arith))
 
@@ -157,6 +160,7 @@ module _ {rows text l k : List ℕ} {from n before at len fast prev : ℕ} {m₀
               whole = let x = δ.whole in omega arith;
               head = bare_row_boundary ω α.head h λ₁;
               last = row_known ω α.head h (row_at rows at) refl;
+              fn_state = λ few. fn_few kind m.fn_state;
               group = let g = δ.group in omega (arith, less_group kind m.group_depth);
               size = w.size ∙ δ.size;
               far = let y = δ.far in omega arith;
@@ -245,6 +249,7 @@ starts {f = f} {from} head within known e c a z =
                   whole = omega arith;
                   head = head;
                   last = known;
+                  fn_state = λ h. h;
                   group = omega arith;
                   size = refl;
                   far = omega arith;

@@ -25,3 +25,4 @@ pub mod FastBraceTurn
 pub mod FastBraces
 pub mod Ahead
 pub mod Loop
+pub mod Known

@@ -39,6 +39,10 @@ signature_of s = option_of (λ d. d.0) s
 abbrev pub fn_number : FnState → ℕ
 fn_number s = s.0
 
+-- The highest of its three values: `fn` and a name stand before.
+abbrev pub most_fn_state : ℕ
+most_fn_state = 2
+
 -- ---- the options
 
 -- The brace style, as the definition has it.

@@ -274,3 +274,44 @@ fn fits(room: usize, space: usize, start: usize, end: usize) -> bool
     }
     space + (end - start) <= room
 }
+
+#[cfg(test)]
+mod tests {
+    use crate::{BraceStyle, FnState, Formatter, Options};
+    use row_writers::Source;
+    use rows::Kind;
+    use sink::write::Sink;
+
+    // After `x` in a line, `fn` and a name are fast tokens. Each of the two rows has its four numbers.
+    #[test]
+    fn lays_out_fn_and_name(rt: HostRuntime) {
+        let rows = [
+            1, 0, 0, 0, 20, 0, 0, 0, 0, 0, 0, 0, 2, 0, 0, 0, 1, 0, 0, 0, 22, 0, 0, 0, 2, 0, 0, 0,
+            4, 0, 0, 0,
+        ];
+        let options = Options {
+            brace_style: BraceStyle::SameLine,
+            indent_width: 4,
+            fn_sig_width: 100,
+            list_width: 100,
+        };
+        let source = Source {
+            rows: &rows,
+            text: b"fnab",
+        };
+        let mut formatter = Formatter::new(options, source, false);
+        formatter.at_line_start = false;
+        formatter.prev = Some(Kind::Identifier as u32);
+        let mut out = [0; 9];
+        let mut sink = Sink {
+            out: &mut out,
+            len: 0,
+        };
+        let at = formatter.push_fast_tokens(&mut sink, 0);
+        assert_eq!(rt; at, 32);
+        assert_eq!(rt; sink.len, 6);
+        assert!(rt; formatter.fn_state == FnState::NAMED);
+        assert!(rt; formatter.prev == Some(Kind::Identifier as u32));
+        assert_eq!(rt; out, *b" fn ab\0\0\0");
+    }
+}
