@@ -55,7 +55,7 @@ impl<'a> Left<'a> {
     }
 
     // Takes the numeral that comes first, and the byte after it, if there is one. An empty numeral is 0.
-    pub fn number(&mut self) -> u32
+    pub fn wrapping_number(&mut self) -> u32
         ensures value { result ≡ number (numeral self.old.bytes.now) }
         ensures left { self.new.bytes.now
             ≡ drop (length (numeral self.old.bytes.now) + 1) self.old.bytes.now }
