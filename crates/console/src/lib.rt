@@ -2,11 +2,14 @@
 #![tactic(auto)]
 
 ghost use Rattle.std.specs.Prelude.{if◌then◌else◌, ◌≡◌, ◌+◌, ◌≤◌, ◌<◌, leb, length, take, drop, is_some};
-ghost use Rattle.std.specs.Prelude.{IfOk, IfSome, MatchOption};
+ghost use Rattle.std.specs.Prelude.{IfOk, IfSome, OnSome, SomeIff, MatchOption};
+ghost use Rattle.std.specs.Char.{is_ascii_digit};
 ghost use Rattle.std.specs.Fn.{CalledAtMut};
 ghost use Rattle.std.specs.Int.{w32, from_le_bytes};
+ghost use Rattle.std.specs.List.{prefix_len};
+ghost use Rattle.std.specs.Str.Parse.{digits_value};
 ghost use Rattle.console.specs.declared.Left.{Left};
-ghost use Rattle.console.specs.Number.{digit, number, numeral};
+ghost use Rattle.console.specs.Number.{digit, number, numeral, digits, HasNumber};
 ghost use Rattle.console.specs.Replay.{Replays};
 
 use std::io;
@@ -54,8 +57,25 @@ impl<'a> Left<'a> {
         Some(taken)
     }
 
+    // Takes the next decimal number, and the byte after it. The digits are taken also where there is none. A
+    // number has at least one digit and a byte after it, and fits 64 bits.
+    pub fn number(&mut self) -> Option<usize>
+        ensures value { SomeIff result (HasNumber self.old.bytes.now)
+            (digits_value 10 (digits self.old.bytes.now)) }
+        ensures left { self.new.bytes.now
+            ≡ drop (length (digits self.old.bytes.now) + 1) self.old.bytes.now }
+        ensures shorter { OnSome result (length self.new.bytes.now < length self.old.bytes.now) }
+    {
+        let size = digits_len(self.bytes);
+        let digits = str::from_utf8(self.take(size)?).ok()?;
+        self.take(1)?;
+        let number = digits.parse().ok()?;
+        Some(number)
+    }
+
     // Takes the numeral that comes first, and the byte after it, if there is one. An empty numeral is 0.
-    pub fn number(&mut self) -> u32
+    // Unlike `number`, it takes bytes above '9' as digits too, and wraps past 32 bits.
+    pub fn wrapping_number(&mut self) -> u32
         ensures value { result ≡ number (numeral self.old.bytes.now) }
         ensures left { self.new.bytes.now
             ≡ drop (length (numeral self.old.bytes.now) + 1) self.old.bytes.now }
@@ -88,6 +108,13 @@ impl<'a> Left<'a> {
         self.bytes = left;
         Some(u32::from_le_bytes(*bytes))
     }
+}
+
+// Returns how many decimal digits come first.
+fn digits_len(bytes: &[u8]) -> usize
+    ensures { result ≡ prefix_len is_ascii_digit bytes.now }
+{
+    bytes.iter().take_while(|b| b.is_ascii_digit()).count()
 }
 
 // Returns how many bytes the numeral that comes first has.
@@ -130,4 +157,30 @@ pub fn replay<F: FnMut(&mut Left<'_>) -> io::Result<bool>>(
         }
     }
     Ok(())
+}
+
+#[cfg(test)]
+mod tests {
+    use super::Left;
+
+    // Each text with the number that it begins with, and what is left of it.
+    #[test]
+    fn takes_whole_numbers(rt: HostRuntime) {
+        let cases = [
+            ("12 x", Some(12), "x"),
+            ("007,8", Some(7), "8"),
+            ("x 12", None, " 12"),
+            ("12", None, ""),
+            ("", None, ""),
+            ("18446744073709551615 x", Some(18446744073709551615), "x"),
+            ("18446744073709551616 x", None, "x"),
+        ];
+        for (text, number, rest) in cases {
+            let mut left = Left {
+                bytes: text.as_bytes(),
+            };
+            assert_eq!(rt; left.number(), number, "the number at {text}");
+            assert_eq!(rt; left.bytes, rest.as_bytes(), "the rest at {text}");
+        }
+    }
 }

@@ -61,16 +61,16 @@ fn replay_case(
 fn take_case<'a>(left: &mut Left<'a>, rows: &mut [u8]) -> Option<Case<'a>> {
     let letter = *left.take(2)?.first()?;
     let options = OptionNumbers {
-        style: left.number(),
-        indent_width: left.number(),
-        signature_width: left.number(),
-        list_width: left.number(),
+        style: left.wrapping_number(),
+        indent_width: left.wrapping_number(),
+        signature_width: left.wrapping_number(),
+        list_width: left.wrapping_number(),
     };
-    let out_size = left.number() as usize;
-    let row_bytes = left.number() as usize;
-    let row_count = left.number() as usize;
-    let text_size = left.number() as usize;
-    let source_size = left.number() as usize;
+    let out_size = left.wrapping_number() as usize;
+    let row_bytes = left.wrapping_number() as usize;
+    let row_count = left.wrapping_number() as usize;
+    let text_size = left.wrapping_number() as usize;
+    let source_size = left.wrapping_number() as usize;
     take_rows(left, row_count, rows, row_bytes)?;
     let text = left.take(text_size)?;
     let source = left.take(source_size)?;
@@ -93,7 +93,7 @@ fn take_case<'a>(left: &mut Left<'a>, rows: &mut [u8]) -> Option<Case<'a>> {
 fn take_rows(left: &mut Left<'_>, count: usize, rows: &mut [u8], size: usize) -> Option<()> {
     let taken = count.checked_mul(ROW_BYTES)?;
     for number in rows.get_mut(..taken)?.chunks_exact_mut(4) {
-        number.copy_from_slice(&left.number().to_le_bytes());
+        number.copy_from_slice(&left.wrapping_number().to_le_bytes());
     }
     let used = rows.get_mut(..size)?;
     if let Some((first, others)) = used.split_at_mut_checked(taken) {
