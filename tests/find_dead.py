@@ -31,6 +31,9 @@ PROMISES = {
     "piece_reader.Counting": "counted-fit",  # a slice for as many pieces as were counted has room for them
     "sheet.Written": "written-reads line_written",  # a line of a sheet and its row
     "*.Reported": "reported_injective",  # no two answers have the same report
+    # laws that other crates may cite
+    "lookahead.Looking": "ends_either top_opened top_closed top_less top_above top_eof top_found top_more",
+    "formatter.Numbered": "other_kind",
 }
 
 NAME = r"(?:«[^»\n]*»|[^\s(){}.;,@\"«»]+)"

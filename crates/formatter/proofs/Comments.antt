@@ -24,6 +24,7 @@ use Rattle.row_writers.specs.Comment.{comment_head, lead_tail}
 use Rattle.sink.specs.declared.write.Sink.{Sink}
 use Rattle.sink.proofs.Appends.{and_then, nothing}
 use Rattle.formatter.specs.declared.Formatter.{Formatter}
+use Rattle.row_writers.specs.declared.Source.{Source}
 use Rattle.formatter.specs.CodeState.{Locals, CodeState, formatter_of, Given, given, options_of}
 use Rattle.formatter.specs.Does.{Same, Does, Done, Puts}
 use Rattle.formatter.specs.Trivia.{WholeRows, trivia_in, lead_token, trail_bytes}
@@ -107,8 +108,11 @@ pub record LeadsLeft (all left : List Row) (f₀ f : CodeState) : Type 0 where
       (q : CodeState) → Done (leading_trivia (options_of f₀.form.options) (map (trivia_of f₀.form.text.now) left)) f q
       → Done (leading_trivia (options_of f₀.form.options) (map (trivia_of f₀.form.text.now) all)) f₀ q
 
+pub same_source : {p q : CodeState} → Same p q → (given q.form).source ≡ (given p.form).source
+same_source s = ap (λ (z : Given). z.source) s.given
+
 same_text : {p q : CodeState} → Same p q → q.form.text.now ≡ p.form.text.now
-same_text s = ap (λ (z : Given). z.source.text.now) s.given
+same_text s = ap (λ (z : Source). z.text.now) (same_source s)
 
 pub leads_start : {all : List Row} {f : CodeState} → InBounds f.form.text.now all → f.form.indent ≤ 4294967295 → LeadsLeft all all f f
 leads_start β i = record { bounds = β; same = record { given = refl; lent = refl }; indent = i; rest = λ q d. d }

@@ -10,17 +10,19 @@ use lib.ListN.{length, get_or, set, drop, replicate, length-set}
 use lib.Seq.{get_or-set_same, get_or-set_other}
 use Rattle.definition.specs.Emit.{is_at}
 use Rattle.formatter.specs.Stack.{top_first, OnStack}
-use Rattle.formatter.specs.StackArray.{top_kept, top_length}
+use Rattle.formatter.specs.StackArray.{top_kept}
+pub use Rattle.formatter.specs.StackArray.{top_length}
 
 -- ---- the list
 
-top_without : (n : ℕ) (k : List ℕ) → top_first (n - 1) k ≡ drop 1 (top_first n k)
+pub top_popped : (n : ℕ) (k : List ℕ) → top_first (n - 1) k ≡ drop 1 (top_first n k)
 unfolding top_first
-top_without zero k = refl
-top_without (suc n) k = let e : suc n - 1 ≡ n = omega arith in rw e
+top_popped zero k = refl
+top_popped (suc n) k = let e : suc n - 1 ≡ n = omega arith in rw e
 
-pub top_popped : (n : ℕ) (k : List ℕ) → top_first (n - 1) (set k (n - 1) 0) ≡ drop 1 (top_first n k)
-top_popped n k = top_kept (n - 1) (n - 1) k 0 (omega arith) ∙ top_without n k
+-- the same, where the entry is cleared
+pub top_cleared : (n : ℕ) (k : List ℕ) → top_first (n - 1) (set k (n - 1) 0) ≡ drop 1 (top_first n k)
+top_cleared n k = top_kept (n - 1) (n - 1) k 0 (omega arith) ∙ top_popped n k
 
 pub top_pushed : (n : ℕ) (k : List ℕ) (v : ℕ) → n < length k → top_first (n + 1) (set k n v) ≡ v ∷ top_first n k
 unfolding top_first

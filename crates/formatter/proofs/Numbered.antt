@@ -1,10 +1,10 @@
 -- Kinds of the code: their numbers, and sets of them. Assumes nothing.
-use mathlib.Core.Bool.{true}
+use mathlib.Core.Bool.{true, false}
 use mathlib.Core.Path.{◌≡◌, refl}
 use Prim.Native.Nat.{ℕ, ◌≤◌}
 use native.Mathlib.Omega.{arith}
-use borrow.Author.Tests.{leb-true}
-use lib.Dec.{leb}
+use borrow.Author.Tests.{leb-true, ne_eqb}
+use lib.Dec.{eqb, leb}
 use Rattle.std.specs.Prelude.{min}
 use Rattle.rows.specs.declared.kind.Kind.{Kind}
 use Rattle.rows.specs.declared.kind.Kind.TheVariants.{Eof, Newline, LeftBrace, RightBrace, LeftParen, RightParen, LeftBracket, RightBracket, Comma, Colon, Semicolon, Question, Dot, DotDot, ColonColon, Hash, Bang, BangHash, Minus, Else, Fn, Record, Identifier, NumberLiteral, ByteLiteral, StringLiteral, CharacterLiteral, FloatLiteral, BoolLiteral, Null, Array, Map, Set, Result, Other}
@@ -13,6 +13,7 @@ use Rattle.rows.specs.contracts.kind.What as whats
 use Rattle.rows.specs.declared.kind.What.{What}
 use Rattle.rows.specs.declared.kind.What.TheVariants as what_is
 use denote.Enum.Declared.{tag_of}
+use Rattle.rows.proofs.KindNumbers.{same_number}
 
 -- Each number is at most 34.
 few : (k : Kind) → leb (kind_number k) 34 ≡ true
@@ -58,6 +59,10 @@ kind_few k = leb-true (kind_number k) 34 (few k)
 -- A kind that a known number was read as has that number.
 pub read_as : {n : ℕ} (k : Kind) → kind_number k ≡ min n 34 → n ≤ 34 → kind_number k ≡ n
 read_as k e h = omega arith
+
+-- Two kinds that differ have two numbers.
+pub other_kind : (a b : Kind) → (a ≡ b → ⊥) → eqb (kind_number a) (kind_number b) ≡ false
+other_kind a b n = ne_eqb (kind_number a) (kind_number b) (λ e. n (same_number a b e))
 
 -- What a row is, as a number.
 pub what_tag : (w : What) → tag_of whats.the_type w ≡ what_number w

@@ -81,7 +81,7 @@ impl Stack {
     }
 
     // Takes the last depth away, if there is one.
-    #[tactic(auto, using(crate::proofs::Entries::top_popped, crate::specs::StackArray::popped_on))]
+    #[tactic(auto, using(crate::proofs::Entries::top_cleared, crate::specs::StackArray::popped_on))]
     pub fn pop(&mut self)
         ensures { self.new ≡ drop 1 self.old }
     {

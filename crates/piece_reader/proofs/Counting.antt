@@ -17,7 +17,7 @@ use Rattle.pieces.specs.declared.Piece.{Piece}
 use Rattle.pieces.specs.declared.ReadError.{ReadError}
 use Rattle.pieces.specs.declared.ReadError.TheVariants as error
 use Rattle.pieces.specs.declared.Unreadable.{Unreadable}
-use Rattle.pieces.proofs.Resume.{first, next-first, next-done, next-refused}
+use Rattle.pieces.proofs.Resume.{First, first, next-first, next-done, next-refused}
 use Rattle.piece_reader.specs.Reader.{end_of, count_from, count_answer}
 
 -- n pieces were counted, and the text is read from `at` on
@@ -40,25 +40,36 @@ module _ {text : List ℕ} {at n : ℕ} (σ : Counts text at n) where
   unfolding count_from
   finished h = sym (σ.answer ∙ rw (next-done (read_from text at) h))
 
-  pub unread : (s : Result (Option Piece) Unreadable) (e : ReadError) (a : Result ℕ ReadError) → IsErrAnd s (λ u. e ≡ error.Unreadable u.index) → IsErrAnd a (λ x. x ≡ e) → s ≡ next (read_from text at) → reported a ≡ count_answer text
+  pub unread : {u : Unreadable} (a : Result ℕ ReadError) → IsErrAnd a (λ e. e ≡ error.Unreadable u.index) → Err u ≡ next (read_from text at) → reported a ≡ count_answer text
   unfolding count_from
-  unread (Ok p) e a k g h = absurd k
-  unread (Err u) e (Ok m) k g h = absurd g
-  unread (Err u) e (Err x) k g h = rw (g, k) (sym (σ.answer ∙ rw (next-refused (read_from text at) h)))
+  unread (Ok m) k h = absurd k
+  unread (Err e) k h = rw k (sym (σ.answer ∙ rw (next-refused (read_from text at) h)))
+
+  -- the same, where the error of `next_piece` was made one of the call
+  pub unread_as : (s : Result (Option Piece) Unreadable) (e : ReadError) (a : Result ℕ ReadError) → IsErrAnd s (λ u. e ≡ error.Unreadable u.index) → IsErrAnd a (λ x. x ≡ e) → s ≡ next (read_from text at) → reported a ≡ count_answer text
+  unread_as (Ok p) e a k g h = absurd k
+  unread_as (Err u) e (Ok m) k g h = absurd g
+  unread_as (Err u) e (Err x) k g h = unread (Err x) (g ∙ k) h
+
+  module _ {p : Piece} (h : Ok (Some p) ≡ next (read_from text at)) where
+    pub head : First text at p.start p.end
+    head = next-first text at h
+
+    pub more : Counts text p.end (n + 1)
+    unfolding count_from
+    more = record { answer = σ.answer ∙ rw (head.reads, add-one); few = omega (arith, σ.few, head.after, head.some); within = head.within }
 
   -- a piece stood next, and the reader went on
   pub went : {p : Piece} {i : ℕ} → Ok (Some p) ≡ next (read_from text at) → i ≡ end_of at (next (read_from text at)) → Went text at i n
-  unfolding count_from
   went {p} {i} h e =
-      let φ = next-first text at h in
+      let φ = head h in
       let there : p.end ≡ i = sym (e ∙ ap (end_of at) (sym h)) in
       record {
         further = omega (arith, there, φ.after, φ.some);
-        counts = subst (λ j. Counts text j (n + 1)) there
-            (record { answer = σ.answer ∙ rw (φ.reads, add-one); few = omega (arith, σ.few, φ.after, φ.some); within = φ.within });
+        counts = subst (λ j. Counts text j (n + 1)) there (more h);
       }
 
-pub ruleset counting = (start, finished)
+pub ruleset counting = (start, finished, unread)
 
 -- n is at least what was counted already
 least : (r : Reading) (k n : ℕ) → count_from k r ≡ success n 0 0 → k ≤ n

@@ -5,7 +5,7 @@ use Rattle.pieces.specs.Reading.{read_from}
 use Rattle.pieces.specs.Next.{next}
 use Rattle.piece_reader.specs.declared.PieceReader.{PieceReader}
 use Rattle.piece_reader.specs.Reader.{end_of}
-use Rattle.piece_reader.proofs.Counting.{Went, went, unread}
+use Rattle.piece_reader.proofs.Counting.{Went, went, unread_as}
 use Rattle.piece_reader.proofs.count_pieces.Goals as goal
 
 step : (c : goal.In-Some) → Went c.args.text.now c.loop-n.reader.at c.take_next.new.self.at c.loop-n.n
@@ -27,5 +27,5 @@ loop-n-preserved c = record {
 pub returns-in_err-or_refusal : goal.returns-in_err-or_refusal
 returns-in_err-or_refusal c =
     let σ = c.loop-n.invariant in
-    unread σ.counts c.take_next.result _ c.from_residual.result c.in_err-or_refusal.ensures c.from_residual.ensures.1
+    unread_as σ.counts c.take_next.result _ c.from_residual.result c.in_err-or_refusal.ensures c.from_residual.ensures.1
     (c.take_next.ensures.next ∙ ap (λ t. next (read_from t c.loop-n.reader.at)) σ.text)
