@@ -34,6 +34,7 @@ PROMISES = {
     # laws that other crates may cite
     "lookahead.Looking": "ends_either top_opened top_closed top_less top_above top_eof top_found top_more",
     "formatter.Numbered": "other_kind",
+    "*.Known": "*_known",  # an act of the walk leaves the last kind and the fn state among their values
 }
 
 NAME = r"(?:«[^»\n]*»|[^\s(){}.;,@\"«»]+)"

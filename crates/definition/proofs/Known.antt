@@ -10,14 +10,14 @@ use Rattle.definition.specs.Act.{Act, update}
 use Rattle.definition.specs.Emit.{is_some, track_fn_state, leading_trivia, trailing_trivia, open_block_multiline, push_lexeme, emit_token_text}
 use Rattle.definition.specs.Arms.{newline_arm, right_brace_arm, empty_record, open_block, left_brace_arm, open_list, open_group, left_paren_arm, left_bracket_arm, close_group, right_paren_arm, right_bracket_arm, comma_arm, else_arm, other_arm}
 use Rattle.definition.specs.PushToken.{arm, turn}
-use Rattle.definition.proofs.Keeps.{Keeps, updated, idle, gapped, worded, inserted, commented, ◌then◌, pick}
+use Rattle.definition.proofs.Preserves.{Preserves, updated, idle, gapped, worded, inserted, commented, ◌then◌, pick}
 use Rattle.definition.proofs.Last.{kind_of}
 
 abbrev pub Known : Formatter → Type 0
 Known f = (kind_of f.prev ≤ 34) × (f.fn_state ≤ 2)
 
 abbrev pub KeepsKnown : Act → Type 0
-KeepsKnown a = Keeps Known a
+KeepsKnown a = Preserves Known a
 
 -- ---- trivia
 

@@ -12,6 +12,6 @@ pub mod Demand3
 pub mod Cases
 pub mod Said
 pub mod Growth
-pub mod Keeps
+pub mod Preserves
 pub mod Last
 pub mod Known

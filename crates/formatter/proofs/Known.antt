@@ -3,7 +3,7 @@ use Prim.Native.Nat.{ℕ, ◌≤◌}
 use mathlib.Core.List.{List}
 use Rattle.rows.specs.Options.{Options}
 use Rattle.rows.specs.Token.{Trivia, Token}
-use Rattle.definition.proofs.Keeps.{updated, gapped, ◌then◌}
+use Rattle.definition.proofs.Preserves.{updated, gapped, ◌then◌}
 use Rattle.definition.proofs.Known.{KeepsKnown, leading_known, emit_token_text_known}
 use Rattle.formatter.specs.Parts.{emit_tail}
 use Rattle.formatter.specs.Trivia.{lead_token}
