@@ -38,7 +38,7 @@ use Rattle.formatter.specs.CodeState.{fn_number, Locals, CodeState, prev_of, sig
 use Rattle.formatter.specs.Does.{Same}
 use Rattle.formatter.specs.Trivia.{trivia_in}
 use Rattle.formatter.specs.Format.{CheckedRows, TokenBoundary, own_row, next_row}
-use Rattle.formatter.specs.FastTokens.{FastKinds, fast_kinds_of, fast_kind_bits, space_before, fn_after, group_after, is_closer, FastState, changing_kinds, fast_state_of, fast_state_after, with_fields, BareRow, IsFastToken, MayStartFastTokens, BeforeFastTokens, after_fast_tokens, FastTokens, FastTokensLaidOut, last_kind}
+use Rattle.formatter.specs.FastTokens.{FastKinds, fast_kinds_of, fast_kind_bits, space_before, fn_after, group_after, is_closer, FastState, changing_kinds, fast_state_of, fast_state_after, with_fields, BareRow, IsFastToken, TracksFastToken, MayStartFastTokens, BeforeFastTokens, after_fast_tokens, FastTokens, FastTokensLaidOut, last_kind}
 use Rattle.formatter.proofs.Comments.{no_trivia}
 use Rattle.formatter.proofs.Place.{tokens_here, head-next, row_in}
 use Rattle.formatter.proofs.BareRow.{row_token, lay-first}
@@ -107,6 +107,10 @@ pub record FastTokensSoFar (rows text : List ℕ) (from n before : ℕ) (m₀ : 
 fn_few : (k n : ℕ) → fn_after k n ≤ 2
 fn_few k n = split (eqb k Fn) (λ e. rw e (omega arith)) (λ e. rw e (split (eqb k Identifier && eqb n 1) (λ f. rw f (omega arith)) (λ f. rw f (omega arith))))
 
+-- After a fast token `fn_state` is one of the three.
+pub few_after : {p k : ℕ} {f g : code.Formatter} → TracksFastToken p k f g → fn_number g.fn_state ≤ 2
+few_after {k = k} {f = f} τ = rw (ap (λ (s : FastState). s.fn_state) τ.state) (fn_few k (fn_number f.fn_state))
+
 less_group : (k n : ℕ) → group_after k n ≤ n
 less_group k n = split (is_closer k) (λ e. rw e (omega arith)) (λ e. rw e (omega arith))
 
@@ -160,7 +164,6 @@ module _ {rows text l k : List ℕ} {from n before at len fast prev : ℕ} {m₀
               whole = let x = δ.whole in omega arith;
               head = bare_row_boundary ω α.head h λ₁;
               last = row_known ω α.head h (row_at rows at) refl;
-              fn_state = λ few. fn_few kind m.fn_state;
               group = let g = δ.group in omega (arith, less_group kind m.group_depth);
               size = w.size ∙ δ.size;
               far = let y = δ.far in omega arith;
@@ -249,7 +252,6 @@ starts {f = f} {from} head within known e c a z =
                   whole = omega arith;
                   head = head;
                   last = known;
-                  fn_state = λ h. h;
                   group = omega arith;
                   size = refl;
                   far = omega arith;

@@ -17,7 +17,7 @@ use Rattle.definition.specs.Arms.{at_record_fields, in_broken_list}
 use Rattle.definition.specs.Layout.{finished, lay_from}
 use Rattle.spaces.specs.Between.{bit}
 use Rattle.formatter.specs.declared.Formatter as code
-use Rattle.formatter.specs.CodeState.{Locals, CodeState, fn_number, most_fn_state, prev_of, signature_of, fields_of, formatter_of, given}
+use Rattle.formatter.specs.CodeState.{Locals, CodeState, fn_number, prev_of, signature_of, fields_of, formatter_of, given}
 use Rattle.formatter.specs.Does.{Same}
 use Rattle.formatter.specs.Token.{kind_of}
 use Rattle.formatter.specs.Format.{TokenBoundary, run_rows}
@@ -189,7 +189,6 @@ pub record FastTokensLaidOut
   pub whole : r.at ≡ from + row_size * ((r.at - from) / row_size)
   pub head : TokenBoundary rows text r.at
   pub last : r.prev ≤ Other
-  pub fn_state : m.fn_state ≤ most_fn_state → r.state.fn_state ≤ most_fn_state
   pub group : r.state.group_depth ≤ m.group_depth
   pub size : length k ≡ length l
   pub far : n ≤ r.len

@@ -5,7 +5,7 @@ ghost use Rattle.rows.specs.Kinds.{Other};
 ghost use Rattle.spaces.specs.Between.{bit};
 ghost use Rattle.rows.specs.Row.{row_size};
 ghost use Rattle.definition.specs.Emit.{is_some};
-ghost use Rattle.formatter.specs.CodeState.{code_state, fn_number, signature_of};
+ghost use Rattle.formatter.specs.CodeState.{code_state, fn_number, most_fn_state, signature_of};
 ghost use Rattle.formatter.specs.Token.{kind_of};
 ghost use Rattle.formatter.specs.Format.{CheckedRows, TokenBoundary, RowsLeft, NoTriviaIf};
 ghost use Rattle.formatter.specs.FastTokens.{MayStartFastTokens, BareRow, RowAhead, IsFastToken};
@@ -72,7 +72,10 @@ impl<'a> Formatter<'a> {
         requires last_bound { kind_of self.old.prev ≤ Other }
         requires token_boundary { TokenBoundary self.old.rows.now self.old.text.now from }
         requires no_trivia_if { NoTriviaIf self.old.bare self.old.rows.now }
-        ensures { LaysFastTokens (code_state self.old sink.old) from result (code_state self.new sink.new) }
+        ensures lays { LaysFastTokens (code_state self.old sink.old) from result
+            (code_state self.new sink.new) }
+        ensures fn_state { fn_number self.old.fn_state ≤ most_fn_state
+            → fn_number self.new.fn_state ≤ most_fn_state }
     {
         let bare = self.bare;
         let rows = self.rows;

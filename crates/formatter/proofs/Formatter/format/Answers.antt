@@ -72,19 +72,19 @@ pub loop-place-preserved-then-may_start_fast_tokens : goal.loop-place-preserved-
 loop-place-preserved-then-may_start_fast_tokens c =
     let a = at_place (goal.at.loop-place-preserved-then-may_start_fast_tokens c).After-next_place-place in
     rw (c.place_at-place.ensures.0, c.place_at-place.ensures.1)
-    (past_fast_tokens c.requires.checked_rows a (c.may_start_fast_tokens.ensures c.if-may_start_fast_tokens.true) c.push_fast_tokens-at.ensures)
+    (past_fast_tokens c.requires.checked_rows a (c.may_start_fast_tokens.ensures c.if-may_start_fast_tokens.true) c.push_fast_tokens-at.ensures.lays)
 
 pub place_at-place-requires : goal.place_at-place-requires
 place_at-place-requires c =
     let a = at_place (goal.at.place_at-place-requires c).After-next_place-place in
-    fast_tokens_few c.requires.checked_rows a (c.may_start_fast_tokens.ensures c.if-may_start_fast_tokens.true) c.push_fast_tokens-at.ensures
+    fast_tokens_few c.requires.checked_rows a (c.may_start_fast_tokens.ensures c.if-may_start_fast_tokens.true) c.push_fast_tokens-at.ensures.lays
 
 pub loop-place-smaller-then-may_start_fast_tokens : goal.loop-place-smaller-then-may_start_fast_tokens
 loop-place-smaller-then-may_start_fast_tokens c =
     let α = (goal.at.loop-place-smaller-then-may_start_fast_tokens c).After-next_place-place in
     let ι = c.loop-place.invariant in
     let t = rw (rows_same ι) at c.loop-place-test.true in
-    let few = fast_tokens_few c.requires.checked_rows (at_place α) (c.may_start_fast_tokens.ensures c.if-may_start_fast_tokens.true) c.push_fast_tokens-at.ensures in
+    let few = fast_tokens_few c.requires.checked_rows (at_place α) (c.may_start_fast_tokens.ensures c.if-may_start_fast_tokens.true) c.push_fast_tokens-at.ensures.lays in
     falls (length c.args.self.now.rows.now) t (after_place α) few.0 c.place_at-place.ensures.0
 
 pub may_start_fast_braces-requires : goal.may_start_fast_braces-requires
